@@ -1,0 +1,125 @@
+-- A schema as a flat block of 16-byte records in level order: which blocks have the form, and what tree a block denotes.
+-- Assumes nothing: these are definitions.
+use Prim.Native.Nat.{ℕ, zero, suc, _+_, _*_, _/_, _%_, _≤_, _<_}
+use mathlib.Core.Path.{_≡_}
+use mathlib.Core.Bool.{Bool}
+use mathlib.Core.List.{List, [], _∷_}
+use lib.ListN.{length, getD, take, drop}
+use lib.Dec.{ltb, leb, eqb}
+use Rattle.rules.specs.Choice.{pick, _and_, all}
+use Rattle.rules.specs.Bytes.{leAt, part}
+use Rattle.rules.specs.Schema.{Name, unnamed, named, Schema, node, Schemas, nil, cons, noSchema, deep}
+use Rattle.rules.specs.declared.Node.{Node}
+
+-- byte 0 wire code; byte 1 is 1 if named, else 0; 2..3 name length; 4..7 name start; 8..11 first child; 12..15 child count
+unfoldable pub nodeAt : List ℕ → ℕ → Node
+nodeAt s i = record { code = getD s (i * 16) 0; named = getD s (i * 16 + 1) 0; len = leAt s (i * 16 + 2) 2; start = leAt s (i * 16 + 4) 4; first = leAt s (i * 16 + 8) 4; children = leAt s (i * 16 + 12) 4 }
+
+-- the records of a table, whole ones
+abbrev pub records : List ℕ → ℕ
+records s = length s / 16
+
+-- n records of a table from record `first` on
+unfoldable pub block : List ℕ → ℕ → ℕ → List ℕ
+block table first n = take (n * 16) (drop (first * 16) table)
+
+-- ---- the form, as a test
+
+-- the sum of the child counts of the nodes before i
+unfoldable pub earlier : List ℕ → ℕ → ℕ
+earlier s zero = 0
+earlier s (suc i) = earlier s i + nodeAt s i .children
+
+-- a span lies in a store of so many bytes
+abbrev pub spanOk : ℕ → ℕ → ℕ → Bool
+spanOk start len store = leb (start + len) store
+
+-- unnamed: length and start 0; named: the named span lies in the store
+unfoldable pub nameOk : Node → ℕ → Bool
+nameOk n store = pick (eqb (n .named) 0) (eqb (n .len) 0 and eqb (n .start) 0) (eqb (n .named) 1 and spanOk (n .start) (n .len) store)
+
+-- without children the first child is 0; with children it is `next`, and greater than the node's own index
+unfoldable pub childrenOk : Node → ℕ → ℕ → Bool
+childrenOk n i next = pick (eqb (n .children) 0) (eqb (n .first) 0) (eqb (n .first) next and ltb i (n .first))
+
+unfoldable pub recordOk : Node → ℕ → ℕ → ℕ → Bool
+recordOk n store i next = leb (n .code) 19 and nameOk n store and childrenOk n i next
+
+-- a node with children has first child 1 + the sum of earlier nodes' counts
+unfoldable pub recordAt : List ℕ → ℕ → ℕ → Bool
+recordAt s store i = recordOk (nodeAt s i) store i (1 + earlier s i)
+
+-- whole records, at most 131,072, each of the form, and 1 + the sum of all counts of them
+unfoldable pub blockOk : List ℕ → ℕ → Bool
+blockOk s store = eqb (length s % 16) 0 and leb (records s) 131072 and all (recordAt s store) (records s) and eqb (records s) (1 + earlier s (records s))
+
+-- ---- the form, as facts
+
+pub record LevelOrder (s : List ℕ) (i : ℕ) : Type 0 where
+  pub leaf : nodeAt s i .children ≡ 0 → nodeAt s i .first ≡ 0
+  pub parent : 0 < nodeAt s i .children → (nodeAt s i .first ≡ 1 + earlier s i) × (i < nodeAt s i .first)
+
+-- what the tree needs of a block: records in level order
+pub record Ordered (s : List ℕ) : Type 0 where
+  pub size : length s ≡ (1 + earlier s (records s)) * 16
+  pub most : records s ≤ 131072
+  pub each : (i : ℕ) → i < records s → LevelOrder s i
+
+pub record Named (n : Node) (store : ℕ) : Type 0 where
+  pub without : n .named ≡ 0 → (n .len ≡ 0) × (n .start ≡ 0)
+  pub with-one : 0 < n .named → (n .named ≡ 1) × (n .start + n .len ≤ store)
+
+-- the whole form: level order, and each record by itself
+pub record Formed (s : List ℕ) (store : ℕ) : Type 0 where
+  pub order : Ordered s
+  pub codes : (i : ℕ) → i < records s → nodeAt s i .code ≤ 19
+  pub names : (i : ℕ) → i < records s → Named (nodeAt s i) store
+
+-- ---- the tree that a block denotes
+
+unfoldable pub nameIn : List ℕ → Node → Name
+nameIn store n = pick (eqb (n .named) 1) (named (part store (n .start) (n .len))) unnamed
+
+-- the trees of n nodes from i on
+unfoldable pub treesFrom : (ℕ → Schema) → ℕ → ℕ → Schemas
+treesFrom tree i zero = nil
+treesFrom tree i (suc n) = cons (tree i) (treesFrom tree (i + 1) n)
+
+-- the schema at node i, looked at to a depth; what lies deeper has no wire type
+unfoldable pub treeAt : List ℕ → List ℕ → ℕ → ℕ → Schema
+treeAt s store zero i = noSchema
+treeAt s store (suc d) i = node (nodeAt s i .code) (nameIn store (nodeAt s i)) (treesFrom (treeAt s store d) (nodeAt s i .first) (nodeAt s i .children))
+
+-- the schema of a block, which is no deeper than it has records
+unfoldable pub blockTree : List ℕ → List ℕ → Schema
+blockTree s store = treeAt s store (records s) 0
+
+-- depth counts the root as 1; names do not matter to it
+unfoldable pub depthOf : List ℕ → ℕ
+depthOf s = deep (blockTree s [])
+
+-- the same as a relation
+module _ (s store : List ℕ) where
+  mutual
+    -- the record of node i says what the schema says
+    pub data Denotes : ℕ → Schema → Type 0 where
+      denotes : {i k : ℕ} {m : Name} {ss : Schemas} →
+          i * 16 + 16 ≤ length s → nodeAt s i .code ≡ k → nameIn store (nodeAt s i) ≡ m → DenoteAll (nodeAt s i .first) (nodeAt s i .children) ss →
+          Denotes i (node k m ss)
+
+    -- so do n records from i on
+    pub data DenoteAll : ℕ → ℕ → Schemas → Type 0 where
+      no-node : {i : ℕ} →
+          DenoteAll i zero nil
+      a-node : {i n : ℕ} {t : Schema} {ts : Schemas} →
+          Denotes i t → DenoteAll (i + 1) n ts →
+          DenoteAll i (suc n) (cons t ts)
+
+-- each record's children lie in the block
+unfoldable pub Closed : List ℕ → Type 0
+Closed s = (i : ℕ) → i * 16 + 16 ≤ length s → (nodeAt s i .first + nodeAt s i .children) * 16 ≤ length s
+
+-- node i and all below it lie within d levels
+unfoldable pub Shallow : List ℕ → ℕ → ℕ → Type 0
+Shallow s zero i = ⊥
+Shallow s (suc d) i = (t : ℕ) → t < nodeAt s i .children → Shallow s d (nodeAt s i .first + t)

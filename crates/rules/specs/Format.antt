@@ -1,0 +1,172 @@
+-- A format: record table, name store, table references and registry. Its forms, its depths, and the order of its refusals.
+-- Assumes nothing: these are definitions.
+use Prim.Native.Nat.{ℕ, zero, suc, _+_, _-_, _*_, _/_, _%_, _≤_, _<_}
+use mathlib.Core.Bool.{Bool, true, false}
+use mathlib.Core.List.{List, [], _∷_}
+use lib.ListN.{length, getD}
+use lib.Dec.{ltb, leb, eqb}
+use Rattle.rules.specs.Choice.{pick, _and_, all}
+use Rattle.rules.specs.Bytes.{leAt, part, order, isLess, isEqual}
+use Rattle.rules.specs.Refusals.{_then_, inOrder}
+use Rattle.rules.specs.Block.{records, block, spanOk, blockOk, depthOf}
+use Rattle.rules.specs.SchemaRules.{schemaRule, tableRule}
+use Rattle.rules.specs.declared.Reference.{Reference}
+use Rattle.rules.specs.declared.Entry.{Entry}
+use Rattle.rules.specs.declared.Located.{Located}
+use Rattle.rules.specs.declared.Located.the-variants.{Block, NoTable, NoEntry}
+use Rattle.rules.specs.declared.Refusal.{Refusal}
+use Rattle.rules.specs.declared.Refusal.the-variants.{Setting, BadSchemaTable, TooDeep, EmptyTableSchemas, UnknownRegistryReference}
+use Rattle.rules.specs.declared.Purpose.{Purpose}
+use Rattle.rules.specs.declared.Checked.{Checked}
+use Rattle.rules.specs.declared.Checked.the-variants.{Accepted, Refused}
+
+-- the four slices
+pub record Format : Type 0 where
+  pub table : List ℕ
+  pub names : List ℕ
+  pub references : List ℕ
+  pub registry : List ℕ
+
+-- each slice that is read has at most 4,294,967,295 bytes
+abbrev pub shortOk : List ℕ → Bool
+shortOk s = leb (length s) 4294967295
+
+abbrev pub wholeOk : List ℕ → Bool
+wholeOk s = eqb (length s % 16) 0
+
+-- ---- a block of the table, given by first record and record count
+
+-- it lies in the table and has the form (2)
+unfoldable pub blockFormOk : List ℕ → ℕ → ℕ → ℕ → Bool
+blockFormOk table store first n = leb (first + n) (records table) and blockOk (block table first n) store
+
+-- it is at most 64 deep (3)
+unfoldable pub blockDepthOk : List ℕ → ℕ → ℕ → Bool
+blockDepthOk table first n = leb (depthOf (block table first n)) 64
+
+-- the rules 4 and 5
+unfoldable pub blockRule : List ℕ → ℕ → ℕ → Checked
+blockRule table first n = schemaRule (block table first n) first 64 0
+
+-- ---- references and entries
+
+-- byte 0: 0 inline, 1 registry; 4..7 and 8..11: first record and record count, or name start and length; the rest 0
+unfoldable pub referenceAt : List ℕ → ℕ → Reference
+referenceAt s i = record { kind = getD s (i * 16) 0; spare = leAt s (i * 16 + 1) 3; start = leAt s (i * 16 + 4) 4; len = leAt s (i * 16 + 8) 4; rest = leAt s (i * 16 + 12) 4 }
+
+-- name start, name length, first record, record count
+unfoldable pub entryAt : List ℕ → ℕ → Entry
+entryAt s i = record { start = leAt s (i * 16) 4; len = leAt s (i * 16 + 4) 4; first = leAt s (i * 16 + 8) 4; count = leAt s (i * 16 + 12) 4 }
+
+unfoldable pub entryName : List ℕ → List ℕ → ℕ → List ℕ
+entryName names registry j = part names (entryAt registry j .start) (entryAt registry j .len)
+
+-- the first entry among n from j on that has the name
+unfoldable pub lookup : List ℕ → List ℕ → List ℕ → ℕ → ℕ → Located
+lookup names registry name j zero = NoEntry
+lookup names registry name j (suc n) =
+    pick (isEqual (order (entryName names registry j) name)) (Block (entryAt registry j .first) (entryAt registry j .count))
+    (lookup names registry name (j + 1) n)
+
+-- where a reference's schema stands
+unfoldable pub resolved : List ℕ → List ℕ → Reference → Located
+resolved names registry r =
+    pick (eqb (r .kind) 0) (Block (r .start) (r .len))
+    (lookup names registry (part names (r .start) (r .len)) 0 (records registry))
+
+module _ (f : Format) where
+  -- how many tables there are
+  abbrev pub tables : ℕ
+  tables = records (f .references)
+
+  -- where table t's schema stands
+  unfoldable pub tableSchema : ℕ → Located
+  tableSchema t = pick (ltb t tables) (resolved (f .names) (f .registry) (referenceAt (f .references) t)) NoTable
+
+  -- ---- all flat forms (2)
+  unfoldable pub referenceOk : Reference → Bool
+  referenceOk r =
+      eqb (r .spare) 0 and eqb (r .rest) 0
+      and pick (eqb (r .kind) 0) (blockFormOk (f .table) (length (f .names)) (r .start) (r .len))
+      (eqb (r .kind) 1 and spanOk (r .start) (r .len) (length (f .names)))
+
+  -- names strictly ascending by bytes
+  unfoldable pub ascending : ℕ → Bool
+  ascending zero = true
+  ascending (suc j) = isLess (order (entryName (f .names) (f .registry) j) (entryName (f .names) (f .registry) (suc j)))
+
+  unfoldable pub entryOk : ℕ → Bool
+  entryOk j =
+      spanOk (entryAt (f .registry) j .start) (entryAt (f .registry) j .len) (length (f .names))
+      and blockFormOk (f .table) (length (f .names)) (entryAt (f .registry) j .first) (entryAt (f .registry) j .count)
+      and ascending j
+
+  unfoldable pub referenceFormOk : ℕ → Bool
+  referenceFormOk t = referenceOk (referenceAt (f .references) t)
+
+  unfoldable pub formsOk : Bool
+  formsOk =
+      wholeOk (f .table) and wholeOk (f .references) and wholeOk (f .registry)
+      and all entryOk (records (f .registry)) and all referenceFormOk tables
+
+  -- ---- all depths (3)
+  unfoldable pub entryDepthOk : ℕ → Bool
+  entryDepthOk j = blockDepthOk (f .table) (entryAt (f .registry) j .first) (entryAt (f .registry) j .count)
+
+  unfoldable pub referenceDepthOk : ℕ → Bool
+  referenceDepthOk t = let r = referenceAt (f .references) t in pick (eqb (r .kind) 0) (blockDepthOk (f .table) (r .start) (r .len)) true
+
+  unfoldable pub depthsOk : Bool
+  depthsOk = all entryDepthOk (records (f .registry)) and all referenceDepthOk tables
+
+  -- ---- the Rust's order: no tables; registry schemas in name order; then each table in turn: reference or inline schema, root, names
+  unfoldable pub entryRule : ℕ → Checked
+  entryRule j = blockRule (f .table) (entryAt (f .registry) j .first) (entryAt (f .registry) j .count)
+
+  unfoldable pub rootOf : ℕ → Located → Checked
+  rootOf t (Block first n) = tableRule Purpose.Format (block (f .table) first n) first
+  rootOf t NoTable = Refused (UnknownRegistryReference t)
+  rootOf t NoEntry = Refused (UnknownRegistryReference t)
+
+  -- an inline schema is checked here, a registry's was checked before
+  unfoldable pub inlineRule : Reference → Checked
+  inlineRule r = pick (eqb (r .kind) 0) (blockRule (f .table) (r .start) (r .len)) Accepted
+
+  unfoldable pub referenceRule : ℕ → Checked
+  referenceRule t = let r = referenceAt (f .references) t in inlineRule r then rootOf t (resolved (f .names) (f .registry) r)
+
+  unfoldable pub rulesOrder : Checked
+  rulesOrder =
+      pick (eqb tables 0) (Refused EmptyTableSchemas)
+      (inOrder entryRule 0 (records (f .registry)) then inOrder referenceRule 0 tables)
+
+  unfoldable pub sizesOk : Bool
+  sizesOk = shortOk (f .table) and shortOk (f .names) and shortOk (f .references) and shortOk (f .registry)
+
+  -- what the check of a format answers, its sizes left aside
+  unfoldable pub formatRules : Checked
+  formatRules = pick formsOk (pick depthsOk rulesOrder (Refused TooDeep)) (Refused BadSchemaTable)
+
+  -- what the check of a format answers
+  unfoldable pub formatRule : Checked
+  formatRule = pick sizesOk formatRules (Refused Setting)
+
+-- ---- one block by itself, given by numbers: form, depth, and what the rules say of it
+unfoldable pub oneBlock : List ℕ → List ℕ → ℕ → ℕ → Checked → Checked
+oneBlock table names first n rules =
+    pick (wholeOk table and blockFormOk table (length names) first n)
+    (pick (blockDepthOk table first n) rules (Refused TooDeep))
+    (Refused BadSchemaTable)
+
+-- what the check of a schema alone answers
+unfoldable pub schemaAnswer : List ℕ → List ℕ → ℕ → ℕ → Checked
+schemaAnswer table names first n =
+    pick (shortOk table and shortOk names) (oneBlock table names first n (blockRule table first n)) (Refused Setting)
+
+-- the encoder checks schema, root, names
+unfoldable pub encoderRules : List ℕ → List ℕ → ℕ → ℕ → Checked
+encoderRules table names first n =
+    oneBlock table names first n (blockRule table first n then tableRule Purpose.Encoder (block table first n) first)
+
+unfoldable pub encoderRule : List ℕ → List ℕ → ℕ → ℕ → Checked
+encoderRule table names first n = pick (shortOk table and shortOk names) (encoderRules table names first n) (Refused Setting)

@@ -1,0 +1,9 @@
+pub mod Choice
+pub mod Bytes
+pub mod Wire
+pub mod Names
+pub mod Refusals
+pub mod Schema
+pub mod Block
+pub mod SchemaRules
+pub mod Format

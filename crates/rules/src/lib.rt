@@ -1,0 +1,223 @@
+// The types that all crates share: wire types, records of the flat tables, settings, refusals, answers. What is right is
+// written down in specs/, as definitions that read beside document 01.
+
+// A Skiff encoding of one schema node, in the order of the wire codes 0 to 19.
+pub enum WireType {
+    Nothing,
+    Boolean,
+    Int8,
+    Int16,
+    Int32,
+    Int64,
+    Int128,
+    Int256,
+    Uint8,
+    Uint16,
+    Uint32,
+    Uint64,
+    Double,
+    String32,
+    Yson32,
+    Variant8,
+    Variant16,
+    RepeatedVariant8,
+    RepeatedVariant16,
+    Tuple,
+}
+
+// The wire type of a name or a code, if there is one.
+pub enum Known {
+    Wire(WireType),
+    Unknown,
+}
+
+// How many bytes each value of a wire type has, if that is fixed.
+pub enum Width {
+    Fixed(u64),
+    Variable,
+}
+
+// How many children a wire code may have.
+pub enum Children {
+    None,
+    UpTo(u64),
+    Any,
+    Unknown,
+}
+
+// A schema record.
+pub struct Node {
+    pub code: u8,
+    pub named: u8,
+    pub len: u64,
+    pub start: u64,
+    pub first: u64,
+    pub children: u64,
+}
+
+// A table reference: an inline block by first record and record count, or a registry name by start and length. `spare` and
+// `rest` are the bytes that have to be 0.
+pub struct Reference {
+    pub kind: u8,
+    pub spare: u64,
+    pub start: u64,
+    pub len: u64,
+    pub rest: u64,
+}
+
+// A registry entry: a name in the store and a block of the record table.
+pub struct Entry {
+    pub start: u64,
+    pub len: u64,
+    pub first: u64,
+    pub count: u64,
+}
+
+// Where a table's schema stands in the record table: first record and record count.
+pub enum Located {
+    Block(u64, u64),
+    NoTable,
+    NoEntry,
+}
+
+// Two byte strings compared, byte by byte.
+pub enum Order {
+    Less,
+    Equal,
+    Greater,
+}
+
+// How a call is to read: what each node costs, how long a blob may be, and how dear a row.
+pub struct Settings {
+    pub node_charge: u64,
+    pub max_blob_bytes: u64,
+    pub max_row_bytes: u64,
+}
+
+// Why a call is refused: a case for each number of document 01, from 1 on and in order, with the values that it carries and,
+// last, its place where that is not 0. Types are wire codes, kinds are kinds of value records.
+pub enum Refusal {
+    Setting,
+    BadSchemaTable,
+    TooDeep,
+    UnexpectedChildren {
+        wire_type: u8,
+        count: u64,
+        place: u64,
+    },
+    TooManyChildren {
+        wire_type: u8,
+        count: u64,
+        maximum: u64,
+        place: u64,
+    },
+    EmptyTableSchemas,
+    UnknownRegistryReference {
+        table: u64,
+    },
+    TableSchemaRootMustBeTuple {
+        found: u8,
+        place: u64,
+    },
+    TableSchemaMustBeTuple {
+        found: u8,
+        place: u64,
+    },
+    TableSchemaChildMissingName {
+        index: u64,
+        place: u64,
+    },
+    MissingTableSchema {
+        index: u64,
+        place: u64,
+    },
+    Truncated {
+        context: u8,
+        place: u64,
+    },
+    RowTooLarge {
+        limit: u64,
+        place: u64,
+    },
+    BlobTooLarge {
+        wire_type: u8,
+        length: u64,
+        limit: u64,
+        place: u64,
+    },
+    ValueDoesNotMatchSchema {
+        wire_type: u8,
+        kind: u8,
+        place: u64,
+    },
+    TupleLength {
+        expected: u64,
+        actual: u64,
+        place: u64,
+    },
+    InvalidVariantTag {
+        wire_type: u8,
+        tag: u64,
+        children: u64,
+        place: u64,
+    },
+    BadValueTable,
+    NoNodeRoom {
+        needed: u64,
+        place: u64,
+    },
+    NoPayloadRoom {
+        needed: u64,
+        place: u64,
+    },
+    NoOutputRoom {
+        needed: u64,
+        place: u64,
+    },
+}
+
+// What a table schema is checked for: to stand in a format, or to encode with.
+pub enum Purpose {
+    Format,
+    Encoder,
+}
+
+// What the check of a schema or a format answers.
+pub enum Checked {
+    Accepted,
+    Refused(Refusal),
+}
+
+// What an accepted row takes: its table, its bytes in the stream, and the records and payload bytes of its value table.
+pub struct Extent {
+    pub table: u64,
+    pub bytes: u64,
+    pub records: u64,
+    pub payload: u64,
+}
+
+// What reading at a position answers.
+pub enum Read {
+    Row(Extent),
+    End,
+    Refused(Refusal),
+}
+
+// Where a run over a whole stream stops.
+pub enum Stop {
+    End,
+    Refused(Refusal),
+}
+
+// What a run answers: the rows it accepted, their bytes, and why it stopped.
+pub struct Ran {
+    pub rows: u64,
+    pub bytes: u64,
+    pub stop: Stop,
+}
+
+// What encoding a value table answers.
+pub enum Written {
+    Row(Extent),
+    Refused(Refusal),
+}
