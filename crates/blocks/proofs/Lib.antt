@@ -1,0 +1,5 @@
+pub mod Fields
+pub mod Form
+pub mod Levels
+pub mod Reached
+pub mod Rules

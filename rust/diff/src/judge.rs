@@ -1,0 +1,47 @@
+//! What the plain reading answers to a case.
+
+use plain::answer::Refusal;
+use plain::format::{table_schema, validate_encoder, validate_format, validate_schema};
+use plain::tables::{Block, FormatTables};
+use plain::wire_type::{fixed_width, parse};
+
+use crate::case::{op, Answer, Case};
+
+pub fn tables(case: &Case) -> FormatTables<'_> {
+    FormatTables {
+        records: &case.records,
+        names: &case.names,
+        references: &case.references,
+        registry: &case.registry,
+    }
+}
+
+/// The block that a case of `validate` or of the encoder gives by its numbers.
+pub fn lone_block(case: &Case) -> Block {
+    Block { first: case.a, count: case.b }
+}
+
+pub fn refused(refusal: Refusal) -> Answer {
+    Answer { number: refusal.number, place: refusal.place, values: refusal.carried }
+}
+
+pub fn checked(answer: Result<(), Refusal>) -> Answer {
+    answer.map_or_else(refused, |()| Answer::accepted([0; 3]))
+}
+
+fn found(answer: Option<u64>) -> Answer {
+    answer.map_or(Answer::NONE, |value| Answer::accepted([value, 0, 0]))
+}
+
+pub fn plain_answer(case: &Case) -> Answer {
+    match case.op {
+        op::PARSE => found(parse(&case.names)),
+        op::FIXED_WIDTH => found(fixed_width(case.a)),
+        op::VALIDATE => checked(validate_schema(&case.records, &case.names, lone_block(case))),
+        op::ENCODER => checked(validate_encoder(&case.records, &case.names, lone_block(case))),
+        op::FORMAT => checked(validate_format(&tables(case))),
+        op::TABLE_SCHEMA => table_schema(&tables(case), case.a)
+            .map_or_else(refused, |block| Answer::accepted([block.first, block.count, 0])),
+        other => panic!("no such operation: {other}"),
+    }
+}

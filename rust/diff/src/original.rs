@@ -1,0 +1,186 @@
+//! What the original answers to a case, on demand 2's domain: calls that are not answered 1, 2 or 3,
+//! with UTF-8 names. The original knows no places, so it is compared in number and carried values.
+
+use std::collections::BTreeMap;
+
+use oracle::{CodecError, Encoder, Format, Schema, SchemaError, SchemaRef, WireType};
+use plain::tables::{entries, references, schema_record, Block, Reference, Span};
+
+use crate::case::{op, Answer, Case};
+use crate::judge::lone_block;
+
+/// The original's types in document 01's code order.
+const TYPES: [WireType; 20] = [
+    WireType::Nothing,
+    WireType::Boolean,
+    WireType::Int8,
+    WireType::Int16,
+    WireType::Int32,
+    WireType::Int64,
+    WireType::Int128,
+    WireType::Int256,
+    WireType::Uint8,
+    WireType::Uint16,
+    WireType::Uint32,
+    WireType::Uint64,
+    WireType::Double,
+    WireType::String32,
+    WireType::Yson32,
+    WireType::Variant8,
+    WireType::Variant16,
+    WireType::RepeatedVariant8,
+    WireType::RepeatedVariant16,
+    WireType::Tuple,
+];
+
+fn code(wire_type: WireType) -> u64 {
+    TYPES.iter().position(|known| *known == wire_type).expect("all twenty are listed") as u64
+}
+
+/// Number and carried values.
+#[derive(Debug, Clone, Copy, PartialEq, Eq)]
+pub struct Said {
+    pub number: u64,
+    pub values: [u64; 3],
+}
+
+impl Said {
+    fn new(number: u64, values: [u64; 3]) -> Self {
+        Self { number, values }
+    }
+
+    fn accepted() -> Self {
+        Self::new(0, [0; 3])
+    }
+
+    pub fn agrees_with(&self, answer: &Answer) -> bool {
+        self.number == answer.number && self.values == answer.values
+    }
+}
+
+/// Asks the original; none outside its domain. `plain` tells whether the forms and depths are right,
+/// without which there are no trees to give it.
+pub fn ask(case: &Case, plain: &Answer) -> Option<Said> {
+    if (1..=3).contains(&plain.number) {
+        return None;
+    }
+    match case.op {
+        op::PARSE => {
+            let name = std::str::from_utf8(&case.names).ok()?;
+            Some(found(WireType::parse(name).map(code)))
+        }
+        op::FIXED_WIDTH => {
+            let wire_type = TYPES.get(usize::try_from(case.a).ok()?)?;
+            Some(found(wire_type.fixed_width().map(|width| width as u64)))
+        }
+        op::VALIDATE => {
+            let schema = tree(case, lone_block(case), 0)?;
+            Some(schema.validate().map_or_else(|error| refused(case, error), |()| Said::accepted()))
+        }
+        op::ENCODER => {
+            let schema = tree(case, lone_block(case), 0)?;
+            Some(match Encoder::new(Vec::new(), schema) {
+                Ok(_) => Said::accepted(),
+                Err(CodecError::TableSchemaMustBeTuple { found }) => Said::new(9, [code(found), 0, 0]),
+                Err(CodecError::InvalidSchema(error)) => refused(case, error),
+                Err(other) => panic!("no answer of Encoder::new: {other}"),
+            })
+        }
+        op::FORMAT | op::TABLE_SCHEMA => {
+            let format = match format(case)? {
+                Ok(format) => format,
+                Err(error) => return Some(refused(case, error)),
+            };
+            if case.op == op::FORMAT {
+                return Some(Said::accepted());
+            }
+            Some(match format.table_schema(usize::try_from(case.a).ok()?) {
+                Ok(schema) => {
+                    let block = block_of(case, &format, schema);
+                    Said::new(0, [block.first, block.count, 0])
+                }
+                Err(error) => refused(case, error),
+            })
+        }
+        other => panic!("no such operation: {other}"),
+    }
+}
+
+fn found(value: Option<u64>) -> Said {
+    value.map_or(Said::new(255, [0; 3]), |value| Said::new(0, [value, 0, 0]))
+}
+
+fn refused(case: &Case, error: SchemaError) -> Said {
+    match error {
+        SchemaError::UnexpectedChildren { wire_type, count } => {
+            Said::new(4, [code(wire_type), count as u64, 0])
+        }
+        SchemaError::TooManyChildren { wire_type, count, maximum } => {
+            Said::new(5, [code(wire_type), count as u64, maximum as u64])
+        }
+        SchemaError::EmptyTableSchemas => Said::new(6, [0; 3]),
+        SchemaError::UnknownRegistryReference(name) => Said::new(7, [first_table_naming(case, &name), 0, 0]),
+        SchemaError::TableSchemaRootMustBeTuple { found } => Said::new(8, [code(found), 0, 0]),
+        SchemaError::TableSchemaChildMissingName { index } => Said::new(10, [index as u64, 0, 0]),
+        SchemaError::MissingTableSchema { index } => Said::new(11, [index as u64, 0, 0]),
+        other => panic!("no answer about a schema tree: {other}"),
+    }
+}
+
+/// The original carries the unknown name and we carry the table: the first that bears that name.
+fn first_table_naming(case: &Case, name: &str) -> u64 {
+    let found = references(&case.references).iter().position(|reference| {
+        reference.kind == Reference::REGISTRY && reference.name().of(&case.names) == name.as_bytes()
+    });
+    found.expect("the original names one of the tables' references") as u64
+}
+
+fn text(case: &Case, span: Span) -> Option<String> {
+    String::from_utf8(span.of(&case.names).to_vec()).ok()
+}
+
+/// The tree of a formed block below one of its records; none where a name is not UTF-8.
+fn tree(case: &Case, block: Block, index: u64) -> Option<Schema> {
+    let record = schema_record(&case.records, block.first + index);
+    let name = if record.named == 1 { Some(text(case, record.name)?) } else { None };
+    let children = record.first_child..record.first_child + record.child_count;
+    Some(Schema {
+        wire_type: TYPES[usize::from(record.code)],
+        name,
+        children: children.map(|child| tree(case, block, child)).collect::<Option<_>>()?,
+    })
+}
+
+/// The format as the original builds and checks it; none where a name is not UTF-8.
+fn format(case: &Case) -> Option<Result<Format, SchemaError>> {
+    let mut tables = Vec::new();
+    for reference in references(&case.references) {
+        tables.push(if reference.kind == Reference::INLINE {
+            SchemaRef::Inline(tree(case, reference.block(), 0)?)
+        } else {
+            SchemaRef::Registry(text(case, reference.name())?)
+        });
+    }
+    let mut registry = BTreeMap::new();
+    for entry in entries(&case.registry) {
+        registry.insert(text(case, entry.name)?, tree(case, entry.block, 0)?);
+    }
+    Some(Format::from_parts(tables, registry))
+}
+
+/// Which block a schema of the format came from, told by its address: equal schemas may stand in
+/// several blocks.
+fn block_of(case: &Case, format: &Format, schema: &Schema) -> Block {
+    for (given, reference) in references(&case.references).iter().zip(format.table_schemas()) {
+        if matches!(reference, SchemaRef::Inline(inline) if std::ptr::eq(inline, schema)) {
+            return given.block();
+        }
+    }
+    // The registry's own order is the map's, since its names ascend.
+    for (given, known) in entries(&case.registry).iter().zip(format.schema_registry().values()) {
+        if std::ptr::eq(known, schema) {
+            return given.block;
+        }
+    }
+    panic!("the original answers with a schema of the format")
+}

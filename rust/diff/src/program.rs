@@ -1,0 +1,68 @@
+//! The program under test: cases in on stdin, an answer line for each out on stdout.
+
+use std::io::{self, Read, Write};
+use std::process::{Command, Stdio};
+use std::thread;
+
+use crate::case::Case;
+
+#[derive(Debug, Clone)]
+pub struct Program {
+    /// Words before the program's own name, as an emulator's.
+    pub runner: Vec<String>,
+    pub path: String,
+}
+
+impl Program {
+    fn command(&self) -> Command {
+        let mut words = self.runner.iter().chain([&self.path]);
+        let mut command = Command::new(words.next().expect("there is a program"));
+        command.args(words);
+        command
+    }
+
+    /// Runs the program over `input` while this thread does `meanwhile`; its output and the other's
+    /// result. The whole batch is written and the input closed, whatever the program buffers.
+    pub fn run<T>(&self, input: &[u8], meanwhile: impl FnOnce() -> T) -> io::Result<(Vec<u8>, T)> {
+        let mut child = self.command().stdin(Stdio::piped()).stdout(Stdio::piped()).spawn()?;
+        let mut stdin = child.stdin.take().expect("it is piped");
+        let mut stdout = child.stdout.take().expect("it is piped");
+        let (output, result) = thread::scope(|scope| {
+            // A program that ends early breaks the pipe; its missing answers tell that better.
+            scope.spawn(move || drop(stdin.write_all(input)));
+            let reader = scope.spawn(move || {
+                let mut output = Vec::new();
+                stdout.read_to_end(&mut output).map(|_| output)
+            });
+            let result = meanwhile();
+            (reader.join().expect("reading does not panic"), result)
+        });
+        child.wait()?;
+        Ok((output?, result))
+    }
+
+    /// The answers to some cases: none for those that the program left without one.
+    pub fn answers(&self, cases: &[Case]) -> io::Result<Vec<Option<String>>> {
+        let mut input = Vec::new();
+        cases.iter().for_each(|case| case.write_to(&mut input));
+        let (output, ()) = self.run(&input, || ())?;
+        let mut lines = lines(&output);
+        if lines.len() < cases.len() && cases.len() > 1 {
+            // It died on one of them: ask singly, so that the others keep their answers.
+            lines.clear();
+            for case in cases {
+                lines.extend(self.answers(std::slice::from_ref(case))?);
+            }
+            return Ok(lines);
+        }
+        lines.resize(cases.len(), None);
+        Ok(lines)
+    }
+}
+
+/// The complete lines of an output; what follows the last newline is no answer.
+pub fn lines(output: &[u8]) -> Vec<Option<String>> {
+    let mut lines: Vec<_> = output.split(|byte| *byte == b'\n').collect();
+    lines.pop();
+    lines.into_iter().map(|line| Some(String::from_utf8_lossy(line).into_owned())).collect()
+}

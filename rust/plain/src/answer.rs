@@ -1,0 +1,37 @@
+//! A refusal: its number, its place and the values it carries, in document 01's order.
+
+/// The refusal numbers of the format side.
+pub mod number {
+    pub const BAD_SCHEMA_TABLE: u64 = 2;
+    pub const TOO_DEEP: u64 = 3;
+    pub const UNEXPECTED_CHILDREN: u64 = 4;
+    pub const TOO_MANY_CHILDREN: u64 = 5;
+    pub const EMPTY_TABLE_SCHEMAS: u64 = 6;
+    pub const UNKNOWN_REGISTRY_REFERENCE: u64 = 7;
+    pub const TABLE_SCHEMA_ROOT_MUST_BE_TUPLE: u64 = 8;
+    pub const TABLE_SCHEMA_MUST_BE_TUPLE: u64 = 9;
+    pub const TABLE_SCHEMA_CHILD_MISSING_NAME: u64 = 10;
+    pub const MISSING_TABLE_SCHEMA: u64 = 11;
+}
+
+#[derive(Debug, Clone, Copy, PartialEq, Eq)]
+pub struct Refusal {
+    pub number: u64,
+    pub place: u64,
+    /// Absent values are 0.
+    pub carried: [u64; 3],
+}
+
+impl Refusal {
+    /// A refusal that carries nothing and has place 0.
+    pub fn bare(number: u64) -> Self {
+        Self::at(number, 0, [0, 0, 0])
+    }
+
+    pub fn at(number: u64, place: u64, carried: [u64; 3]) -> Self {
+        Self { number, place, carried }
+    }
+}
+
+/// What a check answers.
+pub type Checked = Result<(), Refusal>;

@@ -1,0 +1,99 @@
+//! The calls of the format side, each in the order of refusals: all forms (2), all depths (3), then
+//! the schema rules in the original's order.
+
+use crate::answer::number::{
+    BAD_SCHEMA_TABLE, EMPTY_TABLE_SCHEMAS, MISSING_TABLE_SCHEMA, TABLE_SCHEMA_MUST_BE_TUPLE,
+    TABLE_SCHEMA_ROOT_MUST_BE_TUPLE, TOO_DEEP, UNKNOWN_REGISTRY_REFERENCE,
+};
+use crate::answer::{Checked, Refusal};
+use crate::depth::{depth, MOST_LEVELS};
+use crate::tables::{entries, references, Block, FormatTables, Reference};
+use crate::{forms, rules};
+
+/// A lone block's form and depth.
+fn lone_block(records: &[u8], names: &[u8], block: Block) -> Checked {
+    if !forms::lone_block_is_formed(records, names, block) {
+        return Err(Refusal::bare(BAD_SCHEMA_TABLE));
+    }
+    if depth(records, block) > MOST_LEVELS {
+        return Err(Refusal::bare(TOO_DEEP));
+    }
+    Ok(())
+}
+
+/// `validate` of one block: form, depth, rules 4 and 5.
+pub fn validate_schema(records: &[u8], names: &[u8], block: Block) -> Checked {
+    lone_block(records, names, block)?;
+    rules::schema(records, block)
+}
+
+/// The encoder's check of its block: schema, root, names.
+pub fn validate_encoder(records: &[u8], names: &[u8], block: Block) -> Checked {
+    validate_schema(records, names, block)?;
+    rules::root(records, block, TABLE_SCHEMA_MUST_BE_TUPLE)?;
+    rules::names(records, block)
+}
+
+/// Every block of a format: the inline ones and every registry entry's, used or not.
+pub fn blocks(tables: &FormatTables) -> Vec<Block> {
+    let inline = references(tables.references)
+        .into_iter()
+        .filter(|reference| reference.kind == Reference::INLINE)
+        .map(|reference| reference.block());
+    inline.chain(entries(tables.registry).into_iter().map(|entry| entry.block)).collect()
+}
+
+/// The check of a format.
+pub fn validate_format(tables: &FormatTables) -> Checked {
+    if !forms::format_is_formed(tables) {
+        return Err(Refusal::bare(BAD_SCHEMA_TABLE));
+    }
+    if blocks(tables).into_iter().any(|block| depth(tables.records, block) > MOST_LEVELS) {
+        return Err(Refusal::bare(TOO_DEEP));
+    }
+    format_rules(tables)
+}
+
+/// The schema rules of a format whose forms and depths are right: no tables; registry schemas in
+/// name order, which is the registry's own; then each table in turn.
+pub fn format_rules(tables: &FormatTables) -> Checked {
+    let references = references(tables.references);
+    if references.is_empty() {
+        return Err(Refusal::bare(EMPTY_TABLE_SCHEMAS));
+    }
+    for entry in entries(tables.registry) {
+        rules::schema(tables.records, entry.block)?;
+    }
+    for (table, reference) in (0..).zip(&references) {
+        if reference.kind == Reference::INLINE {
+            rules::schema(tables.records, reference.block())?;
+        }
+        let Some(block) = resolve(tables, reference) else {
+            return Err(Refusal::at(UNKNOWN_REGISTRY_REFERENCE, table, [table, 0, 0]));
+        };
+        rules::root(tables.records, block, TABLE_SCHEMA_ROOT_MUST_BE_TUPLE)?;
+        rules::names(tables.records, block)?;
+    }
+    Ok(())
+}
+
+/// The block a reference stands for, if the registry knows its name.
+fn resolve(tables: &FormatTables, reference: &Reference) -> Option<Block> {
+    if reference.kind == Reference::INLINE {
+        return Some(reference.block());
+    }
+    let wanted = reference.name().of(tables.names);
+    let found = entries(tables.registry).into_iter().find(|entry| entry.name.of(tables.names) == wanted);
+    found.map(|entry| entry.block)
+}
+
+/// `table_schema` with the format's check before it: the table's block, or 11 where there is none.
+pub fn table_schema(tables: &FormatTables, table: u64) -> Result<Block, Refusal> {
+    validate_format(tables)?;
+    let references = references(tables.references);
+    let found = usize::try_from(table).ok().and_then(|index| references.get(index));
+    let Some(reference) = found else {
+        return Err(Refusal::at(MISSING_TABLE_SCHEMA, 0, [table, 0, 0]));
+    };
+    Ok(resolve(tables, reference).expect("a checked format resolves every reference"))
+}

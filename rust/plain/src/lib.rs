@@ -1,0 +1,19 @@
+//! Document 01 in plain Rust: a second reading, to hold the proved library against where the
+//! original has nothing to say (flat forms, depth, places, the order of refusals).
+//!
+//! It is meant to be compared with the document by eye. Every check runs over everything before the
+//! next check begins, which is the order of refusals as it is written, and nothing is clever.
+//!
+//! The format side stands here: [`wire_type`], [`tables`], [`forms`], [`depth`], [`rules`] and the
+//! calls in [`format`].
+
+pub mod answer;
+pub mod depth;
+pub mod format;
+pub mod forms;
+pub mod rules;
+pub mod tables;
+pub mod wire_type;
+
+#[cfg(test)]
+mod tests;
