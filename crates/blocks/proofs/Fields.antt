@@ -17,4 +17,3 @@ unfolding leAt
 le-within s h at zero n p = one≤ n
 le-within s h at (suc w) zero p = absurd (not-suc-le-zero p)
 le-within s h at (suc w) (suc n) p = omega (arith, h at, le-within s h (at + 1) w n (le-of-suc-le-suc p))
-
