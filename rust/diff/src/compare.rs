@@ -8,7 +8,7 @@ use crate::case::{Answer, Case};
 use crate::generate::{self, Kind};
 use crate::judge::plain_answer;
 use crate::original::{self, Said};
-use crate::program::{lines, Program};
+use crate::program::Program;
 use crate::rng::Rng;
 
 /// A batch goes to one run of the program: long enough to be cheap, short enough to be held.
@@ -114,8 +114,8 @@ impl Run<'_> {
         batch.iter().for_each(|(_, case)| case.write_to(&mut input));
         // The readings answer on this processor while the program does on another.
         let readings = || batch.iter().map(|(_, case)| Expected::of(case)).collect::<Vec<_>>();
-        let (output, expected) = self.program.run(&input, readings)?;
-        let answers = lines(&output);
+        let (ran, expected) = self.program.run(&input, readings)?;
+        let answers = ran.lines;
         for (index, ((kind, case), expected)) in batch.iter().zip(&expected).enumerate() {
             let answer = answers.get(index).and_then(Option::as_deref);
             if !expected.is_met_by(answer) {
@@ -127,21 +127,34 @@ impl Run<'_> {
             let (cases, lines) = (batch.len(), answers.len());
             return Err(Stop::Broken(format!("{lines} answer lines for {cases} cases")));
         }
+        if !ran.status.success() {
+            return Err(Stop::Broken(format!(
+                "all answers were right, but the program ended with {}",
+                ran.status
+            )));
+        }
         Ok(())
     }
 }
+
+/// From this count on there is room for all schemas of four nodes.
+const ROOM_FOR_FOUR_NODES: u64 = 1_500_000;
 
 /// All fixed cases, then random ones up to `count` in all.
 pub fn run(program: &Program, seed: u64, count: u64) -> Result<Tally, Stop> {
     let mut run = Run { program, tally: Tally::default(), batch: Vec::new(), bytes: 0 };
     let mut made = 0;
     let mut stopped = Ok(());
-    generate::fixed(&mut |kind, case| {
+    let mut take = |kind, case| {
         made += 1;
         if stopped.is_ok() {
             stopped = run.take(kind, case);
         }
-    });
+    };
+    generate::fixed(&mut take);
+    if count >= ROOM_FOR_FOUR_NODES {
+        generate::exhaustive::four_nodes(&mut take);
+    }
     stopped?;
     for number in made..count {
         let (kind, case) = generate::random(&mut Rng::for_case(seed, number));

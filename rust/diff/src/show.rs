@@ -27,7 +27,8 @@ fn call(case: &Case) -> String {
 fn name(case: &Case, span: Span) -> String {
     let (start, length) = (span.start, span.length);
     let inside = start + length <= case.names.len() as u64;
-    let text = if inside { span.of(&case.names).escape_ascii().to_string() } else { "PAST THE STORE".to_owned() };
+    let text =
+        if inside { span.of(&case.names).escape_ascii().to_string() } else { "PAST THE STORE".to_owned() };
     format!("name \"{text}\" (start {start}, length {length})")
 }
 
@@ -59,7 +60,12 @@ fn reference_line(case: &Case, index: u64) -> String {
 
 fn entry_line(case: &Case, index: u64) -> String {
     let entry = entry(&case.registry, index);
-    format!("{index}: {}, {} records from record {}", name(case, entry.name), entry.block.count, entry.block.first)
+    format!(
+        "{index}: {}, {} records from record {}",
+        name(case, entry.name),
+        entry.block.count,
+        entry.block.first
+    )
 }
 
 fn table(out: &mut String, title: &str, bytes: &[u8], line: &dyn Fn(u64) -> String) {

@@ -28,11 +28,15 @@ fn candidates(case: &Case) -> Vec<Case> {
     sized.sort_by(|one, other| one.0.cmp(&other.0));
     sized.dedup_by(|one, other| one.1 == other.1);
     let mut room = ROUND_BYTES;
-    sized.into_iter().map(|(_, case)| case).take_while(|case| {
-        let fits = case.bytes() <= room;
-        room -= case.bytes().min(room);
-        fits
-    }).collect()
+    sized
+        .into_iter()
+        .map(|(_, case)| case)
+        .take_while(|case| {
+            let fits = case.bytes() <= room;
+            room -= case.bytes().min(room);
+            fits
+        })
+        .collect()
 }
 
 /// `differs` says for each of some cases whether it still shows the fault.

@@ -60,20 +60,20 @@ fn schema_a_is_accepted_by_every_check() {
 fn each_form_is_refused() {
     let leaf = (0, 0, 0, 0, 0, 0);
     let bad: &[(&[Fields], u64, u64)] = &[
-        (&[(20, 0, 0, 0, 0, 0)], 0, 1),                                  // no such code
-        (&[(0, 2, 0, 0, 0, 0)], 0, 1),                                   // flag over 1
-        (&[(0, 0, 1, 0, 0, 0)], 0, 1),                                   // unnamed with a length
-        (&[(0, 0, 0, 1, 0, 0)], 0, 1),                                   // unnamed with a start
-        (&[(0, 1, 3, 0, 0, 0)], 0, 1),                                   // span past the store
-        (&[(0, 1, 0, 3, 0, 0)], 0, 1),                                   // empty span past the store
-        (&[(0, 0, 0, 0, 1, 0)], 0, 1),                                   // childless, first child set
-        (&[leaf, (19, 0, 0, 0, 1, 1)], 0, 2),                            // its own child
-        (&[(19, 0, 0, 0, 2, 1), leaf], 0, 2),                            // not 1 + earlier counts
-        (&[(19, 0, 0, 0, 1, 2), leaf], 0, 2),                            // fewer records than children
-        (&[leaf, leaf], 0, 2),                                           // more records than children
-        (&[leaf], 0, 0),                                                 // no record
-        (&[leaf], 1, 1),                                                 // past the end
-        (&[leaf], 1 << 32, 1),                                           // not cut to 32 bits
+        (&[(20, 0, 0, 0, 0, 0)], 0, 1),       // no such code
+        (&[(0, 2, 0, 0, 0, 0)], 0, 1),        // flag over 1
+        (&[(0, 0, 1, 0, 0, 0)], 0, 1),        // unnamed with a length
+        (&[(0, 0, 0, 1, 0, 0)], 0, 1),        // unnamed with a start
+        (&[(0, 1, 3, 0, 0, 0)], 0, 1),        // span past the store
+        (&[(0, 1, 0, 3, 0, 0)], 0, 1),        // empty span past the store
+        (&[(0, 0, 0, 0, 1, 0)], 0, 1),        // childless, first child set
+        (&[leaf, (19, 0, 0, 0, 1, 1)], 0, 2), // its own child
+        (&[(19, 0, 0, 0, 2, 1), leaf], 0, 2), // not 1 + earlier counts
+        (&[(19, 0, 0, 0, 1, 2), leaf], 0, 2), // fewer records than children
+        (&[leaf, leaf], 0, 2),                // more records than children
+        (&[leaf], 0, 0),                      // no record
+        (&[leaf], 1, 1),                      // past the end
+        (&[leaf], 1 << 32, 1),                // not cut to 32 bits
         (&[leaf], u64::MAX, 1),
         (&[leaf], 0, (1 << 32) + 1),
         (&[leaf], 1, u64::MAX),
@@ -83,9 +83,9 @@ fn each_form_is_refused() {
         assert_eq!(answer, refused(2, 0, [0; 3]), "{rows:?} {first} {count}");
     }
     let good: &[(&[Fields], u64, u64)] = &[
-        (&[(0, 1, 2, 0, 0, 0)], 0, 1),              // span to the store's end
-        (&[(0, 1, 0, 2, 0, 0)], 0, 1),              // empty span at the store's end
-        (&[(20, 7, 1, 1, 1, 1), leaf], 1, 1),       // records in no block are not looked at
+        (&[(0, 1, 2, 0, 0, 0)], 0, 1),        // span to the store's end
+        (&[(0, 1, 0, 2, 0, 0)], 0, 1),        // empty span at the store's end
+        (&[(20, 7, 1, 1, 1, 1), leaf], 1, 1), // records in no block are not looked at
     ];
     for (rows, first, count) in good {
         assert_eq!(validate_schema(&records(rows), b"ab", block(*first, *count)), Ok(()));
@@ -176,7 +176,12 @@ fn format_order() {
     ]);
     let check = |references: &[[u32; 4]], registry: &[[u32; 4]]| {
         let (references, registry) = (words(references), words(registry));
-        validate_format(&FormatTables { records: &table, names: b"aab", references: &references, registry: &registry })
+        validate_format(&FormatTables {
+            records: &table,
+            names: b"aab",
+            references: &references,
+            registry: &registry,
+        })
     };
     let good = [0, 0, 1, 0];
     assert_eq!(check(&[good], &[]), Ok(()));

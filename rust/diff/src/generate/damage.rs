@@ -174,7 +174,7 @@ pub fn ragged(rng: &mut Rng) -> Case {
 pub fn block_numbers(rng: &mut Rng) -> Case {
     let mut case = random_case(rng);
     let has = (case.records.len() / 16) as u64;
-    let mut number = |rng: &mut Rng, good: u64| match rng.below(10) {
+    let number = |rng: &mut Rng, good: u64| match rng.below(10) {
         0 => 0,
         1 => has,
         2 => has + 1,
@@ -183,7 +183,7 @@ pub fn block_numbers(rng: &mut Rng) -> Case {
         5 => 1 << rng.below(64),
         6 => good.wrapping_add(1),
         7 => good.wrapping_sub(1),
-        8 => u64::MAX - good + 1,
+        8 => good.wrapping_neg(),
         _ => good,
     };
     let (a, b) = (number(rng, case.a), number(rng, case.b));

@@ -96,7 +96,7 @@ fn named(nodes: usize, types: &[u8], ops: &[u32], emit: &mut Emit) {
     }
 }
 
-/// Every filling of the child fields of a few records, from `low` up: mostly no level order.
+/// Every filling of the child fields of a few records: mostly no level order.
 fn child_fields(records: usize, firsts: u32, counts: u32, emit: &mut Emit) {
     let mut choices = Vec::new();
     for first in 0..firsts {
@@ -164,6 +164,11 @@ pub fn fixed(emit: &mut Emit) {
     child_fields(2, 4, 4, emit);
     child_fields(3, 5, 4, emit);
     child_fields(4, 4, 3, emit);
+}
+
+/// All schemas of four nodes over all twenty types: 800,000 of them.
+pub fn four_nodes(emit: &mut Emit) {
+    typed(4, &ALL, &[op::ENCODER], emit);
 }
 
 #[cfg(test)]

@@ -2,7 +2,7 @@
 
 use plain::tables::Block;
 
-use super::trees::{random_name, random_plans, random_size, random_table_plans};
+use super::trees::{random_name, random_plans, random_size, random_table_plans, widened};
 use crate::case::{op, Case};
 use crate::plan::{inline, lay_out, put_name, words, Plan};
 use crate::rng::Rng;
@@ -60,6 +60,7 @@ fn format(rng: &mut Rng, fault: usize, name: &mut dyn FnMut(&mut Rng) -> Vec<u8>
                 plan.name = Some(name(rng));
             }
         }
+        let plans = if rng.one_in(300) { widened(rng, plans) } else { plans };
         pool.add(&plans);
     }
     if rng.one_in(10) {
@@ -85,7 +86,7 @@ fn format(rng: &mut Rng, fault: usize, name: &mut dyn FnMut(&mut Rng) -> Vec<u8>
             let perhaps = name(rng);
             registry_reference(&mut case.names, &perhaps)
         } else {
-            registry_reference(&mut case.names, rng.pick(&known))
+            registry_reference(&mut case.names, rng.pick::<Vec<u8>>(&known))
         };
         case.references.extend(reference);
     }
@@ -134,7 +135,7 @@ pub fn overlapping(rng: &mut Rng) -> Case {
     let whole = pool.blocks.clone();
     let mut case = pool.case();
     let has = case.records.len() / 16;
-    let mut block = |rng: &mut Rng| match rng.below(8) {
+    let block = |rng: &mut Rng| match rng.below(8) {
         0 => Block { first: rng.below(has) as u64, count: rng.between(1, has) as u64 },
         1..=4 => {
             let leaf = |at: &usize| case.records[at * 16 + 8..at * 16 + 16] == [0; 8];

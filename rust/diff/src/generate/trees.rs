@@ -6,7 +6,18 @@ use crate::plan::Plan;
 use crate::rng::Rng;
 
 const NAMES: [&[u8]; 12] = [
-    b"", b"a", b"b", b"ab", b"aa", b"abc", b"page", b"name", b"$", "é".as_bytes(), "名前".as_bytes(), b"a\0b",
+    b"",
+    b"a",
+    b"b",
+    b"ab",
+    b"aa",
+    b"abc",
+    b"page",
+    b"name",
+    b"$",
+    "é".as_bytes(),
+    "名前".as_bytes(),
+    b"a\0b",
 ];
 
 pub fn random_name(rng: &mut Rng) -> Vec<u8> {
@@ -54,6 +65,18 @@ pub fn random_plans(rng: &mut Rng, most: usize, fault: usize) -> Vec<Plan> {
     plans
 }
 
+/// One node among those without children gets about as many as an eight-bit tag can name.
+pub fn widened(rng: &mut Rng, mut plans: Vec<Plan>) -> Vec<Plan> {
+    let last = plans.len() - 1;
+    let count = rng.between(253, 258);
+    let code = rng.between(15, 19) as u8;
+    // The last node of all is childless, and its children come after everything else.
+    plans[last] = Plan { code, children: count as u32, ..plans[last].clone() };
+    let leaf = Plan::new(rng.below(20) as u8, 0);
+    plans.resize(last + 1 + count, leaf);
+    plans
+}
+
 /// A random table: a tuple with named columns, but for a fault now and then.
 pub fn random_table_plans(rng: &mut Rng, most: usize, fault: usize) -> Vec<Plan> {
     let mut plans = random_plans(rng, most, fault);
@@ -89,11 +112,9 @@ pub fn random_case(rng: &mut Rng) -> Case {
         pool.add(&random_plans(rng, size, 3));
     }
     let size = random_size(rng);
-    let plans = if rng.one_in(2) {
-        random_plans(rng, size, fault)
-    } else {
-        random_table_plans(rng, size, fault)
-    };
+    let plans =
+        if rng.one_in(2) { random_plans(rng, size, fault) } else { random_table_plans(rng, size, fault) };
+    let plans = if rng.one_in(100) { widened(rng, plans) } else { plans };
     let block = pool.add(&plans);
     if rng.one_in(3) {
         pool.add(&random_plans(rng, 3, 3));

@@ -159,7 +159,14 @@ fn child_for_parent(case: &Case, blocks: &[Block], block: Block, index: u64) -> 
     range.take(4).map(|child| replaced(case, blocks, block, &inside, index, child)).collect()
 }
 
-fn replaced(case: &Case, blocks: &[Block], block: Block, inside: &[SchemaRecord], parent: u64, child: u64) -> Case {
+fn replaced(
+    case: &Case,
+    blocks: &[Block],
+    block: Block,
+    inside: &[SchemaRecord],
+    parent: u64,
+    child: u64,
+) -> Case {
     let instead = |index: u64| if index == parent { child } else { index };
     // Level by level from the root, as the block itself goes.
     let mut order = vec![instead(0)];

@@ -59,11 +59,14 @@ fn store(case: &Case, found: &mut Vec<Case>) {
 }
 
 fn move_starts(case: &mut Case, moved: &dyn Fn(u32) -> u32) {
-    let mut change = |bytes: &mut [u8]| {
+    let change = |bytes: &mut [u8]| {
         let start = u32::from_le_bytes(bytes[..4].try_into().expect("four bytes"));
         bytes[..4].copy_from_slice(&moved(start).to_le_bytes());
     };
-    case.records.chunks_exact_mut(16).filter(|record| record[1] == 1).for_each(|record| change(&mut record[4..8]));
+    case.records
+        .chunks_exact_mut(16)
+        .filter(|record| record[1] == 1)
+        .for_each(|record| change(&mut record[4..8]));
     case.references.chunks_exact_mut(16).filter(|one| one[0] == 1).for_each(|one| change(&mut one[4..8]));
     case.registry.chunks_exact_mut(16).for_each(|entry| change(&mut entry[..4]));
 }
@@ -86,9 +89,17 @@ fn records(case: &Case, found: &mut Vec<Case>) {
 }
 
 fn single_bytes(case: &Case, found: &mut Vec<Case>) {
-    let parts: [fn(&mut Case) -> &mut Vec<u8>; 4] =
-        [|case| &mut case.records, |case| &mut case.names, |case| &mut case.references, |case| &mut case.registry];
+    let parts: [fn(&mut Case) -> &mut Vec<u8>; 4] = [
+        |case| &mut case.records,
+        |case| &mut case.names,
+        |case| &mut case.references,
+        |case| &mut case.registry,
+    ];
     for part in parts {
+        // A ragged tail may be shorter; whole records go elsewhere.
+        let mut shorter = case.clone();
+        part(&mut shorter).pop();
+        found.push(shorter);
         for at in 0..part(&mut case.clone()).len() {
             for change in [|_: u8| 0, |byte: u8| byte / 2, |byte: u8| byte.saturating_sub(1)] {
                 let mut smaller = case.clone();

@@ -1,0 +1,6 @@
+pub mod Stands
+pub mod Only
+pub mod Span
+pub mod Conform
+pub mod Sound
+pub mod Complete
