@@ -4,9 +4,16 @@ use Prim.Native.Nat.{ℕ, zero, suc, _+_, _-_, _^_, _≤_, _<_}
 use mathlib.Core.Path.{_≡_, refl, sym, _∙_}
 use mathlib.Core.Bool.{Bool, true, false}
 use mathlib.Core.List.{List, [], _∷_, _++_}
+use mathlib.Core.Logic.{_⊎_, inl, inr, ⊎-elim}
 use native.Mathlib.Omega.{arith}
+use borrow.Author.Tests.{leb-true}
+use lib.Dec.{leb}
 use lib.ListN.{length}
-use Rattle.rules.specs.Wire.{Form, fixed, raw, form, widthOf, endTag, maximum}
+use Rattle.rules.specs.Choice.{_and_, all}
+use Rattle.rules.specs.Wire.{Form, empty, truth, fixed, raw, sized, choice, series, fields, unknown, form, written, writtenIf, typeOf, typeIn, wireTypes, widthOf, endTag, maximum}
+use Rattle.rules.specs.declared.WireType.{WireType}
+use Rattle.rules.specs.declared.Known.the-variants.{Unknown}
+use Rattle.rules.proofs.Tests.{all-each}
 use Rattle.rules.specs.Schema.{Schema, node, Schemas, nil, cons, count, child, Allows, Valid, valid, ValidAll, no-schema, a-schema}
 use Rattle.rules.specs.Value.{Value, Items, Values, boolean, number, wide, Fits, FitsI, FitsV}
 use Rattle.rules.specs.ValueTable.{bit}
@@ -85,3 +92,68 @@ mutual
   suits-fields : {ss : Schemas} {vs : Values} → SuitV ss vs → FitsV vs → ValidAll ss → Fields ss vs (bytesF vs ss)
   suits-fields s-none ok a = no-field
   suits-fields (s-more c r) ok (a-schema v a) = field (encoded-row c (ok .0) v) (suits-fields r (ok .1) a) refl
+
+-- ---- a row's value fits value records: above all its tags fit two bytes
+unfoldable tagWidth : Form → ℕ
+tagWidth empty = 0
+tagWidth truth = 0
+tagWidth (fixed w) = 0
+tagWidth (raw w) = 0
+tagWidth sized = 0
+tagWidth (choice w) = w
+tagWidth (series w) = w
+tagWidth fields = 0
+tagWidth unknown = 0
+
+le-or-lt : (a b : ℕ) → (a ≤ b) ⊎ (b < a)
+le-or-lt zero b = inl (omega arith)
+le-or-lt (suc a) zero = inr (omega arith)
+le-or-lt (suc a) (suc b) = ⊎-elim (λ (p : a ≤ b). inl (omega arith)) (λ (p : b < a). inr (omega arith)) (le-or-lt a b)
+
+no-type : (ts : List WireType) (k : ℕ) → length ts ≤ k → typeIn ts k ≡ Unknown
+unfolding typeIn
+no-type [] k h = refl
+no-type (t ∷ ts) zero h = absurd (omega arith)
+no-type (t ∷ ts) (suc k) h = no-type ts k (omega arith)
+
+narrow : (k : ℕ) → tagWidth (form k) ≤ 2
+unfolding tagWidth all _and_ form written writtenIf typeOf typeIn wireTypes
+narrow k = ⊎-elim
+    (λ (h : 20 ≤ k). rw (no-type wireTypes k h) (omega arith))
+    (λ (h : k < 20). leb-true _ _ (all-each (λ i. leb (tagWidth (form i)) 2) 20 k refl h))
+    (le-or-lt 20 k)
+
+two-bytes : (t w : ℕ) → w ≤ 2 → t < 256 ^ w → t < 256 ^ 2
+two-bytes t zero l h = omega arith
+two-bytes t (suc zero) l h = omega arith
+two-bytes t (suc (suc zero)) l h = h
+two-bytes t (suc (suc (suc w))) l h = absurd (omega arith)
+
+below-end : (t w : ℕ) → t < endTag w → t < 256 ^ w
+unfolding endTag
+below-end t w h = omega arith
+
+mutual
+  unfolding Fits tagWidth
+
+  pub row-fits : {s : Schema} {v : Value} {b : List ℕ} → Row s v b → Fits v
+  row-fits (row {k = k} h) = body-fits k h refl
+
+  body-fits : {f : Form} (k : ℕ) {ss : Schemas} {v : Value} {b : List ℕ} → Body f k ss v b → form k ≡ f → Fits v
+  body-fits k a-nothing e = tt
+  body-fits k a-false e = tt
+  body-fits k (a-true h) e = tt
+  body-fits k (a-number {w = w} h x) e = (w, (e, h))
+  body-fits k (a-wide h) e = rw h e
+  body-fits k (a-blob h x) e = (e, h)
+  body-fits k (a-variant {w = w} {t = t} h l r x) e = (two-bytes t w (rw e at (narrow k)) h, row-fits r)
+  body-fits k (a-repeated {w = w} h) e = pairs-fit h (rw e at (narrow k))
+  body-fits k (a-tuple h) e = fields-fit h
+
+  pairs-fit : {w : ℕ} {ss : Schemas} {is : Items} {b : List ℕ} → Pairs w ss is b → w ≤ 2 → FitsI is
+  pairs-fit (end e) n = tt
+  pairs-fit (pair {w = w} {t = t} h l r p e) n = (two-bytes t w n (below-end t w h), (row-fits r, pairs-fit p n))
+
+  fields-fit : {ss : Schemas} {vs : Values} {b : List ℕ} → Fields ss vs b → FitsV vs
+  fields-fit no-field = tt
+  fields-fit (field r h e) = (row-fits r, fields-fit h)

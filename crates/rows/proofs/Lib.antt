@@ -4,3 +4,4 @@ pub mod Span
 pub mod Conform
 pub mod Sound
 pub mod Complete
+pub mod Agree
