@@ -5,3 +5,4 @@ pub mod Conform
 pub mod Sound
 pub mod Complete
 pub mod Agree
+pub mod Honest
