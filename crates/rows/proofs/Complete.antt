@@ -23,7 +23,7 @@ use Rattle.rows.proofs.Span.{excess, within-excess, Toll, free, load, f
 use Rattle.rows.proofs.Sound.{Accepted}
 
 -- a form that has rows
-unfoldable Known : Form → Type 0
+unfoldable pub Known : Form → Type 0
 Known empty = Unit
 Known truth = Unit
 Known (fixed w) = Unit
@@ -34,7 +34,7 @@ Known (series w) = Unit
 Known fields = Unit
 Known unknown = ⊥
 
-known : {f : Form} {k : ℕ} {ss : Schemas} {v : Value} {b : List ℕ} → Body f k ss v b → Known f
+pub known : {f : Form} {k : ℕ} {ss : Schemas} {v : Value} {b : List ℕ} → Body f k ss v b → Known f
 unfolding Known
 known a-nothing = tt
 known a-false = tt

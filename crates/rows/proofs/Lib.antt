@@ -6,3 +6,4 @@ pub mod Sound
 pub mod Complete
 pub mod Agree
 pub mod Honest
+pub mod TableRows
