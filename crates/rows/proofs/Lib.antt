@@ -7,3 +7,4 @@ pub mod Complete
 pub mod Agree
 pub mod Honest
 pub mod TableRows
+pub mod Decoding
