@@ -3,3 +3,5 @@ pub mod Fields
 pub mod Parts
 pub mod Orders
 pub mod Codes
+pub mod Names
+pub mod Theorems
