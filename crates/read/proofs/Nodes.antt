@@ -21,7 +21,7 @@ use Rattle.read.specs.Budget.{spent}
 use Rattle.read.specs.Fields.{keptOf}
 use Rattle.read.specs.Children.{shapeOf}
 use Rattle.read.specs.Skim.{standing, _>>=_, passed, stored, having, charged, counted, bytesOf, fixedOf, leafOf, Skimmer, valueOf, nodeOf, skim}
-use Rattle.read.specs.Ready.{Inside, Sound}
+use Rattle.read.specs.Ready.{Inside, Sound, Coded}
 use Rattle.read.specs.declared.budget.RowBudget.{RowBudget}
 use Rattle.read.specs.declared.budget.Charged.{Charged}
 use Rattle.read.specs.declared.budget.Charged.the-variants.{Left}
@@ -120,17 +120,20 @@ node-leaf sch inp rec i p h = value-leaf inp rec (getD sch (i * 16) 0) _ _ p h
 pub formed-sound : (s : List ℕ) (store : ℕ) → Formed s store → Sound s
 formed-sound s store f = record { codes = λ i h. f .codes i (omega arith); closed = blocks.closed s (f .order) }
 
+pub formed-root : (s : List ℕ) (store : ℕ) → Formed s store → Inside s 0
+formed-root s store f = omega (arith, f .order .size)
+
 -- a node with children, its record in the code's numbers
-module _ (s : List ℕ) (i code first count : ℕ) (o : Sound s) (h : Inside s i) (is : code ≡ nodeAt s i .code) (a : first ≡ leAt s (i * 16 + 8) 4) (b : count ≡ leAt s (i * 16 + 12) 4) where
+module _ (s : List ℕ) (i code first count : ℕ) (k : Coded s i code) (a : first ≡ leAt s (i * 16 + 8) 4) (b : count ≡ leAt s (i * 16 + 12) 4) where
   pub node-code : code ≤ 19
-  node-code = rw is (o .codes i h)
+  node-code = rw (k .is) (k .sound .codes i (k .inside))
 
   -- its children lie in the block
   pub node-children : (first + count) * 16 ≤ length s
   unfolding nodeAt Closed
-  node-children = omega (arith, a, b, o .closed i h)
+  node-children = omega (arith, a, b, k .sound .closed i (k .inside))
 
   -- the loop starts with the whole
   pub node-start : (inp : List ℕ) (rec : Skimmer) (p : Pos) → 14 < code → steps inp rec code first count (shapeOf code) 0 (suc (length inp - p .at)) p ≡ nodeOf s inp rec i p
   unfolding nodeOf nodeAt
-  node-start inp rec p l = rw (← is, ← a, ← b) (steps-all inp rec code first count p l node-code)
+  node-start inp rec p l = rw (← k .is, ← a, ← b) (steps-all inp rec code first count p l node-code)

@@ -59,7 +59,7 @@ module _ (t : ℕ) where
   unfolding nodeAt
   skip-children-requires c κs =
       let s = c .before .before .before .before .before .before .before .before .before .before .before in
-      (omega (arith, s .pre .0, c .before .before .before .before .before .before .before .before .if1 .left), (s .pre .1 .0, s .pre .1 .1, refl, c .if2 .left, ready-paid _ _ _ _ _ (s .pre .1 .2) (c .before .before .before .before .before .before .charge .ensures) (c .before .before .before .before .paid .given .1)))
+      (omega (arith, s .pre .0, c .before .before .before .before .before .before .before .before .if1 .left), (record { sound = s .pre .1 .0; inside = s .pre .1 .1; is = refl }, c .if2 .left, ready-paid _ _ _ _ _ (s .pre .1 .2) (c .before .before .before .before .before .before .charge .ensures) (c .before .before .before .before .paid .given .1)))
 
   pub enum-known-s-2 : lts.Need-enum-known-s-2 (skip-value-calls t) (skip-value-at t) skip-value.Post
   enum-known-s-2 c = search needs
