@@ -1,7 +1,7 @@
 // The walk over a table's block and the input: what skip answers. A node step and a children step call each other, and
 // depth falls.
 ghost use mathlib.Core.Path.{_≡_};
-ghost use Prim.Native.Nat.{ℕ, _+_, _*_, _^_, _≤_, _<_};
+ghost use Prim.Native.Nat.{_+_, _^_, _≤_, _<_};
 ghost use lib.ListN.{length};
 ghost use Rattle.rules.specs.Walk.{walk};
 ghost use Rattle.rules.specs.Reading.{limits, start};

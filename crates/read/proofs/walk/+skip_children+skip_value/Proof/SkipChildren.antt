@@ -1,15 +1,15 @@
 use lib.ListN.{length}
 use Rattle.read.specs.Children.{shapeOf}
 use Rattle.read.specs.Skim.{_>>=_, nodeOf, skim}
-use Rattle.read.specs.Ready.{Inside, Ready}
+use Rattle.read.specs.Ready.{Ready}
 use Rattle.read.proofs.Codes.{shape-variant}
 use Rattle.read.proofs.Turn.{moved, steps, goOn, Fuelled, fuel-all, fuel-next, turn-child, turn-end, turn-refused, turn-on, Moved, wide-shape, picked-child}
 use Rattle.read.proofs.Onward.{skim-at}
 use Rattle.read.proofs.Nodes.{node-code, node-children, node-start}
 use borrow.Author.Needs.{needs}
 use native.Mathlib.Omega.{arith}
-use Prim.Native.Nat.{ℕ, suc, _+_, _-_, _*_, _≤_, _<_}
-use mathlib.Core.Path.{_≡_, refl, sym, _∙_}
+use Prim.Native.Nat.{ℕ, suc, _+_, _-_, _*_, _≤_}
+use mathlib.Core.Path.{_≡_}
 use Rattle.read.proofs.walk.skip_children.Reads as skip-children
 use Rattle.read.proofs.walk.+skip_children+skip_value.Lts-skip_children as lts
 use Rattle.read.proofs.walk.+skip_children+skip_value.Proof.Setup.{skip-children-at, skip-children-calls}
@@ -25,6 +25,10 @@ abbrev pub μ-loop : lts.MeasureT-loop
 μ-loop block code node depth input charge k first count q₀ i₀ q i = count - i + (length input - q .at)
 
 module _ (t : ℕ) where
+  -- the node's children lie in the block
+  inside : (c : lts.After-u32-at2 (skip-children-calls t) (skip-children-at t) skip-children.Post Inv-loop μ-loop) → (c .before .u32-at .result + c .u32-at2 .result) * 16 ≤ length (c .before .before .before .before .args .block .now)
+  inside c = node-children _ _ _ _ _ (c .before .before .before .before .pre .1 .0) (c .before .u32-at .ensures) (c .u32-at2 .ensures)
+
   -- what the next child tells
   child : (c : lts.After-known-told (skip-children-calls t) (skip-children-at t) skip-children.Post Inv-loop μ-loop) → let s = c .before .before .before .before .before .before .before .before .before .before .args in let l = c .before .before .before .before .before .loop in
       Moved (shapeOf (s .code)) (length (s .input .now)) (c .before .before .before .before .before .before .before .u32-at .result) (c .before .before .before .before .before .before .u32-at2 .result) (l .i) (l .q .at) (c .before .pick .given .0 .0) (c .before .pick .given .0 .1 .0)
@@ -66,7 +70,7 @@ module _ (t : ℕ) where
 
   pub next-child-requires : lts.Need-next-child-requires (skip-children-calls t) (skip-children-at t) skip-children.Post Inv-loop μ-loop
   next-child-requires c κs =
-      let k = node-children _ _ _ _ _ (c .before .before .before .before .before .before .pre .1 .0) (c .before .before .before .u32-at .ensures) (c .before .before .u32-at2 .ensures) in
+      let k = inside (c .before .before) in
       (c .before .before .before .before .before .before .pre .1 .1, node-code _ _ _ _ _ (c .before .before .before .before .before .before .pre .1 .0) (c .before .before .before .u32-at .ensures) (c .before .before .u32-at2 .ensures), omega (arith, k), c .before .loop .inv .1 .0 .stands .within)
 
   pub enum-known-pick : lts.Need-enum-known-pick (skip-children-calls t) (skip-children-at t) skip-children.Post Inv-loop μ-loop
@@ -75,7 +79,7 @@ module _ (t : ℕ) where
   pub skip-value-requires : lts.Need-skip-value-requires (skip-children-calls t) (skip-children-at t) skip-children.Post Inv-loop μ-loop
   skip-value-requires c κs =
       let s = c .before .before .before .before .before .before .before .before .before .before in
-      let k = node-children _ _ _ _ _ (c .before .before .before .before .before .before .before .before .before .before .pre .1 .0) (c .before .before .before .before .before .before .before .u32-at .ensures) (c .before .before .before .before .before .before .u32-at2 .ensures) in
+      let k = inside (c .before .before .before .before .before .before) in
       (omega arith, (s .pre .1 .0 .sound, omega (arith, k, child c .high), enters c))
 
   pub enum-known-s : lts.Need-enum-known-s (skip-children-calls t) (skip-children-at t) skip-children.Post Inv-loop μ-loop
@@ -99,7 +103,7 @@ module _ (t : ℕ) where
   pub add-i : lts.Need-add-i (skip-children-calls t) (skip-children-at t) skip-children.Post Inv-loop μ-loop
   add-i c =
       let m = child (c .before .before .before .before .before) in
-      let k = node-children _ _ _ _ _ (c .before .before .before .before .before .before .before .before .before .before .before .before .before .before .before .pre .1 .0) (c .before .before .before .before .before .before .before .before .before .before .before .before .u32-at .ensures) (c .before .before .before .before .before .before .before .before .before .before .before .u32-at2 .ensures) in
+      let k = inside (c .before .before .before .before .before .before .before .before .before .before .before) in
       omega (arith, k, m .counts, m .within, c .before .before .before .before .before .before .before .before .before .before .loop .inv .1 .0 .stands .short)
 
   pub loop-less : lts.Need-loop-less (skip-children-calls t) (skip-children-at t) skip-children.Post Inv-loop μ-loop

@@ -3,8 +3,8 @@ use Rattle.read.proofs.Steps.{ready-paid}
 use Rattle.read.proofs.Nodes.{skim-none, skim-dear, skim-paid, node-leaf}
 use borrow.Author.Needs.{needs}
 use native.Mathlib.Omega.{arith}
-use Prim.Native.Nat.{ℕ, suc, _+_, _-_, _*_, _≤_, _<_}
-use mathlib.Core.Path.{_≡_, refl, sym, _∙_}
+use Prim.Native.Nat.{ℕ, _-_}
+use mathlib.Core.Path.{refl}
 use Rattle.read.proofs.walk.skip_value.Reads as skip-value
 use Rattle.read.proofs.walk.+skip_children+skip_value.Lts-skip_value as lts
 use Rattle.read.proofs.walk.+skip_children+skip_value.Proof.Setup.{skip-value-at, skip-value-calls}
