@@ -1,3 +1,5 @@
+pub mod Choices
 pub mod Fields
 pub mod Parts
 pub mod Orders
+pub mod Codes

@@ -3,7 +3,12 @@ ghost use mathlib.Core.Path.{_≡_};
 ghost use Prim.Native.Nat.{ℕ, _+_, _≤_, _<_};
 ghost use lib.ListN.{length, getD};
 ghost use Rattle.rules.specs.Bytes.{leAt, part, order};
+ghost use Rattle.rules.specs.Wire.{typeOf, codeOf, form, fixedWidth, maximum};
+use rules::Children;
+use rules::Known;
 use rules::Order;
+use rules::Width;
+use rules::WireType;
 
 // ---- little-endian fields
 
@@ -73,4 +78,96 @@ pub fn compare(s: &[u8], a: usize, la: usize, b: usize, lb: usize) -> Order
     ensures { λ r. ⌜ r ≡ order (part (now (s .entry)) a la) (part (now (s .entry)) b lb) ⌝ }
 {
     order_of(s, a, la, s, b, lb)
+}
+
+// ---- wire types by code
+
+// In the order of the wire codes.
+const TYPES: [WireType; 20] = [
+    WireType::Nothing,
+    WireType::Boolean,
+    WireType::Int8,
+    WireType::Int16,
+    WireType::Int32,
+    WireType::Int64,
+    WireType::Int128,
+    WireType::Int256,
+    WireType::Uint8,
+    WireType::Uint16,
+    WireType::Uint32,
+    WireType::Uint64,
+    WireType::Double,
+    WireType::String32,
+    WireType::Yson32,
+    WireType::Variant8,
+    WireType::Variant16,
+    WireType::RepeatedVariant8,
+    WireType::RepeatedVariant16,
+    WireType::Tuple,
+];
+
+pub fn from_code(code: u8) -> Known
+    ensures { λ r. ⌜ r ≡ typeOf code ⌝ }
+{
+    if code < 20 {
+        Known::Wire(TYPES[code as usize])
+    } else {
+        Known::Unknown
+    }
+}
+
+pub fn code_of(t: WireType) -> u8
+    ensures { λ r. ⌜ r ≡ codeOf t ⌝ }
+{
+    match t {
+        WireType::Nothing => 0,
+        WireType::Boolean => 1,
+        WireType::Int8 => 2,
+        WireType::Int16 => 3,
+        WireType::Int32 => 4,
+        WireType::Int64 => 5,
+        WireType::Int128 => 6,
+        WireType::Int256 => 7,
+        WireType::Uint8 => 8,
+        WireType::Uint16 => 9,
+        WireType::Uint32 => 10,
+        WireType::Uint64 => 11,
+        WireType::Double => 12,
+        WireType::String32 => 13,
+        WireType::Yson32 => 14,
+        WireType::Variant8 => 15,
+        WireType::Variant16 => 16,
+        WireType::RepeatedVariant8 => 17,
+        WireType::RepeatedVariant16 => 18,
+        WireType::Tuple => 19,
+    }
+}
+
+// The widths of the codes whose values all have the same.
+const WIDTHS: [u8; 13] = [0, 1, 1, 2, 4, 8, 16, 32, 1, 2, 4, 8, 8];
+
+pub fn fixed_width(t: WireType) -> Width
+    ensures { λ r. ⌜ r ≡ fixedWidth t ⌝ }
+{
+    let code = code_of(t);
+    if code < 13 {
+        Width::Fixed(wide(WIDTHS[code as usize]))
+    } else {
+        Width::Variable
+    }
+}
+
+// How many children a node of this code may have: a tag has to name each, and in a series one tag is the end.
+pub fn maximum_of(code: u8) -> Children
+    ensures { λ r. ⌜ r ≡ maximum (form code) ⌝ }
+{
+    match code {
+        0..=14 => Children::None,
+        15 => Children::UpTo(256),
+        16 => Children::UpTo(65536),
+        17 => Children::UpTo(255),
+        18 => Children::UpTo(65535),
+        19 => Children::Any,
+        _ => Children::Unknown,
+    }
 }
