@@ -239,14 +239,16 @@ pub fn parse(name: &[u8]) -> Known
     ensures { λ r. ⌜ r ≡ parsed (now (name .entry)) ⌝ }
 {
     let mut code = 0;
-    while code < 20 {
-        let t = TYPES[code];
+    loop {
+        let known = from_code(code);
+        let Known::Wire(t) = known else {
+            return Known::Unknown;
+        };
         if is_name(name, t) {
             return Known::Wire(t);
         }
         code += 1;
     }
-    Known::Unknown
 }
 
 pub fn name_len(t: WireType) -> usize
