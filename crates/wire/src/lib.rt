@@ -82,6 +82,16 @@ pub fn compare(s: &[u8], a: usize, la: usize, b: usize, lb: usize) -> Order
     order_of(s, a, la, s, b, lb)
 }
 
+pub fn is_equal(o: Order) -> bool
+    ensures { λ r. ⌜ r ≡ isEqual o ⌝ }
+{
+    match o {
+        Order::Less => false,
+        Order::Equal => true,
+        Order::Greater => false,
+    }
+}
+
 // ---- wire types by code
 
 // In the order of the wire codes.
@@ -226,12 +236,7 @@ pub fn is_name(name: &[u8], t: WireType) -> bool
     ensures { λ r. ⌜ r ≡ isEqual (order (now (name .entry)) (nameOf t)) ⌝ }
 {
     let span = span_of(t);
-    let o = order_of(name, 0, name.len(), &NAMES, span.start, span.len);
-    match o {
-        Order::Equal => true,
-        Order::Less => false,
-        Order::Greater => false,
-    }
+    is_equal(order_of(name, 0, name.len(), &NAMES, span.start, span.len))
 }
 
 // The wire type of a name: any bytes, and nothing trimmed.
