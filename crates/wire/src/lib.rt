@@ -1,6 +1,6 @@
 // The leaves: little-endian fields, the order of byte strings, and the wire types by code and by name.
 ghost use mathlib.Core.Path.{_≡_};
-ghost use Prim.Native.Nat.{ℕ, _+_, _≤_, _<_};
+ghost use Prim.Native.Nat.{_+_, _≤_, _<_};
 ghost use lib.ListN.{length, getD};
 ghost use Rattle.rules.specs.Bytes.{leAt, part, order, isEqual};
 ghost use Rattle.rules.specs.Names.{nameOf, parsed};
