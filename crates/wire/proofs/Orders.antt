@@ -4,6 +4,7 @@ use Prim.Native.Nat.{ℕ, _<_}
 use mathlib.Core.Path.{_≡_, refl, _∙_}
 use mathlib.Core.Bool.{Bool, true, false}
 use mathlib.Core.List.{List, [], _∷_}
+use mathlib.Core.Logic.{_↔_}
 use native.Mathlib.Omega.{arith}
 use borrow.Author.Tests.{lt-ltb, le-ltb, eq-eqb, ne-eqb, eqb-true, eqb-false, ltb-true, ltb-false}
 use lib.Dec.{ltb, eqb}
@@ -74,6 +75,9 @@ order-equal (x ∷ xs) (y ∷ ys) e = by (order-equal xs ys) _ (heads x y xs ys)
     by below _ (less h) f = cc
     by below _ (greater h) f = cc
 
+pub order-equal-iff : (xs ys : List ℕ) → (order xs ys ≡ Equal) ↔ (xs ≡ ys)
+order-equal-iff xs ys = (order-equal xs ys, λ e. rw e (order-same ys))
+
 -- ---- the other way round
 
 unfoldable pub turned : Order → Order
@@ -96,6 +100,15 @@ order-turned (x ∷ xs) (y ∷ ys) = by (order-turned xs ys) _ (heads x y xs ys)
 pub order-asymmetric : (xs ys : List ℕ) → isLess (order xs ys) ≡ true → isLess (order ys xs) ≡ false
 unfolding isLess turned
 order-asymmetric xs ys e = rw (order-turned xs ys, is-less (order xs ys) e)
+
+pub order-total : (xs ys : List ℕ) → isLess (order xs ys) ≡ false → isLess (order ys xs) ≡ false → xs ≡ ys
+unfolding isLess turned
+order-total xs ys d e = by (order xs ys) refl d (rw (order-turned xs ys) at e)
+  where
+    by : (o : Order) → order xs ys ≡ o → isLess o ≡ false → isLess (turned o) ≡ false → xs ≡ ys
+    by Less p d e = cc
+    by Equal p d e = order-equal xs ys p
+    by Greater p d e = cc
 
 -- ---- transitive
 

@@ -1,8 +1,10 @@
 // The leaves: little-endian fields, the order of byte strings, and the wire types by code and by name.
 ghost use mathlib.Core.Path.{_≡_};
-ghost use Prim.Native.Nat.{ℕ, _+_, _≤_, _<_};
+ghost use Prim.Native.Nat.{_+_, _≤_, _<_};
 ghost use lib.ListN.{length, getD};
-ghost use Rattle.rules.specs.Bytes.{leAt, part, order};
+ghost use Rattle.rules.specs.Bytes.{leAt, part, order, isEqual};
+ghost use Rattle.rules.specs.Names.{nameOf, parsed};
+ghost use Rattle.wire.specs.Table.{Spells};
 ghost use Rattle.rules.specs.Wire.{typeOf, codeOf, form, fixedWidth, maximum};
 use rules::Children;
 use rules::Known;
@@ -78,6 +80,16 @@ pub fn compare(s: &[u8], a: usize, la: usize, b: usize, lb: usize) -> Order
     ensures { λ r. ⌜ r ≡ order (part (now (s .entry)) a la) (part (now (s .entry)) b lb) ⌝ }
 {
     order_of(s, a, la, s, b, lb)
+}
+
+pub fn is_equal(o: Order) -> bool
+    ensures { λ r. ⌜ r ≡ isEqual o ⌝ }
+{
+    match o {
+        Order::Less => false,
+        Order::Equal => true,
+        Order::Greater => false,
+    }
 }
 
 // ---- wire types by code
@@ -170,4 +182,92 @@ pub fn maximum_of(code: u8) -> Children
         19 => Children::Any,
         _ => Children::Unknown,
     }
+}
+
+// ---- wire types by name
+
+// The names one after another, in the order of the wire codes: the one table for both directions.
+const NAMES: [u8; 145] =
+    *b"nothingbooleanint8int16int32int64int128int256uint8uint16uint32uint64doublestring32yson32variant8variant16repeated_variant8repeated_variant16tuple";
+
+// Where each name starts, and where the last one ends.
+const STARTS: [usize; 21] = [
+    0,
+    7,
+    14,
+    18,
+    23,
+    28,
+    33,
+    39,
+    45,
+    50,
+    56,
+    62,
+    68,
+    74,
+    82,
+    88,
+    96,
+    105,
+    122,
+    140,
+    145,
+];
+
+// Bytes of the table of names.
+pub struct Span {
+    pub start: usize,
+    pub len: usize,
+}
+
+fn span_of(t: WireType) -> Span
+    ensures { λ r. ⌜ Spells r (nameOf t) ⌝ }
+{
+    let code = code_of(t) as usize;
+    let start = STARTS[code];
+    Span {
+        start,
+        len: STARTS[code + 1] - start,
+    }
+}
+
+pub fn is_name(name: &[u8], t: WireType) -> bool
+    ensures { λ r. ⌜ r ≡ isEqual (order (now (name .entry)) (nameOf t)) ⌝ }
+{
+    let span = span_of(t);
+    is_equal(order_of(name, 0, name.len(), &NAMES, span.start, span.len))
+}
+
+// The wire type of a name: any bytes, and nothing trimmed.
+pub fn parse(name: &[u8]) -> Known
+    ensures { λ r. ⌜ r ≡ parsed (now (name .entry)) ⌝ }
+{
+    let mut code = 0;
+    loop {
+        let known = from_code(code);
+        let Known::Wire(t) = known else {
+            return Known::Unknown;
+        };
+        if is_name(name, t) {
+            return Known::Wire(t);
+        }
+        code += 1;
+    }
+}
+
+pub fn name_len(t: WireType) -> usize
+    ensures { λ r. ⌜ r ≡ length (nameOf t) ⌝ }
+{
+    let span = span_of(t);
+    span.len
+}
+
+// A byte of a wire type's name, 0 past its end.
+pub fn name_byte(t: WireType, k: usize) -> u8
+    ensures { λ r. ⌜ r ≡ getD (nameOf t) k 0 ⌝ }
+{
+    let span = span_of(t);
+    let start = span.start;
+    if k < span.len { NAMES[start + k] } else { 0 }
 }
