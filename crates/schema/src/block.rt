@@ -2,7 +2,7 @@
 ghost use mathlib.Core.Path.{_≡_};
 ghost use Prim.Native.Nat.{ℕ, _+_, _*_, _≤_};
 ghost use lib.ListN.{length};
-ghost use Rattle.rules.specs.Block.{nodeAt, nameOk, childrenOk, recordOk, blockOk, Ordered, depthOf};
+ghost use Rattle.rules.specs.Block.{nodeAt, spanOk, nameOk, childrenOk, recordOk, blockOk, Ordered, depthOf};
 use rules::Node;
 
 // The record of node i.
@@ -21,8 +21,18 @@ pub fn node_at(s: &[u8], i: u64) -> Node
     }
 }
 
-// An unnamed record has no span, and a named one's lies in the store. The sum of start and length is not made: it is
-// compared with what the store has left.
+// A span lies in what has so many bytes or records. The sum is not made, since it could wrap: the length is compared with
+// what is left behind the start.
+pub fn span_ok(start: u64, len: u64, size: u64) -> bool
+    ensures { λ r. ⌜ r ≡ spanOk start len size ⌝ }
+{
+    if start <= size {
+        return len <= size - start;
+    }
+    false
+}
+
+// An unnamed record has no span, and a named one's lies in the store.
 fn name_ok(n: Node, store: u64) -> bool
     ensures { λ r. ⌜ r ≡ nameOk n store ⌝ }
 {
@@ -36,9 +46,7 @@ fn name_ok(n: Node, store: u64) -> bool
         return false;
     }
     if named == 1 {
-        if start <= store {
-            return len <= store - start;
-        }
+        return span_ok(start, len, store);
     }
     false
 }

@@ -3,7 +3,7 @@ ghost use mathlib.Core.Path.{_≡_};
 ghost use Prim.Native.Nat.{ℕ, _+_, _*_, _^_, _≤_, _<_};
 ghost use lib.ListN.{length};
 ghost use Rattle.rules.specs.Wire.{form, maximum};
-ghost use Rattle.rules.specs.Block.{Closed};
+ghost use Rattle.rules.specs.Block.{records, Closed};
 ghost use Rattle.rules.specs.SchemaRules.{nodeRule, schemaRule, notTuple, rootRule, nameRule, tableRule};
 use rules::Checked;
 use rules::Children;
@@ -48,7 +48,7 @@ fn node_rule(place: u64, n: Node) -> Checked
 // The first refusal in preorder: a node before its children, its children in order. `base` is the block's first record in
 // the table, so that a place is a record of the table.
 pub fn validate(s: &[u8], base: u64, depth: u64, i: u64) -> Checked
-    requires { ⌜ Closed (now s) × (i * 16 + 16 ≤ length (now s)) × (base + length (now s) < 2 ^ 63) ⌝ }
+    requires { ⌜ Closed (now s) × (i * 16 + 16 ≤ length (now s)) × (base + records (now s) < 2 ^ 64) ⌝ }
     ensures { λ r. ⌜ r ≡ schemaRule (now (s .entry)) base depth i ⌝ }
 {
     if depth == 0 {
@@ -108,7 +108,7 @@ fn name_rule(place: u64, index: u64, n: Node) -> Checked
 
 // A table's root is a tuple, and each of its direct children has a name.
 pub fn check_root(s: &[u8], base: u64, purpose: Purpose) -> Checked
-    requires { ⌜ Closed (now s) × (16 ≤ length (now s)) × (base + length (now s) < 2 ^ 63) ⌝ }
+    requires { ⌜ Closed (now s) × (16 ≤ length (now s)) × (base + records (now s) < 2 ^ 64) ⌝ }
     ensures { λ r. ⌜ r ≡ tableRule purpose (now (s .entry)) base ⌝ }
 {
     let root = super::block::node_at(s, 0);
