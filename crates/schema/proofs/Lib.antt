@@ -1,7 +1,5 @@
-pub mod Turns
-pub mod Columns
-pub mod Parts
-pub mod Lookups
-pub mod Forms
-pub mod Tables
 pub mod Sizes
+pub mod Lookups
+pub mod Given
+pub mod Tables
+pub mod Accepted

@@ -21,9 +21,10 @@ use Rattle.rules.specs.declared.Checked.the-variants.{Accepted, Refused}
 use Rattle.rules.specs.declared.Located.{Located}
 use Rattle.rules.specs.declared.Located.the-variants.{Block, NoTable, NoEntry}
 use Rattle.rules.proofs.Tests.{and-both}
-use Rattle.schema.specs.Slices.{slices, entriesRule, Sound, Forms}
+use Rattle.flat.specs.Sound.{Sound}
+use Rattle.schema.specs.Slices.{slices, entriesRule, Forms}
 use Rattle.schema.proofs.Lookups.{lookup-in}
-use Rattle.schema.proofs.Forms.{forms-is, entries-sound, entries-named, inline-sound, references-named}
+use Rattle.schema.proofs.Given.{forms-is, entries-sound, entries-named, inline-sound, references-named}
 
 -- what the test of the forms gives
 pub forms : (table names references registry : List ℕ) → formsOk (slices table names references registry) ≡ true → Forms (slices table names references registry)
@@ -72,3 +73,8 @@ table-turn f t r e = let z : 0 + t ≡ t = omega arith in rw z e
 pub rules-is : (table names references registry : List ℕ) → rulesOrder (slices table names references registry) ≡ pick (eqb (records references) 0) (Refused EmptyTableSchemas) (entriesRule table registry then inOrder (referenceRule (slices table names references registry)) 0 (records references))
 unfolding rulesOrder entryRule
 rules-is table names references registry = refl
+
+-- where a table's schema stands does not depend on the record table
+pub any-table : (table names references registry : List ℕ) (t : ℕ) → tableSchema (slices table names references registry) t ≡ tableSchema (slices [] names references registry) t
+unfolding tableSchema
+any-table table names references registry t = refl

@@ -8,9 +8,10 @@ use mathlib.Core.List.{List, []}
 use lib.ListN.{length}
 use Rattle.rules.specs.Choice.{all}
 use Rattle.rules.specs.Refusals.{inOrder}
-use Rattle.rules.specs.Block.{records, block, Ordered}
+use Rattle.rules.specs.Block.{records}
 use Rattle.rules.specs.Format.{Format, entryAt, referenceAt, entryOk, referenceFormOk, entryDepthOk, referenceDepthOk, entryRule}
 use Rattle.rules.specs.declared.Checked.{Checked}
+use Rattle.flat.specs.Sound.{Sound}
 
 abbrev pub slices : List ℕ → List ℕ → List ℕ → List ℕ → Format
 slices table names references registry = record { table = table; names = names; references = references; registry = registry }
@@ -33,11 +34,6 @@ abbrev pub entriesRule : List ℕ → List ℕ → Checked
 entriesRule table registry = inOrder (entryRule (slices table [] [] registry)) 0 (records registry)
 
 -- ---- what the forms give
-
--- a block that lies in the table, in level order
-pub record Sound (table : List ℕ) (first n : ℕ) : Type 0 where
-  pub within : first + n ≤ records table
-  pub order : Ordered (block table first n)
 
 -- the blocks of the registry, and the inline ones
 abbrev pub EntriesSound : List ℕ → List ℕ → Type 0

@@ -1,22 +1,22 @@
-// The schema side: which blocks of records have the form of a schema, which schemas and formats the rules accept, and why
-// the others are refused. Each call answers what the rules answer, on every input.
+// The schema side: which schemas and formats the rules accept, and why the others are refused. Each call answers what the
+// rules answer, on every input.
 ghost use mathlib.Core.Path.{_≡_};
 ghost use Rattle.rules.specs.Format.{oneBlock, schemaAnswer, encoderRules, encoderRule, formatRules, formatRule};
 ghost use Rattle.rules.specs.declared.Checked.the-variants.{Accepted};
 ghost use Rattle.schema.specs.Slices.{slices};
 
-pub mod block;
+pub mod depths;
 pub mod format;
-pub mod validation;
+pub mod forms;
+pub mod order;
 
-use block::block_ok;
-use format::block_depth_ok;
-use format::block_form_ok;
-use format::block_root;
-use format::block_rule;
-use format::depths_ok;
-use format::forms_ok;
-use format::rules_order;
+use depths::depths_ok;
+use flat::table::block_depth_ok;
+use flat::table::block_form_ok;
+use flat::table::block_root;
+use flat::table::block_rule;
+use forms::forms_ok;
+use order::rules_order;
 use rules::Checked;
 use rules::Purpose;
 use rules::Refusal;

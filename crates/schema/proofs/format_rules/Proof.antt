@@ -3,7 +3,7 @@ use mathlib.Core.Path.{sym, _∙_}
 use borrow.Author.Tests.{not-true, not-false}
 use Rattle.rules.specs.Choice.{pick}
 use Rattle.rules.specs.Format.{formatRules}
-use Rattle.schema.proofs.Forms.{depths-any}
+use Rattle.schema.proofs.Given.{depths-any}
 use Rattle.schema.proofs.Tables.{forms}
 use Rattle.schema.proofs.format_rules.Statement.{statement}
 use Rattle.schema.proofs.format_rules.Tie as tie
