@@ -8,3 +8,4 @@ pub mod Agree
 pub mod Honest
 pub mod TableRows
 pub mod Decoding
+pub mod Running
