@@ -1,3 +1,6 @@
 pub mod Stands
 pub mod Records
 pub mod Sizes
+pub mod Codes
+pub mod Span
+pub mod Parse
