@@ -1,10 +1,9 @@
 -- What the form of a wire code says of the code.
 -- Assumes nothing.
-use Prim.Native.Nat.{ℕ, zero, suc, _+_, _≤_, _<_}
-use mathlib.Core.Path.{_≡_, refl, sym, ap, _∙_}
+use Prim.Native.Nat.{ℕ, zero, suc, _≤_, _<_}
+use mathlib.Core.Path.{_≡_, refl}
 use mathlib.Core.Bool.{Bool, true, false}
 use mathlib.Core.List.{List, [], _∷_}
-use mathlib.Core.Logic.{_⊎_, inl, inr, ⊎-elim}
 use native.Mathlib.Omega.{arith}
 use borrow.Author.Tests.{ltb-true, leb-true, eqb-true, ltb-false}
 use lib.ListN.{length}
@@ -12,7 +11,7 @@ use lib.Dec.{ltb, leb, eqb}
 use Rattle.rules.specs.Choice.{_and_, all}
 use Rattle.rules.specs.Wire.{Form, empty, truth, fixed, raw, sized, choice, series, fields, unknown, form, written, writtenIf, typeOf, typeIn, wireTypes}
 use Rattle.rules.specs.declared.WireType.{WireType}
-use Rattle.rules.specs.declared.Known.the-variants.{Wire, Unknown}
+use Rattle.rules.specs.declared.Known.the-variants.{Unknown}
 use Rattle.rules.proofs.Tests.{all-each, and-both}
 
 -- only code 0 has no bytes, only 1 is a truth value; numbers have at most eight bytes; scalars and blobs are codes below 15

@@ -4,3 +4,4 @@ pub mod Sizes
 pub mod Codes
 pub mod Span
 pub mod Parse
+pub mod Flat

@@ -1,19 +1,19 @@
 -- What the rule of value tables accepts is the table of the value that it answers.
 -- Assumes nothing.
-use Prim.Native.Nat.{ℕ, zero, suc, _+_, _*_, _/_, _%_, _^_, _≤_, _<_, max}
+use Prim.Native.Nat.{ℕ, zero, suc, _+_, _*_, _%_, _^_, _≤_, _<_}
 use mathlib.Core.Path.{_≡_, refl, sym, ap, _∙_}
 use mathlib.Core.Bool.{Bool, true, false}
-use mathlib.Core.List.{List, [], _∷_, _++_}
+use mathlib.Core.List.{List, []}
 use native.Mathlib.Omega.{arith}
 use borrow.Author.Tests.{ltb-true, leb-true, eqb-true}
 use lib.ListN.{length}
-use lib.Dec.{ltb, leb, eqb}
-use Rattle.rules.specs.Choice.{pick, _and_}
-use Rattle.rules.specs.Bytes.{Stands, part, leAt}
+use lib.Dec.{ltb, eqb}
+use Rattle.rules.specs.Choice.{pick}
+use Rattle.rules.specs.Bytes.{Stands, part}
 use Rattle.rules.specs.Wire.{Form, empty, truth, fixed, raw, sized, choice, series, fields, unknown, form}
 use Rattle.rules.specs.Block.{records}
-use Rattle.rules.specs.Value.{Value, nothing, boolean, number, wide, blob, variant, repeated, tuple, Items, done, item, Values, none, more, items, values, tall, tallI, tallV, Fits, FitsI, FitsV, payloadOf}
-use Rattle.rules.specs.ValueTable.{valueRecord, bit, pays, paysI, paysV, flat, flatI, flatV, TableOf, Spot, Parsed, Whole, Broken, _>>=_, Kind, scalar, one, list, row, other, kindOf, isRecord, kindAt, tagAt, sizeAt, dataAt, next, past, scalarAt, itemsAt, valuesAt, nodeOf, valueAt, exactly, tableValue}
+use Rattle.rules.specs.Value.{Value, variant, repeated, tuple, Items, done, Values, none, more, items, values, tall, tallI, tallV, Fits, FitsI, FitsV, payloadOf}
+use Rattle.rules.specs.ValueTable.{valueRecord, bit, pays, paysI, paysV, flat, flatI, flatV, TableOf, Spot, Parsed, Whole, Broken, _>>=_, Kind, scalar, one, list, row, other, kindOf, isRecord, kindAt, tagAt, sizeAt, dataAt, next, scalarAt, itemsAt, valuesAt, nodeOf, valueAt, exactly, tableValue}
 use Rattle.rules.proofs.Tests.{and-both}
 use Rattle.values.proofs.Stands.{length-part, part-stands, stands-fits, stands-whole}
 use Rattle.values.proofs.Records.{length-record, is-record, size-stands}

@@ -1,21 +1,20 @@
 -- A value record: its sixteen bytes, the test for it, and its fields read back.
 -- Assumes nothing.
-use Prim.Native.Nat.{ℕ, zero, suc, _+_, _-_, _*_, _^_, _≤_, _<_, _/_, _%_}
-use mathlib.Core.Path.{_≡_, refl, sym, ap, _∙_}
+use Prim.Native.Nat.{ℕ, _+_, _*_}
+use mathlib.Core.Path.{_≡_, refl}
 use mathlib.Core.Bool.{Bool, true, false}
 use mathlib.Core.List.{List, [], _∷_, _++_}
 use mathlib.Core.Logic.{_↔_}
-use native.Mathlib.Omega.{arith}
 use native.Mathlib.Nat.{add-assoc}
 use borrow.Author.Tests.{le-leb, leb-true, eqb-true, eq-eqb}
 use lib.ListN.{length, getD, length-append}
-use lib.Dec.{leb, ltb, eqb}
-use Rattle.rules.specs.Choice.{pick, _and_}
-use Rattle.rules.specs.Bytes.{le, leAt, part, Stands, order, isEqual}
+use lib.Dec.{ltb, eqb}
+use Rattle.rules.specs.Choice.{pick}
+use Rattle.rules.specs.Bytes.{le, part, Stands, order, isEqual}
 use Rattle.rules.specs.ValueTable.{valueRecord, isRecord}
 use Rattle.rules.specs.declared.Order.the-variants.{Less, Greater}
 use Rattle.rules.proofs.Tests.{and-both, and-true}
-use Rattle.values.proofs.Stands.{length-le, stands-in, stands-left, stands-right, stands-part, part-stands, stands-le, stands-fits}
+use Rattle.values.proofs.Stands.{length-le, stands-in, stands-left, stands-right, stands-part, part-stands}
 
 -- equal strings are the same string
 pub order-same : (xs ys : List ℕ) → isEqual (order xs ys) ≡ true → xs ≡ ys

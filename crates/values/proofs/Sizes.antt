@@ -1,8 +1,8 @@
 -- How long the table of a value is: sixteen bytes for each record, and its payload bytes.
 -- Assumes nothing.
-use Prim.Native.Nat.{ℕ, zero, suc, _+_, _*_}
-use mathlib.Core.Path.{_≡_, refl, sym, ap, _∙_}
-use mathlib.Core.List.{List, [], _∷_, _++_}
+use Prim.Native.Nat.{ℕ, _+_, _*_, _≤_}
+use mathlib.Core.Path.{_≡_, refl, _∙_}
+use mathlib.Core.List.{List, _++_}
 use native.Mathlib.Omega.{arith}
 use lib.ListN.{length, length-append}
 use Rattle.rules.specs.Value.{Value, nothing, boolean, number, wide, blob, variant, repeated, tuple, Items, done, item, Values, none, more, items, values, tally, tallyI, tallyV, recordsOf, payloadOf}
@@ -64,3 +64,26 @@ mutual
   pub length-flatV : (vs : Values) (p : ℕ) → length (flatV vs p) ≡ 16 * tallyV vs 1 0 0
   length-flatV none p = refl
   length-flatV (more v vs) p = beside (flat v 0 p) (flatV vs (p + payloadOf v)) (recordsOf v) (tallyV vs 1 0 0) (length-flat v 0 p) (length-flatV vs (p + payloadOf v))
+
+-- a value has a record
+pub one-record : (v : Value) → 1 ≤ recordsOf v
+unfolding recordsOf tally
+one-record nothing = omega arith
+one-record (boolean x) = omega arith
+one-record (number k x) = omega arith
+one-record (wide k x) = omega arith
+one-record (blob k x) = omega arith
+one-record (variant t v) = omega arith
+one-record (repeated is) = omega arith
+one-record (tuple vs) = omega arith
+
+-- so there are no more children than records
+pub items-within : (is : Items) → items is ≤ tallyI is 1 0 0
+unfolding items tallyI recordsOf
+items-within done = omega arith
+items-within (item t v is) = omega (arith, one-record v, items-within is)
+
+pub values-within : (vs : Values) → values vs ≤ tallyV vs 1 0 0
+unfolding values tallyV recordsOf
+values-within none = omega arith
+values-within (more v vs) = omega (arith, one-record v, values-within vs)

@@ -1,10 +1,9 @@
 -- From one spot of a value table to another, over records and payload bytes that stand there.
 -- Assumes nothing.
-use Prim.Native.Nat.{ℕ, zero, suc, _+_, _*_, _≤_, _<_}
-use mathlib.Core.Path.{_≡_, refl, sym, ap, _∙_}
-use mathlib.Core.List.{List, [], _∷_, _++_}
+use Prim.Native.Nat.{ℕ, _+_, _*_, _≤_}
+use mathlib.Core.Path.{_≡_, refl}
+use mathlib.Core.List.{List, [], _++_}
 use native.Mathlib.Omega.{arith}
-use native.Mathlib.Nat.{add-zero}
 use lib.ListN.{length, length-append}
 use Rattle.rules.specs.Bytes.{Stands, le}
 use Rattle.rules.specs.Value.{Value, nothing, boolean, number, wide, blob, variant, repeated, tuple, items, values}
@@ -28,24 +27,24 @@ module _ (table store : List ℕ) where
     from-end = rw (length-append x y) (omega (arith, s .from-end, t .from-end));
   }
 
-  -- where n records and some payload bytes after p end
-  abbrev pub onward : ℕ → List ℕ → Spot → Spot
-  onward n x p = record { at = p .at + n; from = p .from + length x }
+  -- n records and m payload bytes further
+  abbrev pub onward : ℕ → ℕ → Spot → Spot
+  onward n m p = record { at = p .at + n; from = p .from + m }
 
-  pub left : {p r : Spot} (a b x y : List ℕ) (n : ℕ) → length a ≡ 16 * n → Span p r (a ++ b) (x ++ y) → Span p (onward n x p) a x
-  left {p} {r} a b x y n l s = record {
+  pub left : {p r : Spot} (a b x y : List ℕ) (n m : ℕ) → length a ≡ 16 * n → length x ≡ m → Span p r (a ++ b) (x ++ y) → Span p (onward n m p) a x
+  left {p} {r} a b x y n m l k s = record {
     rows-stand = stands-left table (p .at * 16) a b (s .rows-stand);
     payload-stands = stands-left store (p .from) x y (s .payload-stands);
     at-end = rw l (omega arith);
-    from-end = refl;
+    from-end = rw k;
   }
 
-  pub right : {p r : Spot} (a b x y : List ℕ) (n : ℕ) → length a ≡ 16 * n → Span p r (a ++ b) (x ++ y) → Span (onward n x p) r b y
-  right {p} {r} a b x y n l s =
+  pub right : {p r : Spot} (a b x y : List ℕ) (n m : ℕ) → length a ≡ 16 * n → length x ≡ m → Span p r (a ++ b) (x ++ y) → Span (onward n m p) r b y
+  right {p} {r} a b x y n m l k s =
       let e : p .at * 16 + length a ≡ (p .at + n) * 16 = rw l (omega arith) in
       record {
         rows-stand = rw e at (stands-right table (p .at * 16) a b (s .rows-stand));
-        payload-stands = stands-right store (p .from) x y (s .payload-stands);
+        payload-stands = rw k at (stands-right store (p .from) x y (s .payload-stands));
         at-end = omega (arith, rw (length-append a b) at (s .at-end));
         from-end = omega (arith, rw (length-append x y) at (s .from-end));
       }
@@ -87,12 +86,24 @@ module _ (table store : List ℕ) where
   unfolding Stands
   no-span p l = record { rows-stand = l .rows-in; payload-stands = l .payload-in; at-end = omega arith; from-end = omega arith }
 
-  -- a span over one record ends at the next
+  -- what follows a record
+  pub rest-span : {p q : Spot} (kind tag n x : ℕ) (rest payload : List ℕ) → Span p q (valueRecord kind tag n x ++ rest) payload → Span (next table store p) q rest payload
+  rest-span {p} {q} kind tag n x rest payload s =
+      let z : p .from + 0 ≡ p .from = omega arith in
+      rw z at (right (valueRecord kind tag n x) rest [] payload 1 0 (length-record kind tag n x) refl s)
+
+  -- a span is over its bytes, so its ends are one if it is over none, and a record apart if it is over one
+  pub same-spot : {p q : Spot} → q .at ≡ p .at → q .from ≡ p .from → q ≡ p
+  same-spot a b = λ i. record { at = a i; from = b i }
+
   pub lands : {p q : Spot} (kind tag n x : ℕ) (payload : List ℕ) → Span p q (valueRecord kind tag n x) payload → q ≡ past table store (length payload) p
-  lands {p} {q} kind tag n x payload s =
-      let a : q .at ≡ p .at + 1 = omega (arith, rw (length-record kind tag n x) at (s .at-end)) in
-      let b : q .from ≡ p .from + length payload = s .from-end in
-      λ i. record { at = a i; from = b i }
+  lands {p} {q} kind tag n x payload s = same-spot {p = past table store (length payload) p} (omega (arith, rw (length-record kind tag n x) at (s .at-end))) (s .from-end)
+
+  pub lands-next : {p q : Spot} (kind tag n x : ℕ) → Span p q (valueRecord kind tag n x) [] → q ≡ next table store p
+  lands-next {p} {q} kind tag n x s = same-spot {p = next table store p} (omega (arith, rw (length-record kind tag n x) at (s .at-end))) (omega (arith, s .from-end))
+
+  pub lands-here : {p q : Spot} → Span p q [] [] → q ≡ p
+  lands-here {p} {q} s = same-spot (omega (arith, s .at-end)) (omega (arith, s .from-end))
 
   -- a value's first record bears the tag by which it was chosen
   pub bears : (v : Value) (at tag p : ℕ) → Stands table at (flat v tag p) → Stands table (at + 2) (le 2 tag)

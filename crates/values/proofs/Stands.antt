@@ -1,11 +1,11 @@
 -- Bytes that stand at a place of a list, and numbers among them, over the width.
 -- Assumes nothing.
-use Prim.Native.Nat.{ℕ, zero, suc, _+_, _-_, _*_, _^_, _≤_, _<_, _/_, _%_}
+use Prim.Native.Nat.{ℕ, zero, suc, _+_, _^_, _≤_, _<_, _/_}
 use mathlib.Core.Path.{_≡_, refl, sym, ap, _∙_}
 use mathlib.Core.List.{List, [], _∷_, _++_}
 use native.Mathlib.Omega.{arith}
-use native.Mathlib.Nat.{add-zero, zero-add}
-use lib.ListN.{length, getD, length-append}
+use native.Mathlib.Nat.{add-zero}
+use lib.ListN.{length, length-append}
 use lib.Seq.{getD-append-seam, append-snoc}
 use Rattle.rules.specs.Bytes.{le, leAt, part, Stands}
 
