@@ -5,3 +5,4 @@ pub mod Codes
 pub mod Span
 pub mod Parse
 pub mod Flat
+pub mod Written
