@@ -15,15 +15,15 @@ use Rattle.rules.specs.declared.WireType.{WireType}
 use Rattle.rules.specs.declared.Known.the-variants.{Unknown}
 use Rattle.rules.proofs.Tests.{all-each, and-both}
 
--- only code 0 has no bytes, only 1 is a truth value; numbers have at most eight bytes; scalars and blobs are codes below 15
+-- only code 0 has no bytes, only 1 is a truth value; numbers have at most eight bytes, tags two; scalars and blobs are codes below 15
 unfoldable codeOk : Form → ℕ → Bool
 codeOk empty k = eqb k 0
 codeOk truth k = eqb k 1
 codeOk (fixed w) k = ltb k 15 and leb w 8
 codeOk (raw w) k = ltb k 15
 codeOk sized k = ltb k 15
-codeOk (choice w) k = true
-codeOk (series w) k = true
+codeOk (choice w) k = leb w 2
+codeOk (series w) k = leb w 2
 codeOk fields k = true
 codeOk unknown k = true
 
@@ -60,6 +60,14 @@ raw-code k w e = ltb-true k 15 (rw e at (code-ok k))
 pub sized-code : (k : ℕ) → form k ≡ sized → k < 15
 unfolding codeOk
 sized-code k e = ltb-true k 15 (rw e at (code-ok k))
+
+pub choice-width : (k w : ℕ) → form k ≡ choice w → w ≤ 2
+unfolding codeOk
+choice-width k w e = leb-true w 2 (rw e at (code-ok k))
+
+pub series-width : (k w : ℕ) → form k ≡ series w → w ≤ 2
+unfolding codeOk
+series-width k w e = leb-true w 2 (rw e at (code-ok k))
 
 -- ---- which codes take a value of a kind
 

@@ -5,4 +5,7 @@ pub mod Codes
 pub mod Span
 pub mod Parse
 pub mod Flat
+pub mod Says
 pub mod Written
+pub mod Honest
+pub mod Conform

@@ -2,11 +2,10 @@
 -- Assumes nothing.
 use Prim.Native.Nat.{ℕ, zero, suc, _+_, _<_}
 use mathlib.Core.Path.{_≡_, refl, sym, ap, _∙_}
-use mathlib.Core.Bool.{Bool, true, false}
 use mathlib.Core.List.{List, _++_}
 use mathlib.Core.Logic.{_↔_}
 use native.Mathlib.Omega.{arith}
-use borrow.Author.Tests.{lt-ltb, le-leb, eq-eqb, leb-true, ltb-true, eqb-true}
+use borrow.Author.Tests.{lt-ltb, le-leb, eq-eqb, leb-true, eqb-true}
 use lib.ListN.{length}
 use Rattle.rules.specs.Choice.{pick}
 use Rattle.rules.specs.Bytes.{le}
@@ -16,34 +15,9 @@ use Rattle.rules.specs.Block.{nodeAt, Denotes, denotes, DenoteAll, no-node, a-n
 use Rattle.rules.specs.Value.{Value, nothing, boolean, number, wide, blob, variant, repeated, tuple, Items, done, item, Values, none, more, values, recordsOf, Within, WithinI, WithinV, Fits, FitsI, FitsV}
 use Rattle.rules.specs.Grammar.{Conforms, conforms, Suits, s-nothing, s-boolean, s-number, s-wide, s-blob, s-variant, s-repeated, s-tuple, SuitI, s-done, s-item, SuitV, s-none, s-more, formOf, childrenOf, bytesV, bytesI, bytesF, encoded, encodedRow}
 use Rattle.rules.specs.Walk.{Limits, blobLimit}
-use Rattle.rules.specs.Writing.{Wrote, Put, Refused, _>>=_, kindFor, fitting, tagged, write, writeI, writeV, writeRow}
-use Rattle.rules.specs.declared.Refusal.{Refusal}
+use Rattle.rules.specs.Writing.{Wrote, Put, _>>=_, kindFor, fitting, tagged, write, writeI, writeV, writeRow}
+use Rattle.values.proofs.Says.{Any, Says, puts, refuses, then, either, put, fits, tags}
 use Rattle.values.proofs.Codes.{empty-code, truth-code, plain, scalar-taken, nothing-taken, boolean-taken, variant-taken, repeated-taken, tuple-taken}
-
--- bytes have the property P, a refusal the property R
-pub data Says (P : List ℕ → Type 0) (R : Refusal → Type 0) : Wrote → Type 0 where
-  puts : {b : List ℕ} → P b → Says P R (Put b)
-  refuses : {r : Refusal} → R r → Says P R (Refused r)
-
-pub then : {P Q : List ℕ → Type 0} {R : Refusal → Type 0} {x : Wrote} {k : List ℕ → Wrote} → Says P R x → ((b : List ℕ) → P b → Says Q R (k b)) → Says Q R (x >>= k)
-unfolding _>>=_
-then (puts {b = b} h) f = f b h
-then (refuses h) f = refuses h
-
-pub either : {P : List ℕ → Type 0} {R : Refusal → Type 0} {x y : Wrote} (t : Bool) → (t ≡ true → Says P R x) → (t ≡ false → Says P R y) → Says P R (pick t x y)
-unfolding pick
-either true f g = f refl
-either false f g = g refl
-
-pub put : {P : List ℕ → Type 0} {R : Refusal → Type 0} {b : List ℕ} → Says P R (Put b) → P b
-put (puts h) = h
-
-pub refused : {P : List ℕ → Type 0} {R : Refusal → Type 0} {r : Refusal} → Says P R (Refused r) → R r
-refused (refuses h) = h
-
--- any refusal
-Any : Refusal → Type 0
-Any r = Unit
 
 module _ (sch store : List ℕ) where
   pub denote-count : {j n : ℕ} {ss : Schemas} → DenoteAll sch store j n ss → count ss ≡ n
@@ -79,14 +53,6 @@ record FairV (lim : Limits) (ss : Schemas) (vs : Values) (b : List ℕ) : Type 0
   bytes : b ≡ bytesF vs ss
 
 module _ (sch store : List ℕ) (lim : Limits) where
-  fits : {P : List ℕ → Type 0} {w : Wrote} (kind i r : ℕ) → (kind ≡ kindFor (nodeAt sch i .code) (form (nodeAt sch i .code)) → Says P Any w) → Says P Any (fitting sch lim kind i r w)
-  unfolding fitting Any
-  fits kind i r f = either _ (λ e. f (eqb-true kind (kindFor (nodeAt sch i .code) (form (nodeAt sch i .code))) e)) (λ e. refuses tt)
-
-  tags : {P : List ℕ → Type 0} {w : Wrote} (t i r : ℕ) → (t < nodeAt sch i .children → Says P Any w) → Says P Any (tagged sch lim t i r w)
-  unfolding tagged Any
-  tags t i r f = either _ (λ e. f (ltb-true t (nodeAt sch i .children) e)) (λ e. refuses tt)
-
   -- the pairs of a repeated node, and the children of a tuple
   items-fair : (k : ℕ) (ss : Schemas) (is : Items) {m : Name} {w : Wrote} → 16 ≡ kindFor k (form k) → Says (FairI lim (widthOf (form k)) ss is) Any w → Says (Fair lim (node k m ss) (repeated is)) Any w
   unfolding encoded bytesV formOf childrenOf Within
@@ -106,34 +72,34 @@ module _ (sch store : List ℕ) (lim : Limits) where
     unfolding write Within encoded bytesV formOf childrenOf Fits values plain Any
 
     write-fair : (v : Value) (i r : ℕ) {s : Schema} → Denotes sch store i s → Fits v → Says (Fair lim s v) Any (write sch lim v i r)
-    write-fair nothing i r (denotes {k = k} {ss = ss} l e m a) h = fits 0 i r (λ q.
+    write-fair nothing i r (denotes {k = k} {ss = ss} l e m a) h = fits sch lim 0 i r (λ n. tt) (λ q.
         let z : Suits (form k) k ss nothing = rw (nothing-taken k (rw e at q)) s-nothing in
         puts (record { conforms = conforms z; within = tt; bytes = refl }))
-    write-fair (boolean x) i r (denotes {k = k} {ss = ss} l e m a) h = fits 1 i r (λ q.
+    write-fair (boolean x) i r (denotes {k = k} {ss = ss} l e m a) h = fits sch lim 1 i r (λ n. tt) (λ q.
         let z : Suits (form k) k ss (boolean x) = rw (boolean-taken k (rw e at q)) s-boolean in
         puts (record { conforms = conforms z; within = tt; bytes = refl }))
-    write-fair (number c x) i r (denotes {k = k} {ss = ss} l e m a) h = fits c i r (λ q.
+    write-fair (number c x) i r (denotes {k = k} {ss = ss} l e m a) h = fits sch lim c i r (λ n. tt) (λ q.
         let z : Suits (form k) k ss (number c x) = rw (scalar-taken c k (rw (h .1 .0)) (rw e at q), h .1 .0) s-number in
         puts (record { conforms = conforms z; within = tt; bytes = rw e }))
-    write-fair (wide c x) i r (denotes {k = k} {ss = ss} l e m a) h = fits c i r (λ q.
+    write-fair (wide c x) i r (denotes {k = k} {ss = ss} l e m a) h = fits sch lim c i r (λ n. tt) (λ q.
         let z : Suits (form k) k ss (wide c x) = rw (scalar-taken c k (rw h) (rw e at q), h) s-wide in
         puts (record { conforms = conforms z; within = tt; bytes = refl }))
-    write-fair (blob c x) i r (denotes {k = k} {ss = ss} l e m a) h = fits c i r (λ q.
+    write-fair (blob c x) i r (denotes {k = k} {ss = ss} l e m a) h = fits sch lim c i r (λ n. tt) (λ q.
         let z : Suits (form k) k ss (blob c x) = rw (scalar-taken c k (rw (h .0)) (rw e at q), h .0) s-blob in
         either _ (λ n. puts (record { conforms = conforms z; within = leb-true (length x) (blobLimit lim c) n; bytes = refl })) (λ n. refuses tt))
-    write-fair (variant t v) i r (denotes {k = k} {ss = ss} l e m a) h = fits 15 i r (λ q. tags t i (r + 1) (λ n.
+    write-fair (variant t v) i r (denotes {k = k} {ss = ss} l e m a) h = fits sch lim 15 i r (λ n. tt) (λ q. tags sch lim t i (r + 1) (λ n. tt) (λ n.
         let lt : t < count ss = rw (denote-count sch store a) n in
         then (write-fair v (nodeAt sch i .first + t) (r + 1) (denote-child sch store a t n) (h .1)) (λ x y.
         let z : Suits (form k) k ss (variant t v) = rw (variant-taken k (rw e at q)) (s-variant lt (y .conforms)) in
         puts (record { conforms = conforms z; within = y .within; bytes = rw (e, y .bytes) }))))
-    write-fair (repeated is) i r (denotes {k = k} {ss = ss} l e m a) h = fits 16 i r (λ q.
+    write-fair (repeated is) i r (denotes {k = k} {ss = ss} l e m a) h = fits sch lim 16 i r (λ n. tt) (λ q.
         items-fair k ss is (rw e at q) (writeI-fair is i (r + 1) k e a h))
-    write-fair (tuple vs) i r (denotes {k = k} {ss = ss} l e m a) h = fits 17 i r (λ q.
+    write-fair (tuple vs) i r (denotes {k = k} {ss = ss} l e m a) h = fits sch lim 17 i r (λ n. tt) (λ q.
         either _ (λ n. values-fair k ss vs (rw e at q) (writeV-fair vs (nodeAt sch i .first) (r + 1) a (eqb-true (values vs) (nodeAt sch i .children) n) h)) (λ n. refuses tt))
 
     writeI-fair : (is : Items) (i r k : ℕ) {ss : Schemas} → nodeAt sch i .code ≡ k → DenoteAll sch store (nodeAt sch i .first) (nodeAt sch i .children) ss → FitsI is → Says (FairI lim (widthOf (form k)) ss is) Any (writeI sch lim is i r)
     writeI-fair done i r k e a h = rw e (puts (record { suits = s-done; within = tt; bytes = refl }))
-    writeI-fair (item t v is) i r k {ss = ss} e a h = tags t i r (λ n.
+    writeI-fair (item t v is) i r k {ss = ss} e a h = tags sch lim t i r (λ n. tt) (λ n.
         let lt : t < count ss = rw (denote-count sch store a) n in
         then (write-fair v (nodeAt sch i .first + t) r (denote-child sch store a t n) (h .1 .0)) (λ x y.
         then (writeI-fair is i (r + recordsOf v) k e a (h .1 .1)) (λ u z.
