@@ -6,3 +6,4 @@ pub mod Rules
 pub mod Trees
 pub mod Honest
 pub mod Roots
+pub mod Good
