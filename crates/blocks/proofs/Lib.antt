@@ -7,3 +7,4 @@ pub mod Trees
 pub mod Honest
 pub mod Roots
 pub mod Good
+pub mod Lookup
