@@ -1,24 +1,21 @@
 -- One block of the record table by itself: what the check of a schema and the encoder's check accept.
 -- Assumes nothing.
 use Prim.Native.Nat.{ℕ, _+_, _%_, _≤_}
-use mathlib.Core.Path.{_≡_, refl}
-use mathlib.Core.Bool.{Bool, true, false}
+use mathlib.Core.Path.{_≡_}
 use mathlib.Core.List.{List}
 use mathlib.Core.Logic.{_↔_}
 use borrow.Author.Tests.{leb-true, eqb-true, le-leb, eq-eqb}
 use lib.ListN.{length}
-use Rattle.rules.specs.Choice.{pick}
 use Rattle.rules.specs.Refusals.{_then_}
 use Rattle.rules.specs.Schema.{deep, Valid, TableRoot}
 use Rattle.rules.specs.Block.{records, block, Formed, treeAt, blockTree, depthOf, Ordered}
 use Rattle.rules.specs.SchemaRules.{tableRule}
 use Rattle.rules.specs.Format.{blockFormOk, blockDepthOk, blockRule, oneBlock, schemaAnswer, encoderRules, encoderRule}
-use Rattle.rules.specs.declared.Refusal.{Refusal}
 use Rattle.rules.specs.declared.Purpose.{Purpose}
-use Rattle.rules.specs.declared.Checked.{Checked}
-use Rattle.rules.specs.declared.Checked.the-variants.{Accepted, Refused}
+use Rattle.rules.specs.declared.Checked.the-variants.{Accepted}
 use Rattle.rules.proofs.Tests.{and-both, and-true}
 use Rattle.rules.proofs.Checks.{then-both, pick-accepted}
+use Rattle.blocks.proofs.Turns.{then-accepted, accepted-pick, pick-then, Passes, in-turn}
 use Rattle.blocks.proofs.Form.{formed}
 use Rattle.blocks.proofs.Levels.{block-denotes}
 use Rattle.blocks.proofs.Trees.{denotes-tree, same-depth}
@@ -44,56 +41,34 @@ pub record GoodTable (table names : List ℕ) (first n : ℕ) : Type 0 where
   pub schema : GoodSchema table names first n
   pub root : TableRoot (blockTree (block table first n) names)
 
--- ---- laws of checks
-
-pub then-accepted : (a b : Checked) → a ≡ Accepted → b ≡ Accepted → a then b ≡ Accepted
-unfolding _then_
-then-accepted a b p q = rw (p, q)
-
-pub accepted-pick : (b : Bool) (x y : Checked) → b ≡ true → x ≡ Accepted → pick b x y ≡ Accepted
-unfolding pick
-accepted-pick b x y p q = rw (p, q)
-
--- a check after a choice, where the other way out is a refusal
-pub pick-then : (b : Bool) (x y : Checked) (r : Refusal) → pick b (x then y) (Refused r) ≡ pick b x (Refused r) then y
-unfolding pick _then_
-pick-then true x y r = refl
-pick-then false x y r = refl
-
 -- ---- the tree of a block that is not too deep
 pub tree-within : (s store : List ℕ) → Ordered s → deep (blockTree s store) ≤ 64 → treeAt s store 64 0 ≡ blockTree s store
 tree-within s store o h = denotes-tree s store (block-denotes s store o) 64 h
 
 module _ (table names : List ℕ) (first n : ℕ) where
-  -- what the three passes say of a block
-  pub record Passes : Type 0 where
-    pub form : blockFormOk table (length names) first n ≡ true
-    pub depth : blockDepthOk table first n ≡ true
-    pub rule : blockRule table first n ≡ Accepted
-
-  passes-good : Passes → GoodBlock table names first n
+  passes-good : Passes (blockFormOk table (length names) first n) (blockDepthOk table first n) (blockRule table first n) → GoodBlock table names first n
   unfolding blockFormOk blockDepthOk blockRule
   passes-good p =
-      let a = and-both _ _ (p .form) in
+      let a = and-both _ _ (p .form-ok) in
       let f = formed (block table first n) (length names) .0 (a .1) in
-      let d : deep (blockTree (block table first n) names) ≤ 64 = rw (same-depth (block table first n) names) at (leb-true (depthOf (block table first n)) 64 (p .depth)) in
+      let d : deep (blockTree (block table first n) names) ≤ 64 = rw (same-depth (block table first n) names) at (leb-true (depthOf (block table first n)) 64 (p .depth-ok)) in
       record {
         inside = leb-true _ _ (a .0);
         formed = f;
         depth = d;
-        valid = rw (tree-within (block table first n) names (f .order) d) at (accepted (block table first n) names first 64 0 .0 (p .rule));
+        valid = rw (tree-within (block table first n) names (f .order) d) at (accepted (block table first n) names first 64 0 .0 (p .rules-ok));
       }
 
-  good-passes : GoodBlock table names first n → Passes
+  good-passes : GoodBlock table names first n → Passes (blockFormOk table (length names) first n) (blockDepthOk table first n) (blockRule table first n)
   unfolding blockFormOk blockDepthOk blockRule
   good-passes g = record {
-    form = and-true _ _ (le-leb _ _ (g .inside)) (formed (block table first n) (length names) .1 (g .formed));
-    depth = rw (same-depth (block table first n) names) (le-leb _ _ (g .depth));
-    rule = accepted (block table first n) names first 64 0 .1 (rw (tree-within (block table first n) names (g .formed .order) (g .depth)) (g .valid));
+    form-ok = and-true _ _ (le-leb _ _ (g .inside)) (formed (block table first n) (length names) .1 (g .formed));
+    depth-ok = rw (same-depth (block table first n) names) (le-leb _ _ (g .depth));
+    rules-ok = accepted (block table first n) names first 64 0 .1 (rw (tree-within (block table first n) names (g .formed .order) (g .depth)) (g .valid));
   }
 
   -- A block passes form, depth and rules just if it is good.
-  pub passes : Passes ↔ GoodBlock table names first n
+  pub passes : Passes (blockFormOk table (length names) first n) (blockDepthOk table first n) (blockRule table first n) ↔ GoodBlock table names first n
   passes = (passes-good, good-passes)
 
   -- A good block's root and names are accepted just if its schema is fit for a table.
@@ -107,19 +82,18 @@ module _ (table names : List ℕ) (first n : ℕ) where
     λ e.
         let a = pick-accepted _ _ _ e in
         let s = and-both _ _ (a .0) in
-        let b = pick-accepted _ _ _ (a .1) in
-        let w = and-both _ _ (b .0) in
-        let d = pick-accepted _ _ _ (b .1) in
+        let p = in-turn _ _ _ _ _ .0 (a .1) in
+        let w = and-both _ _ (p .form-ok) in
         record {
           table-size = leb-true _ _ (s .0);
           names-size = leb-true _ _ (s .1);
           whole = eqb-true _ _ (w .0);
-          good = passes-good (record { form = w .1; depth = d .0; rule = d .1 });
+          good = passes-good (record { form-ok = w .1; depth-ok = p .depth-ok; rules-ok = p .rules-ok });
         },
     λ g.
         let p = good-passes (g .good) in
         accepted-pick _ _ _ (and-true _ _ (le-leb _ _ (g .table-size)) (le-leb _ _ (g .names-size)))
-        (accepted-pick _ _ _ (and-true _ _ (eq-eqb _ _ (g .whole)) (p .form)) (accepted-pick _ _ _ (p .depth) (p .rule))),
+        (in-turn _ _ _ _ _ .1 (record { form-ok = and-true _ _ (eq-eqb _ _ (g .whole)) (p .form-ok); depth-ok = p .depth-ok; rules-ok = p .rules-ok })),
   )
 
   -- The encoder's check is the check of the schema, and then of root and names.
