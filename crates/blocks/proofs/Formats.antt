@@ -115,10 +115,33 @@ module _ (f : Format) where
   rooted t NoTable e = absurd (refused-not _ e)
   rooted t NoEntry e = absurd (refused-not _ e)
 
-  module _ (entries : (j : ℕ) → j < records (f .registry) → GoodEntry f j) (up : Ascending (entryName (f .names) (f .registry)) (records (f .registry))) (t : ℕ) (r : Reference) where
-    reference-good : Passes (referenceOk f r) (pick (eqb (r .kind) 0) (blockDepthOk (f .table) (r .start) (r .len)) true) (inlineRule f r then rootOf f t (resolved (f .names) (f .registry) r)) → GoodReference f r
+  -- where a good reference's schema stands
+  pub record Placed (r : Reference) : Type 0 where
+    pub first : ℕ
+    pub count : ℕ
+    pub is : resolved (f .names) (f .registry) r ≡ Block first count
+    pub good : GoodBlock (f .table) (f .names) first count
+    pub root : TableRoot (schemaFrom f first count)
+
+  module _ (entries : (j : ℕ) → j < records (f .registry) → GoodEntry f j) (up : Ascending (entryName (f .names) (f .registry)) (records (f .registry))) (r : Reference) where
+    pub placed : GoodReference f r → Placed r
+    unfolding resolved pick
+    placed g = ⊎-elim
+        (λ (i : Inline f r). record { first = r .start; count = r .len; is = rw (eq-eqb (r .kind) 0 (i .kind)); good = i .good; root = i .root })
+        (λ (n : ByName f r).
+        let l = lookup-finds (f .names) (f .registry) (part (f .names) (r .start) (r .len)) up _ _ .1 (record { entry = n .entry; below = n .below; same = n .same; first-is = refl; count-is = refl }) in
+        record {
+          first = entryAt (f .registry) (n .entry) .first;
+          count = entryAt (f .registry) (n .entry) .count;
+          is = rw (ne-eqb (r .kind) 0 (λ e. omega (arith, n .kind))) l;
+          good = entries (n .entry) (n .below) .good;
+          root = n .root;
+        })
+        (g .either)
+
+    reference-good : (t : ℕ) → Passes (referenceOk f r) (pick (eqb (r .kind) 0) (blockDepthOk (f .table) (r .start) (r .len)) true) (inlineRule f r then rootOf f t (resolved (f .names) (f .registry) r)) → GoodReference f r
     unfolding referenceOk inlineRule resolved pick rootOf
-    reference-good p =
+    reference-good t p =
         let a = and-both _ _ (p .form-ok) in
         let b = and-both _ _ (a .0) in
         record {
@@ -142,29 +165,23 @@ module _ (f : Format) where
             let h = lookup-finds _ _ _ up _ _ .0 (q .is) in
             inr (record { kind = eqb-true _ _ (a .0); name = leb-true _ _ (a .1); entry = h .entry; below = h .below; same = h .same; root = root-accepts _ _ _ _ Purpose.Format (entries (h .entry) (h .below) .good) .0 (rw (h .first-is, h .count-is) (q .accepts)) })
 
-    good-reference : GoodReference f r → Passes (referenceOk f r) (pick (eqb (r .kind) 0) (blockDepthOk (f .table) (r .start) (r .len)) true) (inlineRule f r then rootOf f t (resolved (f .names) (f .registry) r))
-    unfolding referenceOk inlineRule resolved pick rootOf _then_
-    good-reference g = ⊎-elim
+    good-reference : (t : ℕ) → GoodReference f r → Passes (referenceOk f r) (pick (eqb (r .kind) 0) (blockDepthOk (f .table) (r .start) (r .len)) true) (inlineRule f r then rootOf f t (resolved (f .names) (f .registry) r))
+    unfolding referenceOk inlineRule pick rootOf
+    good-reference t g = ⊎-elim
         (λ (i : Inline f r).
         let p = passes _ _ _ _ .1 (i .good) in
         let z = eq-eqb (r .kind) 0 (i .kind) in
-        record {
-          form-ok = and-true _ _ zeros (rw z (p .form-ok));
-          depth-ok = rw z (p .depth-ok);
-          rules-ok = rw (z, p .rules-ok) (root-accepts _ _ _ _ Purpose.Format (i .good) .1 (i .root));
-        })
+        record { form-ok = and-true _ _ zeros (rw z (p .form-ok)); depth-ok = rw z (p .depth-ok); rules-ok = then-accepted _ _ (rw z (p .rules-ok)) root })
         (λ (n : ByName f r).
         let z = ne-eqb (r .kind) 0 (λ e. omega (arith, n .kind)) in
-        let l = lookup-finds (f .names) (f .registry) (part (f .names) (r .start) (r .len)) up _ _ .1 (record { entry = n .entry; below = n .below; same = n .same; first-is = refl; count-is = refl }) in
-        record {
-          form-ok = and-true _ _ zeros (rw z (and-true _ _ (eq-eqb _ _ (n .kind)) (le-leb _ _ (n .name))));
-          depth-ok = rw z;
-          rules-ok = rw (z, l) (root-accepts _ _ _ _ Purpose.Format (entries (n .entry) (n .below) .good) .1 (n .root));
-        })
+        record { form-ok = and-true _ _ zeros (rw z (and-true _ _ (eq-eqb _ _ (n .kind)) (le-leb _ _ (n .name)))); depth-ok = rw z; rules-ok = then-accepted _ _ (rw z) root })
         (g .either)
       where
         zeros : (eqb (r .spare) 0 and eqb (r .rest) 0) ≡ true
         zeros = and-true _ _ (eq-eqb _ _ (g .spare)) (eq-eqb _ _ (g .rest))
+
+        root : rootOf f t (resolved (f .names) (f .registry) r) ≡ Accepted
+        root = let p = placed g in rw (p .is) (root-accepts _ _ _ _ Purpose.Format (p .good) .1 (p .root))
 
   -- ---- the whole
 
@@ -190,7 +207,7 @@ module _ (f : Format) where
         entries = λ j h. entry j h .0;
         ascends = up;
         references = λ t h.
-            reference-good (λ j l. entry j l .0) up t (referenceAt (f .references) t)
+            reference-good (λ j l. entry j l .0) up (referenceAt (f .references) t) t
             (record { form-ok = all-each _ _ t (a .1) h; depth-ok = all-each _ _ t (deep .1) h; rules-ok = in-order-iff _ _ .0 (v .1) t h });
       }
 
@@ -200,7 +217,7 @@ module _ (f : Format) where
       let entry : (j : ℕ) → j < records (f .registry) → Passes (entryOk f j) (entryDepthOk f j) (entryRule f j) = λ j h.
       good-entry j (g .entries j h) (ascending-iff (records (f .registry)) .1 (g .ascends) j h) in
       let reference : (t : ℕ) → t < tables f → Passes (referenceFormOk f t) (referenceDepthOk f t) (referenceRule f t) = λ t h.
-      good-reference (g .entries) (g .ascends) t (referenceAt (f .references) t) (g .references t h) in
+      good-reference (g .entries) (g .ascends) (referenceAt (f .references) t) t (g .references t h) in
       in-turn _ _ _ _ _ .1
       (record {
         form-ok = and-true _ _

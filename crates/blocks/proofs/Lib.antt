@@ -10,3 +10,4 @@ pub mod Turns
 pub mod Good
 pub mod Lookup
 pub mod Formats
+pub mod Tables
