@@ -6,3 +6,8 @@ pub mod Rules
 pub mod Trees
 pub mod Honest
 pub mod Roots
+pub mod Turns
+pub mod Good
+pub mod Lookup
+pub mod Formats
+pub mod Tables
