@@ -9,3 +9,4 @@ pub mod Honest
 pub mod TableRows
 pub mod Decoding
 pub mod Running
+pub mod Refused
