@@ -56,13 +56,13 @@ module _ (table store : List ℕ) where
   stood i kind tag n x h = is-record table store i (valueRecord kind tag n x) (length-record kind tag n x) .1 h
 
   -- and its fields are read as what they were written for
-  size-is : (i kind tag n x : ℕ) → n < 256 ^ 4 → Stands table (i * 16) (valueRecord kind tag n x) → sizeAt table store i ≡ n
+  pub size-is : (i kind tag n x : ℕ) → n < 256 ^ 4 → Stands table (i * 16) (valueRecord kind tag n x) → sizeAt table store i ≡ n
   size-is i kind tag n x l h = stands-le table (i * 16 + 4) 4 n l (size-stands table (i * 16) kind tag n x h)
 
   data-is : (i kind tag n x : ℕ) → x < 256 ^ 8 → Stands table (i * 16) (valueRecord kind tag n x) → dataAt table store i ≡ x
   data-is i kind tag n x l h = stands-le table (i * 16 + 8) 8 x l (data-stands table (i * 16) kind tag n x h)
 
-  tag-is : (v : Value) (i tag p : ℕ) → tag < 256 ^ 2 → Stands table (i * 16) (flat v tag p) → tagAt table store i ≡ tag
+  pub tag-is : (v : Value) (i tag p : ℕ) → tag < 256 ^ 2 → Stands table (i * 16) (flat v tag p) → tagAt table store i ≡ tag
   tag-is v i tag p l h = stands-le table (i * 16 + 2) 2 tag l (bears table store v (i * 16) tag p h)
 
   -- a scalar's record goes to the rule of its form
@@ -73,7 +73,7 @@ module _ (table store : List ℕ) where
 
   -- the counts of a table fit their fields
   module _ (short : length table ≤ 4294967295) where
-    count-fits : (at n c : ℕ) (rows : List ℕ) → Stands table at rows → length rows ≡ 16 * c → n ≤ c → n < 256 ^ 4
+    pub count-fits : (at n c : ℕ) (rows : List ℕ) → Stands table at rows → length rows ≡ 16 * c → n ≤ c → n < 256 ^ 4
     count-fits at n c rows h e l = omega (arith, stands-in table at rows h)
 
     -- how a child is read
@@ -164,7 +164,7 @@ module _ (table store : List ℕ) where
     parses zero v tag p q a = absurd (omega (arith, one-tall v, a .depth))
     parses (suc d) v tag p q a = node-parses d (valueAt table store d) (parses d) v tag p q a
 
-stands-self : (xs : List ℕ) → Stands xs 0 xs
+pub stands-self : (xs : List ℕ) → Stands xs 0 xs
 stands-self xs = rw append-nil at (stands-seam [] xs [])
 
 -- The table of a value is accepted, with that value.

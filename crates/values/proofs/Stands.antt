@@ -1,13 +1,13 @@
 -- Bytes that stand at a place of a list, and numbers among them, over the width.
 -- Assumes nothing.
-use Prim.Native.Nat.{ℕ, zero, suc, _+_, _^_, _≤_, _<_, _/_}
+use Prim.Native.Nat.{ℕ, zero, suc, _+_, _*_, _^_, _≤_, _<_, _/_, _%_}
 use mathlib.Core.Path.{_≡_, refl, sym, ap, _∙_}
 use mathlib.Core.List.{List, [], _∷_, _++_}
 use native.Mathlib.Omega.{arith}
 use native.Mathlib.Nat.{add-zero}
-use lib.ListN.{length, length-append}
+use lib.ListN.{length, getD, length-append}
 use lib.Seq.{getD-append-seam, append-snoc}
-use Rattle.rules.specs.Bytes.{le, leAt, part, Stands}
+use Rattle.rules.specs.Bytes.{Bytes, le, leAt, part, Stands}
 
 -- x in w bytes has w bytes
 pub length-le : (w x : ℕ) → length (le w x) ≡ w
@@ -68,6 +68,15 @@ module _ (s : List ℕ) where
   unfolding Stands le leAt
   stands-fits at zero x h = omega arith
   stands-fits at (suc w) x h = omega (arith, h .0 .1, stands-fits (at + 1) w (x / 256) (h .1))
+
+  -- bytes stand as the number that they are read as
+  pub bytes-stand : Bytes s → (at w : ℕ) → at + w ≤ length s → Stands s at (le w (leAt s at w))
+  unfolding Stands leAt le
+  bytes-stand b at zero h = omega arith
+  bytes-stand b at (suc w) h =
+      let m : (getD s at 0 + 256 * leAt s (at + 1) w) % 256 ≡ getD s at 0 = omega (arith, b at) in
+      let d : (getD s at 0 + 256 * leAt s (at + 1) w) / 256 ≡ leAt s (at + 1) w = omega (arith, b at) in
+      ((omega arith, sym m), rw d (bytes-stand b (at + 1) w (omega arith)))
 
 -- a list stands in itself, between what comes before and after
 pub stands-seam : (xs ys zs : List ℕ) → Stands (xs ++ (ys ++ zs)) (length xs) ys

@@ -11,11 +11,12 @@ use Rattle.rules.specs.Choice.{pick}
 use Rattle.rules.specs.Bytes.{le}
 use Rattle.rules.specs.Wire.{Form, form, widthOf}
 use Rattle.rules.specs.Schema.{Name, Schema, node, Schemas, count, child}
-use Rattle.rules.specs.Block.{nodeAt, Denotes, denotes, DenoteAll, no-node, a-node}
+use Rattle.rules.specs.Block.{nodeAt, Ordered, blockTree, Denotes, denotes, DenoteAll, no-node, a-node}
 use Rattle.rules.specs.Value.{Value, nothing, boolean, number, wide, blob, variant, repeated, tuple, Items, done, item, Values, none, more, values, recordsOf, Within, WithinI, WithinV, Fits, FitsI, FitsV}
 use Rattle.rules.specs.Grammar.{Conforms, conforms, Suits, s-nothing, s-boolean, s-number, s-wide, s-blob, s-variant, s-repeated, s-tuple, SuitI, s-done, s-item, SuitV, s-none, s-more, formOf, childrenOf, bytesV, bytesI, bytesF, encoded, encodedRow}
 use Rattle.rules.specs.Walk.{Limits, blobLimit}
 use Rattle.rules.specs.Writing.{Wrote, Put, _>>=_, kindFor, fitting, tagged, write, writeI, writeV, writeRow}
+use Rattle.blocks.proofs.Levels.{block-denotes}
 use Rattle.values.proofs.Says.{Any, Says, puts, refuses, then, either, put, fits, tags}
 use Rattle.values.proofs.Codes.{empty-code, truth-code, plain, scalar-taken, nothing-taken, boolean-taken, variant-taken, repeated-taken, tuple-taken}
 
@@ -164,3 +165,7 @@ writes-row sch store lim v s b d h = (λ e. put (rw e at good), λ f. rw (write-
   where
     good : Says (FairRow lim s v) Any (writeRow sch lim v)
     good = then (write-fair sch store lim v 0 0 d h) (λ x y. puts (record { conforms = y .conforms; within = y .within; bytes = ap (λ (z : List ℕ). le 2 0 ++ z) (y .bytes) }))
+
+-- For a block in level order, that schema is the block's tree.
+pub writes-block : (sch store : List ℕ) (lim : Limits) (v : Value) (b : List ℕ) → Ordered sch → Fits v → (writeRow sch lim v ≡ Put b) ↔ FairRow lim (blockTree sch store) v b
+writes-block sch store lim v b o h = writes-row sch store lim v (blockTree sch store) b (block-denotes sch store o) h
