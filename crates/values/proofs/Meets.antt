@@ -55,6 +55,7 @@ pub data Met (sch : List ℕ) (whole : Value) (i₀ r₀ : ℕ) : Value → ℕ 
 
 -- ---- each value that is met can be held in a table
 
+-- an item's tag fits its two bytes, and its value can be held
 pub has-fits : {is : Items} {v : Value} {r t n : ℕ} → Has is r t v n → FitsI is → (t < 256 ^ 2) × Fits v
 unfolding FitsI
 has-fits first f = (f .0, f .1 .0)
@@ -103,6 +104,7 @@ module _ (table : List ℕ) where
       let f : n * 16 + length a ≡ m * 16 = rw l (omega arith) in
       rw f at (stands-right table (n * 16) a b h)
 
+  -- an item has its records among those of all items
   pub has-kept : {is : Items} {v : Value} {r t n : ℕ} → Has is r t v n → (p : ℕ) → Stands table (r * 16) (flatI is p) → Kept table v t n
   unfolding flatI
   has-kept (first {r = r} {t = t} {v = v} {is = is}) p h = record { before = p; stands = stands-left table (r * 16) (flat v t p) (flatI is (p + payloadOf v)) h }
@@ -115,15 +117,17 @@ module _ (table : List ℕ) where
   hasV-kept (laterV {r = r} {v = v} {vs = vs} g) p h =
       hasV-kept g (p + payloadOf v) (follows r (r + recordsOf v) (recordsOf v) (flat v 0 p) (flatV vs (p + payloadOf v)) (length-flat v 0 p) refl h)
 
-  -- children begin with the record after
+  -- the child of a variant begins with the record after its own
   pub variant-kept : (t tag n m : ℕ) (v : Value) → m ≡ n + 1 → Kept table (variant t v) tag n → Kept table v t m
   unfolding flat
   variant-kept t tag n m v e k = record { before = k .before; stands = follows n m 1 (valueRecord 15 tag 1 0) (flat v t (k .before)) (length-record 15 tag 1 0) e (k .stands) }
 
+  -- the items of a repeated node begin with the record after its own
   pub repeated-kept : (tag n : ℕ) (is : Items) (k : Kept table (repeated is) tag n) → Stands table ((n + 1) * 16) (flatI is (k .before))
   unfolding flat
   repeated-kept tag n is k = follows n (n + 1) 1 (valueRecord 16 tag (items is) 0) (flatI is (k .before)) (length-record 16 tag (items is) 0) refl (k .stands)
 
+  -- so do the children of a tuple
   pub tuple-kept : (tag n : ℕ) (vs : Values) (k : Kept table (tuple vs) tag n) → Stands table ((n + 1) * 16) (flatV vs (k .before))
   unfolding flat
   tuple-kept tag n vs k = follows n (n + 1) 1 (valueRecord 17 tag (values vs) 0) (flatV vs (k .before)) (length-record 17 tag (values vs) 0) refl (k .stands)
@@ -135,10 +139,11 @@ module _ (table : List ℕ) where
   met-kept sch k (in-repeated {r = r} {t = t} {is = is} m g l e) = let h = met-kept sch k m in (t, has-kept g (h .1 .before) (repeated-kept (h .0) r is (h .1)))
   met-kept sch k (in-tuple {r = r} {vs = vs} m g e) = let h = met-kept sch k m in (0, hasV-kept g (h .1 .before) (tuple-kept (h .0) r vs (h .1)))
 
-  -- a value that is kept has a record, and its kind
+  -- a value that is kept has a record in the table
   pub kept-in : {v : Value} {tag n : ℕ} → Kept table v tag n → n < records table
   kept-in {v} {tag} {n} k = omega (arith, stands-in table (n * 16) (flat v tag (k .before)) (k .stands), length-flat v tag (k .before), one-record v)
 
+  -- and that record says its kind
   pub kept-kind : (v : Value) (tag n : ℕ) → Kept table v tag n → getD table (n * 16) 0 ≡ kind v
   unfolding flat kind
   kept-kind nothing tag n k = kind-stands table (n * 16) 0 tag 0 0 (k .stands)

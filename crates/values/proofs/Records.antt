@@ -33,6 +33,7 @@ order-same (x ∷ xs) (y ∷ ys) e = by (eqb x y) refl e (λ h. order-same xs ys
     by true t h k = let a : x ≡ y = eqb-true x y t in let r : xs ≡ ys = k h in cc
     by false t h k = differ (ltb x y) h
 
+-- a string equals itself
 pub order-self : (xs : List ℕ) → isEqual (order xs xs) ≡ true
 unfolding order isEqual pick
 order-self [] = refl
@@ -65,20 +66,25 @@ module _ (s : List ℕ) (at kind tag n x : ℕ) (h : Stands s at (valueRecord ki
   from-size : Stands s (at + 4) (le 4 n ++ le 8 x)
   from-size = rw (length-le, add-assoc) at (stands-right s (at + 2) (le 2 tag) (le 4 n ++ le 8 x) from-tag)
 
+  -- byte 0 is the kind
   pub kind-stands : getD s at 0 ≡ kind
   unfolding valueRecord Stands
   kind-stands = h .0 .1
 
+  -- byte 1 is zero
   pub zero-stands : getD s (at + 1) 0 ≡ 0
   unfolding valueRecord Stands
   zero-stands = h .1 .0 .1
 
+  -- bytes 2 and 3 are the tag
   pub tag-stands : Stands s (at + 2) (le 2 tag)
   tag-stands = stands-left s (at + 2) (le 2 tag) (le 4 n ++ le 8 x) from-tag
 
+  -- bytes 4 to 7 are the count or length
   pub size-stands : Stands s (at + 4) (le 4 n)
   size-stands = stands-left s (at + 4) (le 4 n) (le 8 x) from-size
 
+  -- bytes 8 to 15 are the payload start or the wire bytes
   pub data-stands : Stands s (at + 8) (le 8 x)
   data-stands = rw (length-le, add-assoc) at (stands-right s (at + 4) (le 4 n) (le 8 x) from-size)
 
