@@ -11,3 +11,4 @@ pub mod Good
 pub mod Lookup
 pub mod Formats
 pub mod Tables
+pub mod Reasons
