@@ -9,6 +9,8 @@ pub mod Roots
 pub mod Turns
 pub mod Good
 pub mod Lookup
+pub mod Forms
 pub mod Formats
 pub mod Tables
-pub mod Reasons
+pub mod BlockReasons
+pub mod FormatReasons
