@@ -7,3 +7,6 @@ pub mod Complete
 pub mod Agree
 pub mod Honest
 pub mod TableRows
+pub mod Decoding
+pub mod Running
+pub mod Refused

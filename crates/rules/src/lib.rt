@@ -1,5 +1,7 @@
 // The types that all crates share: wire types, records of the flat tables, settings, refusals, answers. What is right is
 // written down in specs/, as definitions that read beside document 01.
+ghost use mathlib.Core.Path.{_≡_};
+ghost use Rattle.rules.specs.Refusals.{reportOf};
 
 // A Skiff encoding of one schema node, in the order of the wire codes 0 to 19.
 pub enum WireType {
@@ -176,6 +178,15 @@ pub enum Refusal {
     },
 }
 
+// A refusal in numbers: document 01's number, the place, and the carried values, 0 where there is none.
+pub struct Report {
+    pub number: u64,
+    pub place: u64,
+    pub a: u64,
+    pub b: u64,
+    pub c: u64,
+}
+
 // What a table schema is checked for: to stand in a format, or to encode with.
 pub enum Purpose {
     Format,
@@ -220,4 +231,92 @@ pub struct Ran {
 pub enum Written {
     Row(Extent),
     Refused(Refusal),
+}
+
+fn numbers(number: u64, place: u64, a: u64, b: u64, c: u64) -> Report
+    ensures { λ r. ⌜ r ≡ record { number = number; place = place; a = a; b = b; c = c } ⌝ }
+{
+    Report {
+        number,
+        place,
+        a,
+        b,
+        c,
+    }
+}
+
+impl Refusal {
+    // The refusal in numbers, for hosts that take no enum.
+    pub fn in_numbers(self) -> Report
+        ensures { λ r. ⌜ r ≡ reportOf self ⌝ }
+    {
+        match self {
+            Refusal::Setting => numbers(1, 0, 0, 0, 0),
+            Refusal::BadSchemaTable => numbers(2, 0, 0, 0, 0),
+            Refusal::TooDeep => numbers(3, 0, 0, 0, 0),
+            Refusal::UnexpectedChildren {
+                wire_type,
+                count,
+                place,
+            } => numbers(4, place, wire_type as u64, count, 0),
+            Refusal::TooManyChildren {
+                wire_type,
+                count,
+                maximum,
+                place,
+            } => numbers(5, place, wire_type as u64, count, maximum),
+            Refusal::EmptyTableSchemas => numbers(6, 0, 0, 0, 0),
+            Refusal::UnknownRegistryReference { table } => numbers(7, table, table, 0, 0),
+            Refusal::TableSchemaRootMustBeTuple { found, place } => numbers(
+                8,
+                place,
+                found as u64,
+                0,
+                0,
+            ),
+            Refusal::TableSchemaMustBeTuple { found, place } => numbers(
+                9,
+                place,
+                found as u64,
+                0,
+                0,
+            ),
+            Refusal::TableSchemaChildMissingName { index, place } => numbers(
+                10,
+                place,
+                index,
+                0,
+                0,
+            ),
+            Refusal::MissingTableSchema { index, place } => numbers(11, place, index, 0, 0),
+            Refusal::Truncated { context, place } => numbers(12, place, context as u64, 0, 0),
+            Refusal::RowTooLarge { limit, place } => numbers(13, place, limit, 0, 0),
+            Refusal::BlobTooLarge {
+                wire_type,
+                length,
+                limit,
+                place,
+            } => numbers(14, place, wire_type as u64, length, limit),
+            Refusal::ValueDoesNotMatchSchema {
+                wire_type,
+                kind,
+                place,
+            } => numbers(15, place, wire_type as u64, kind as u64, 0),
+            Refusal::TupleLength {
+                expected,
+                actual,
+                place,
+            } => numbers(16, place, expected, actual, 0),
+            Refusal::InvalidVariantTag {
+                wire_type,
+                tag,
+                children,
+                place,
+            } => numbers(17, place, wire_type as u64, tag, children),
+            Refusal::BadValueTable => numbers(18, 0, 0, 0, 0),
+            Refusal::NoNodeRoom { needed, place } => numbers(19, place, needed, 0, 0),
+            Refusal::NoPayloadRoom { needed, place } => numbers(20, place, needed, 0, 0),
+            Refusal::NoOutputRoom { needed, place } => numbers(21, place, needed, 0, 0),
+        }
+    }
 }

@@ -77,10 +77,18 @@ impl fmt::Display for Tally {
     }
 }
 
+/// A case whose answer is not what it should be, and all that the program had been asked up to it.
+#[derive(Debug)]
+pub struct Difference {
+    pub case: Case,
+    pub line: Option<String>,
+    pub batch: Vec<Case>,
+}
+
 /// Why a run stopped.
 #[derive(Debug)]
 pub enum Stop {
-    Difference(Box<Case>),
+    Difference(Box<Difference>),
     Broken(String),
 }
 
@@ -117,9 +125,10 @@ impl Run<'_> {
         let (ran, expected) = self.program.run(&input, readings)?;
         let answers = ran.lines;
         for (index, ((kind, case), expected)) in batch.iter().zip(&expected).enumerate() {
-            let answer = answers.get(index).and_then(Option::as_deref);
-            if !expected.is_met_by(answer) {
-                return Err(Stop::Difference(Box::new(case.clone())));
+            let line = answers.get(index).cloned().flatten();
+            if !expected.is_met_by(line.as_deref()) {
+                let batch = batch[..=index].iter().map(|(_, case)| case.clone()).collect();
+                return Err(Stop::Difference(Box::new(Difference { case: case.clone(), line, batch })));
             }
             self.tally.add(kind, expected);
         }

@@ -4,7 +4,7 @@ use std::process::ExitCode;
 use std::{env, fs};
 
 use diff::case::Case;
-use diff::compare::{self, Expected, Stop};
+use diff::compare::{self, Difference, Expected, Stop};
 use diff::program::Program;
 use diff::show::describe;
 use diff::{bench, record, shrink};
@@ -13,7 +13,8 @@ const USAGE: &str = "\
 usage:
   schema-diff run --program PATH [--runner WORDS] [--count N] [--seed N] [--save FILE]
       puts N cases (2,000,000 by default) to the program. PATH may also stand in SKIFF_PROGRAM, and
-      WORDS, which go before it, in SKIFF_RUNNER. --save writes the smallest differing case found.
+      WORDS, which go before it, in SKIFF_RUNNER. --save writes the smallest differing case found
+      (or the batch up to it, where the case alone is answered rightly).
       From 1,500,000 cases on, all schemas of four nodes are among them
   schema-diff record CASES ANSWERS [--seed N]
       writes a sample of small cases and their answers
@@ -88,41 +89,55 @@ fn run(options: &Options) -> Result<ExitCode, String> {
             Ok(ExitCode::SUCCESS)
         }
         Err(Stop::Broken(message)) => Err(message),
-        Err(Stop::Difference(case)) => {
-            report(options, &program, *case)?;
+        Err(Stop::Difference(found)) => {
+            report(options, &program, *found)?;
             Ok(ExitCode::from(1))
         }
     }
 }
 
 /// Shrinks a differing case, prints it, and keeps it where that was asked for.
-fn report(options: &Options, program: &Program, case: Case) -> Result<(), String> {
-    println!("DIFFERENCE in a case of {} bytes; looking for a smaller one", case.bytes());
+fn report(options: &Options, program: &Program, found: Difference) -> Result<(), String> {
+    println!("DIFFERENCE in a case of {} bytes; looking for a smaller one", found.case.bytes());
     let answers = |cases: &[Case]| program.answers(cases).map_err(|error| error.to_string());
     let mut broken = None;
-    let smallest = shrink::shrink(case, &mut |cases| {
+    let mut differs = |cases: &[Case]| -> Vec<bool> {
         let lines = answers(cases).unwrap_or_else(|error| {
             broken = Some(error);
             Vec::new()
         });
         let differs = |(case, line): (&Case, &Option<String>)| !Expected::of(case).is_met_by(line.as_deref());
         cases.iter().zip(&lines).map(differs).collect()
-    });
+    };
+    if differs(std::slice::from_ref(&found.case)) != [true] {
+        println!("it is answered rightly when asked alone, so the program keeps something between cases:");
+        print_case(&found.case, found.line);
+        return save(options, &found.batch);
+    }
+    let smallest = shrink::shrink(found.case, &mut differs);
     if let Some(error) = broken {
         println!("shrinking broke off: {error}");
     }
-    let expected = Expected::of(&smallest);
-    let line = answers(std::slice::from_ref(&smallest))?.remove(0);
-    println!("smallest case found: {} bytes\n{}", smallest.bytes(), describe(&smallest));
+    println!("smallest case found: {} bytes", smallest.bytes());
+    print_case(&smallest, answers(std::slice::from_ref(&smallest))?.remove(0));
+    save(options, &[smallest])
+}
+
+fn print_case(case: &Case, line: Option<String>) {
+    let expected = Expected::of(case);
+    println!("{}", describe(case));
     println!("  program:  {}", line.unwrap_or_else(|| "NO ANSWER".to_owned()));
     println!("  plain:    {}", expected.plain);
     match expected.original {
         Some(said) => println!("  original: number {}, values {:?}", said.number, said.values),
         None => println!("  original: outside its domain"),
     }
+}
+
+fn save(options: &Options, cases: &[Case]) -> Result<(), String> {
     if let Some(file) = &options.save {
         let mut bytes = Vec::new();
-        smallest.write_to(&mut bytes);
+        cases.iter().for_each(|case| case.write_to(&mut bytes));
         write(file, &bytes)?;
         println!("  saved as {file}");
     }
@@ -160,7 +175,6 @@ fn show(options: &Options, file: &str) -> Result<ExitCode, String> {
         rest = Case::read_from(rest).ok_or("the file has fewer cases")?.1;
     }
     let (case, _) = Case::read_from(rest).ok_or("the file has fewer cases")?;
-    let expected = Expected::of(&case);
-    println!("{}  plain:    {}\n  original: {:?}", describe(&case), expected.plain, expected.original);
+    print_case(&case, Some("not asked".to_owned()));
     Ok(ExitCode::SUCCESS)
 }

@@ -7,8 +7,8 @@ use plain::wire_type::NAMES;
 
 use crate::case::{op, Case};
 
-/// More than this many records or bytes are not printed.
-const MOST_LINES: u64 = 80;
+/// More than this many lines or bytes are not printed.
+const MOST_LINES: usize = 80;
 const MOST_HEX: usize = 2048;
 
 fn call(case: &Case) -> String {
@@ -41,7 +41,7 @@ fn record_line(case: &Case, index: u64) -> String {
         flag => format!("FLAG {flag}, start {}, length {}", record.name.start, record.name.length),
     };
     let (first, count) = (record.first_child, record.child_count);
-    format!("{index}: {code} ({}), {named}, first child {first}, {count} children", record.code)
+    format!("{code} ({}), {named}, first child {first}, {count} children", record.code)
 }
 
 fn reference_line(case: &Case, index: u64) -> String {
@@ -55,30 +55,32 @@ fn reference_line(case: &Case, index: u64) -> String {
         kind => format!("KIND {kind}, fields {:?}", reference.fields),
     };
     let rest = if reference.rest == [0; 7] { String::new() } else { format!(", REST {:?}", reference.rest) };
-    format!("{index}: {target}{rest}")
+    format!("{target}{rest}")
 }
 
 fn entry_line(case: &Case, index: u64) -> String {
     let entry = entry(&case.registry, index);
-    format!(
-        "{index}: {}, {} records from record {}",
-        name(case, entry.name),
-        entry.block.count,
-        entry.block.first
-    )
+    format!("{}, {} records from record {}", name(case, entry.name), entry.block.count, entry.block.first)
 }
 
+/// A line for each record, or one for a run of records that are alike.
 fn table(out: &mut String, title: &str, bytes: &[u8], line: &dyn Fn(u64) -> String) {
     let count = record_count(bytes);
     let tail = bytes.len() % 16;
     let ragged = if tail == 0 { String::new() } else { format!(" AND {tail} BYTES") };
     writeln!(out, "  {title}: {count}{ragged}").unwrap();
-    for index in 0..count.min(MOST_LINES) {
-        writeln!(out, "    {}", line(index)).unwrap();
+    let mut from = 0;
+    for _ in 0..MOST_LINES {
+        if from == count {
+            return;
+        }
+        let of = |index: u64| &bytes[index as usize * 16..index as usize * 16 + 16];
+        let end = (from..count).find(|index| of(*index) != of(from)).unwrap_or(count);
+        let range = if end - from == 1 { format!("{from}") } else { format!("{from} to {}", end - 1) };
+        writeln!(out, "    {range}: {}", line(from)).unwrap();
+        from = end;
     }
-    if count > MOST_LINES {
-        writeln!(out, "    and {} more", count - MOST_LINES).unwrap();
-    }
+    writeln!(out, "    and {} more", count - from).unwrap();
 }
 
 fn hex(bytes: &[u8]) -> String {

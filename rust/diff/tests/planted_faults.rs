@@ -45,6 +45,11 @@ fn a_256th_child_of_repeated_variant8() {
 }
 
 #[test]
+fn a_65537th_child_of_variant16() {
+    found("variant16_takes_65537", 65_538 * 16, &["plain:    5 0 16 65537 65536", "original: number 5"]);
+}
+
+#[test]
 fn equal_names_in_the_registry() {
     found("equal_registry_names", 48, &["plain:    2 0 0 0 0", "original: outside"]);
 }
@@ -87,4 +92,12 @@ fn an_unused_registry_entry() {
 #[test]
 fn a_program_that_dies() {
     found("dies_without_tables", 0, &["program:  NO ANSWER", "plain:    6 0 0 0 0"]);
+}
+
+#[test]
+fn a_program_that_keeps_something_between_cases() {
+    let output = run("keeps_something", "300000");
+    let text = text(&output);
+    assert_eq!(output.status.code(), Some(1), "{text}");
+    assert!(text.contains("rightly when asked alone"), "{text}");
 }

@@ -15,23 +15,34 @@ fn main() -> io::Result<()> {
     let mut input = Vec::new();
     io::stdin().read_to_end(&mut input)?;
     let mut rest = input.as_slice();
+    let mut asked = 0;
     let mut output = io::BufWriter::new(io::stdout().lock());
     while let Some((case, after)) = Case::read_from(rest) {
         rest = after;
         if fault == "dies_without_tables" && case.op == op::FORMAT && case.references.is_empty() {
             break;
         }
-        writeln!(output, "{}", answer(&fault, case))?;
+        asked += 1;
+        let mut answer = answer(&fault, case);
+        if fault == "keeps_something" && asked > 5_000 && answer.number == 4 {
+            answer.place += 1;
+        }
+        writeln!(output, "{answer}")?;
     }
     output.flush()
 }
 
 fn answer(fault: &str, mut case: Case) -> Answer {
     match fault {
-        "" | "dies_without_tables" => plain_answer(&case),
+        "" | "dies_without_tables" | "keeps_something" => plain_answer(&case),
         "repeated_variant8_takes_256" => {
             let wide = |record: &&mut [u8]| record[0] == 17 && record[12..16] == [0, 1, 0, 0];
             case.records.chunks_exact_mut(16).filter(wide).for_each(|record| record[0] = 15);
+            plain_answer(&case)
+        }
+        "variant16_takes_65537" => {
+            let wide = |record: &&mut [u8]| record[0] == 16 && record[12..16] == [1, 0, 1, 0];
+            case.records.chunks_exact_mut(16).filter(wide).for_each(|record| record[0] = 19);
             plain_answer(&case)
         }
         "equal_registry_names" => {

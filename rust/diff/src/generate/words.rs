@@ -68,10 +68,10 @@ pub fn random_parse(rng: &mut Rng) -> Case {
         }
     }
     // The other parts of a case are no business of this call.
-    Case { a: rng.next() % 3, b: rng.next() % 3, ..parse(&name) }
+    Case { a: rng.draw() % 3, b: rng.draw() % 3, ..parse(&name) }
 }
 
 pub fn random_width(rng: &mut Rng) -> Case {
-    let code = rng.next() >> rng.below(64);
+    let code = rng.draw() >> rng.below(64);
     Case { names: vec![1; rng.below(3)], ..width(code) }
 }

@@ -5,8 +5,13 @@ use plain::tables::{schema_record, Block, SchemaRecord};
 
 use crate::case::{op, Case};
 
-/// At most this many places are tried for a stretch of one length.
+/// At most this many places are tried for a stretch of one length; fewer where much is to be copied.
 const MOST_PLACES: usize = 64;
+const FEW_PLACES: usize = 8;
+const MANY: usize = 4_096;
+
+/// In larger blocks only the root gives way to its children.
+const MOST_PARENTS: u64 = 200;
 
 pub fn candidates(case: &Case, found: &mut Vec<Case>) {
     for (from, count) in stretches(case.references.len() / 16) {
@@ -34,8 +39,9 @@ pub fn candidates(case: &Case, found: &mut Vec<Case>) {
         }
         found.push(without(case, &blocks, &gone));
     }
-    for block in blocks.iter().filter(|block| block.count <= 200) {
-        for index in 0..block.count {
+    for block in &blocks {
+        let parents = if block.count <= MOST_PARENTS { block.count } else { 1 };
+        for index in 0..parents {
             found.extend(child_for_parent(case, &blocks, *block, index));
         }
     }
@@ -45,9 +51,10 @@ pub fn candidates(case: &Case, found: &mut Vec<Case>) {
 fn stretches(count: usize) -> Vec<(usize, usize)> {
     let mut found = Vec::new();
     let mut length = count;
+    let places = if count > MANY { FEW_PLACES } else { MOST_PLACES };
     while length > 0 {
         let step = if count <= MOST_PLACES { 1 } else { length };
-        found.extend((0..=count - length).step_by(step).take(MOST_PLACES).map(|from| (from, length)));
+        found.extend((0..=count - length).step_by(step).take(places).map(|from| (from, length)));
         // From the back, too: where all is alike, the last ones go most easily.
         found.push((count - length, length));
         length /= 2;
