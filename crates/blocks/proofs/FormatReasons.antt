@@ -139,15 +139,21 @@ module _ (f : Format) where
           (says-each _ _ _ (λ j h. says-map (λ q b. broken (of-entry {j = j} h) b) (block-says (f .table) (f .names) _ _ (w .entries j h .formed) (all-each _ _ j (d .0) h))))
           (says-each _ _ _ (λ t h. reference-says t h (w .references t h) (all-each _ _ t (d .1) h)))
 
-  format-says : Says (FormatReason f) (formatRule f)
-  unfolding formatRule formatRules
-  format-says = says-else _ _ _ _
-      (λ s. says-else _ _ _ _ (λ form. says-else _ _ _ _ (order-says (forms-accept f .0 form)) depths-reason) (λ e. bad-form (refuted _ (forms-accept f .1) e)))
-      sizes-reason
+  rules-says : Says (FormatReason f) (formatRules f)
+  unfolding formatRules
+  rules-says = says-else _ _ _ _ (λ form. says-else _ _ _ _ (order-says (forms-accept f .0 form)) depths-reason) (λ e. bad-form (refuted _ (forms-accept f .1) e))
 
-  -- A format that is refused is refused with reason.
+  format-says : Says (FormatReason f) (formatRule f)
+  unfolding formatRule
+  format-says = says-else _ _ _ _ (λ s. rules-says) sizes-reason
+
+  -- A format that is refused is refused with reason,
   pub format-honest : (r : Refusal) → formatRule f ≡ Refused r → FormatReason f r
   format-honest r e = reason (rw e at format-says)
+
+  -- also where its sizes are left aside.
+  pub rules-honest : (r : Refusal) → formatRules f ≡ Refused r → FormatReason f r
+  rules-honest r e = reason (rw e at rules-says)
 
   number : (r : Refusal) → FormatReason f r → (said r .number ≤ 8) ⊎ (said r .number ≡ 10)
   unfolding said

@@ -14,3 +14,4 @@ pub mod Formats
 pub mod Tables
 pub mod BlockReasons
 pub mod FormatReasons
+pub mod Places
