@@ -1,21 +1,20 @@
 -- Which formats the check accepts.
 -- Assumes nothing.
-use Prim.Native.Nat.{ℕ, zero, suc, _+_, _%_, _≤_, _<_}
+use Prim.Native.Nat.{ℕ, _+_, _%_, _≤_, _<_}
 use mathlib.Core.Path.{_≡_, refl}
-use mathlib.Core.Bool.{Bool, true, false}
+use mathlib.Core.Bool.{true}
 use mathlib.Core.Logic.{_⊎_, inl, inr, ⊎-elim, _↔_}
 use native.Mathlib.Omega.{arith}
-use native.Mathlib.Numerals.{add-one}
-use borrow.Author.Tests.{leb-true, eqb-true, eqb-false, le-leb, eq-eqb, ne-eqb}
+use borrow.Author.Tests.{leb-true, eqb-false, le-leb, eq-eqb, ne-eqb}
 use lib.ListN.{length}
-use lib.Dec.{leb, eqb}
-use Rattle.rules.specs.Choice.{pick, _and_}
-use Rattle.rules.specs.Bytes.{part, isLess}
-use Rattle.rules.specs.Refusals.{_then_}
+use lib.Dec.{eqb}
+use Rattle.rules.specs.Choice.{pick, all}
+use Rattle.rules.specs.Bytes.{part}
+use Rattle.rules.specs.Refusals.{_then_, inOrder}
 use Rattle.rules.specs.Schema.{Schema, TableRoot}
 use Rattle.rules.specs.Block.{records, block, blockTree}
 use Rattle.rules.specs.SchemaRules.{tableRule}
-use Rattle.rules.specs.Format.{Format, blockFormOk, blockDepthOk, blockRule, referenceAt, entryAt, entryName, lookup, resolved, tables, referenceOk, ascending, entryOk, referenceFormOk, formsOk, entryDepthOk, referenceDepthOk, depthsOk, entryRule, rootOf, inlineRule, referenceRule, rulesOrder, sizesOk, formatRules, formatRule}
+use Rattle.rules.specs.Format.{Format, blockDepthOk, referenceAt, entryAt, entryName, resolved, tables, entryDepthOk, referenceDepthOk, depthsOk, entryRule, rootOf, inlineRule, referenceRule, rulesOrder, sizesOk, formatRules, formatRule}
 use Rattle.rules.specs.declared.Reference.{Reference}
 use Rattle.rules.specs.declared.Located.{Located}
 use Rattle.rules.specs.declared.Located.the-variants.{Block, NoTable, NoEntry}
@@ -23,10 +22,10 @@ use Rattle.rules.specs.declared.Purpose.{Purpose}
 use Rattle.rules.specs.declared.Checked.the-variants.{Accepted}
 use Rattle.rules.proofs.Tests.{and-both, and-true, all-each, all-true}
 use Rattle.rules.proofs.Checks.{refused-not, then-both, pick-accepted}
-use Rattle.rules.proofs.Orders.{is-less}
-use Rattle.blocks.proofs.Turns.{then-accepted, accepted-pick, none-refused, in-order-iff, Passes, in-turn}
-use Rattle.blocks.proofs.Good.{GoodBlock, passes, root-accepts}
+use Rattle.blocks.proofs.Turns.{then-accepted, accepted-pick, none-refused, in-order-iff, in-turn}
+use Rattle.blocks.proofs.Good.{GoodBlock, form-accepts, passes, root-accepts}
 use Rattle.blocks.proofs.Lookup.{Ascending, lookup-finds}
+use Rattle.blocks.proofs.Forms.{FormedInline, FormedName, FormedReference, Forms, forms-accept}
 
 module _ (f : Format) where
   -- The schema that n records from record `first` on denote, with the names of the format's store.
@@ -78,31 +77,6 @@ module _ (f : Format) where
     pub good : GoodTables
 
 module _ (f : Format) where
-  -- ---- entries
-
-  entry-good : (j : ℕ) → Passes (entryOk f j) (entryDepthOk f j) (entryRule f j) → GoodEntry f j × (ascending f j ≡ true)
-  unfolding entryOk entryDepthOk entryRule
-  entry-good j p =
-      let a = and-both _ _ (p .form-ok) in
-      let b = and-both _ _ (a .0) in
-      (record { name = leb-true _ _ (b .0); good = passes _ _ _ _ .0 (record { form-ok = b .1; depth-ok = p .depth-ok; rules-ok = p .rules-ok }) }, a .1)
-
-  good-entry : (j : ℕ) → GoodEntry f j → ascending f j ≡ true → Passes (entryOk f j) (entryDepthOk f j) (entryRule f j)
-  unfolding entryOk entryDepthOk entryRule
-  good-entry j g a =
-      let p = passes _ _ _ _ .1 (g .good) in
-      record { form-ok = and-true _ _ (and-true _ _ (le-leb _ _ (g .name)) (p .form-ok)) a; depth-ok = p .depth-ok; rules-ok = p .rules-ok }
-
-  ascending-iff : (n : ℕ) → ((j : ℕ) → j < n → ascending f j ≡ true) ↔ Ascending (entryName (f .names) (f .registry)) n
-  unfolding ascending isLess
-  ascending-iff n = (λ h j l. rw add-one (is-less _ (rw add-one at (h (j + 1) l))), test)
-    where
-      test : Ascending (entryName (f .names) (f .registry)) n → (j : ℕ) → j < n → ascending f j ≡ true
-      test h zero l = refl
-      test h (suc j) l = rw (rw add-one at (h j (omega arith)))
-
-  -- ---- references
-
   record Rooted (l : Located) : Type 0 where
     first : ℕ
     count : ℕ
@@ -123,6 +97,27 @@ module _ (f : Format) where
     pub good : GoodBlock (f .table) (f .names) first count
     pub root : TableRoot (schemaFrom f first count)
 
+  module _ (r : Reference) where
+    good-formed : GoodReference f r → FormedReference f r
+    good-formed g = record {
+      spare = g .spare;
+      rest = g .rest;
+      either = ⊎-elim
+          (λ (i : Inline f r). inl (record { kind = i .kind; formed = record { inside = i .good .inside; formed = i .good .formed } }))
+          (λ (n : ByName f r). inr (record { kind = n .kind; name = n .name }))
+          (g .either);
+    }
+
+    good-passes : GoodReference f r → (pick (eqb (r .kind) 0) (blockDepthOk (f .table) (r .start) (r .len)) true ≡ true) × (inlineRule f r ≡ Accepted)
+    unfolding inlineRule pick
+    good-passes g = ⊎-elim
+        (λ (i : Inline f r).
+        let p = passes _ _ _ _ .1 (i .good) in
+        let z = eq-eqb (r .kind) 0 (i .kind) in
+        (rw z (p .depth-ok), rw z (p .rules-ok)))
+        (λ (n : ByName f r). let z = ne-eqb (r .kind) 0 (λ e. omega (arith, n .kind)) in (rw z, rw z))
+        (g .either)
+
   module _ (entries : (j : ℕ) → j < records (f .registry) → GoodEntry f j) (up : Ascending (entryName (f .names) (f .registry)) (records (f .registry))) (r : Reference) where
     pub placed : GoodReference f r → Placed r
     unfolding resolved pick
@@ -139,93 +134,73 @@ module _ (f : Format) where
         })
         (g .either)
 
-    reference-good : (t : ℕ) → Passes (referenceOk f r) (pick (eqb (r .kind) 0) (blockDepthOk (f .table) (r .start) (r .len)) true) (inlineRule f r then rootOf f t (resolved (f .names) (f .registry) r)) → GoodReference f r
-    unfolding referenceOk inlineRule resolved pick rootOf
-    reference-good t p =
-        let a = and-both _ _ (p .form-ok) in
-        let b = and-both _ _ (a .0) in
-        record {
-          spare = eqb-true _ _ (b .0);
-          rest = eqb-true _ _ (b .1);
-          either = by (eqb (r .kind) 0) refl (record { form-ok = a .1; depth-ok = p .depth-ok; rules-ok = p .rules-ok });
-        }
-      where
-        by : (b : Bool) → eqb (r .kind) 0 ≡ b →
-            Passes (pick b (blockFormOk (f .table) (length (f .names)) (r .start) (r .len)) (eqb (r .kind) 1 and leb (r .start + r .len) (length (f .names))))
-            (pick b (blockDepthOk (f .table) (r .start) (r .len)) true)
-            (pick b (blockRule (f .table) (r .start) (r .len)) Accepted then rootOf f t (pick b (Block (r .start) (r .len)) (lookup (f .names) (f .registry) (part (f .names) (r .start) (r .len)) 0 (records (f .registry))))) →
-            Inline f r ⊎ ByName f r
-        by true e p =
-            let q = then-both _ _ (p .rules-ok) in
-            let g = passes _ _ _ _ .0 (record { form-ok = p .form-ok; depth-ok = p .depth-ok; rules-ok = q .0 }) in
-            inl (record { kind = eqb-true _ _ e; good = g; root = root-accepts _ _ _ _ Purpose.Format g .0 (q .1) })
-        by false e p =
-            let a = and-both _ _ (p .form-ok) in
-            let q = rooted t _ (then-both _ _ (p .rules-ok) .1) in
-            let h = lookup-finds _ _ _ up _ _ .0 (q .is) in
-            inr (record { kind = eqb-true _ _ (a .0); name = leb-true _ _ (a .1); entry = h .entry; below = h .below; same = h .same; root = root-accepts _ _ _ _ Purpose.Format (entries (h .entry) (h .below) .good) .0 (rw (h .first-is, h .count-is) (q .accepts)) })
+    -- what depths and rules say of a formed reference
+    reference-good : (t : ℕ) → FormedReference f r → pick (eqb (r .kind) 0) (blockDepthOk (f .table) (r .start) (r .len)) true ≡ true → inlineRule f r then rootOf f t (resolved (f .names) (f .registry) r) ≡ Accepted → GoodReference f r
+    unfolding inlineRule resolved pick rootOf
+    reference-good t w d e = record {
+      spare = w .spare;
+      rest = w .rest;
+      either = ⊎-elim
+          (λ (i : FormedInline f r).
+          let z = eq-eqb (r .kind) 0 (i .kind) in
+          let q = then-both _ _ (rw z at e) in
+          let g = passes _ _ _ _ .0 (record { form-ok = form-accepts _ _ _ _ .1 (i .formed); depth-ok = rw z at d; rules-ok = q .0 }) in
+          inl (record { kind = i .kind; good = g; root = root-accepts _ _ _ _ Purpose.Format g .0 (q .1) }))
+          (λ (n : FormedName f r).
+          let z = ne-eqb (r .kind) 0 (λ e. omega (arith, n .kind)) in
+          let q = rooted t _ (then-both _ _ (rw z at e) .1) in
+          let h = lookup-finds _ _ _ up _ _ .0 (q .is) in
+          inr (record { kind = n .kind; name = n .name; entry = h .entry; below = h .below; same = h .same; root = root-accepts _ _ _ _ Purpose.Format (entries (h .entry) (h .below) .good) .0 (rw (h .first-is, h .count-is) (q .accepts)) }))
+          (w .either);
+    }
 
-    good-reference : (t : ℕ) → GoodReference f r → Passes (referenceOk f r) (pick (eqb (r .kind) 0) (blockDepthOk (f .table) (r .start) (r .len)) true) (inlineRule f r then rootOf f t (resolved (f .names) (f .registry) r))
-    unfolding referenceOk inlineRule pick rootOf
-    good-reference t g = ⊎-elim
-        (λ (i : Inline f r).
-        let p = passes _ _ _ _ .1 (i .good) in
-        let z = eq-eqb (r .kind) 0 (i .kind) in
-        record { form-ok = and-true _ _ zeros (rw z (p .form-ok)); depth-ok = rw z (p .depth-ok); rules-ok = then-accepted _ _ (rw z (p .rules-ok)) root })
-        (λ (n : ByName f r).
-        let z = ne-eqb (r .kind) 0 (λ e. omega (arith, n .kind)) in
-        record { form-ok = and-true _ _ zeros (rw z (and-true _ _ (eq-eqb _ _ (n .kind)) (le-leb _ _ (n .name)))); depth-ok = rw z; rules-ok = then-accepted _ _ (rw z) root })
-        (g .either)
-      where
-        zeros : (eqb (r .spare) 0 and eqb (r .rest) 0) ≡ true
-        zeros = and-true _ _ (eq-eqb _ _ (g .spare)) (eq-eqb _ _ (g .rest))
-
-        root : rootOf f t (resolved (f .names) (f .registry) r) ≡ Accepted
-        root = let p = placed g in rw (p .is) (root-accepts _ _ _ _ Purpose.Format (p .good) .1 (p .root))
+    good-root : (t : ℕ) → GoodReference f r → rootOf f t (resolved (f .names) (f .registry) r) ≡ Accepted
+    unfolding rootOf
+    good-root t g = let p = placed g in rw (p .is) (root-accepts _ _ _ _ Purpose.Format (p .good) .1 (p .root))
 
   -- ---- the whole
 
   rules-good : formatRules f ≡ Accepted → GoodTables f
-  unfolding formatRules formsOk depthsOk rulesOrder referenceFormOk referenceDepthOk referenceRule
+  unfolding formatRules depthsOk rulesOrder entryDepthOk entryRule referenceDepthOk referenceRule
   rules-good e =
       let p = in-turn _ _ _ _ _ .0 e in
-      let a = and-both _ _ (p .form-ok) in
-      let b = and-both _ _ (a .0) in
-      let c = and-both _ _ (b .0) in
-      let d = and-both _ _ (c .0) in
-      let deep = and-both _ _ (p .depth-ok) in
+      let w = forms-accept f .0 (p .form-ok) in
+      let d = and-both _ _ (p .depth-ok) in
       let u = none-refused _ _ _ (p .rules-ok) in
       let v = then-both _ _ (u .1) in
-      let entry : (j : ℕ) → j < records (f .registry) → GoodEntry f j × (ascending f j ≡ true) = λ j h.
-      entry-good j (record { form-ok = all-each _ _ j (b .1) h; depth-ok = all-each _ _ j (deep .0) h; rules-ok = in-order-iff _ _ .0 (v .0) j h }) in
-      let up = ascending-iff (records (f .registry)) .0 (λ j h. entry j h .1) in
       record {
-        whole-table = eqb-true _ _ (d .0);
-        whole-references = eqb-true _ _ (d .1);
-        whole-registry = eqb-true _ _ (c .1);
+        whole-table = w .whole-table;
+        whole-references = w .whole-references;
+        whole-registry = w .whole-registry;
         some = omega (arith, eqb-false (tables f) 0 (u .0));
-        entries = λ j h. entry j h .0;
-        ascends = up;
-        references = λ t h.
-            reference-good (λ j l. entry j l .0) up (referenceAt (f .references) t) t
-            (record { form-ok = all-each _ _ t (a .1) h; depth-ok = all-each _ _ t (deep .1) h; rules-ok = in-order-iff _ _ .0 (v .1) t h });
+        entries = good w d v;
+        ascends = w .ascends;
+        references = λ t h. reference-good (good w d v) (w .ascends) (referenceAt (f .references) t) t (w .references t h) (all-each _ _ t (d .1) h) (in-order-iff _ _ .0 (v .1) t h);
+      }
+    where
+      good : Forms f → (all (entryDepthOk f) (records (f .registry)) ≡ true) × (all (referenceDepthOk f) (tables f) ≡ true) → (inOrder (entryRule f) 0 (records (f .registry)) ≡ Accepted) × (inOrder (referenceRule f) 0 (tables f) ≡ Accepted) →
+          (j : ℕ) → j < records (f .registry) → GoodEntry f j
+      good w d v j h = record {
+        name = w .entries j h .name;
+        good = passes _ _ _ _ .0 (record { form-ok = form-accepts _ _ _ _ .1 (w .entries j h .formed); depth-ok = all-each _ _ j (d .0) h; rules-ok = in-order-iff _ _ .0 (v .0) j h });
       }
 
   good-rules : GoodTables f → formatRules f ≡ Accepted
-  unfolding formatRules formsOk depthsOk rulesOrder referenceFormOk referenceDepthOk referenceRule pick
-  good-rules g =
-      let entry : (j : ℕ) → j < records (f .registry) → Passes (entryOk f j) (entryDepthOk f j) (entryRule f j) = λ j h.
-      good-entry j (g .entries j h) (ascending-iff (records (f .registry)) .1 (g .ascends) j h) in
-      let reference : (t : ℕ) → t < tables f → Passes (referenceFormOk f t) (referenceDepthOk f t) (referenceRule f t) = λ t h.
-      good-reference (g .entries) (g .ascends) (referenceAt (f .references) t) t (g .references t h) in
-      in-turn _ _ _ _ _ .1
-      (record {
-        form-ok = and-true _ _
-            (and-true _ _ (and-true _ _ (and-true _ _ (eq-eqb _ _ (g .whole-table)) (eq-eqb _ _ (g .whole-references))) (eq-eqb _ _ (g .whole-registry))) (all-true _ _ (λ j h. entry j h .form-ok)))
-            (all-true _ _ (λ t h. reference t h .form-ok));
-        depth-ok = and-true _ _ (all-true _ _ (λ j h. entry j h .depth-ok)) (all-true _ _ (λ t h. reference t h .depth-ok));
-        rules-ok = rw (ne-eqb (tables f) 0 (λ e. omega (arith, g .some))) (then-accepted _ _ (in-order-iff _ _ .1 (λ j h. entry j h .rules-ok)) (in-order-iff _ _ .1 (λ t h. reference t h .rules-ok)));
-      })
+  unfolding formatRules depthsOk rulesOrder entryDepthOk entryRule referenceDepthOk referenceRule pick
+  good-rules g = in-turn _ _ _ _ _ .1 (record {
+    form-ok = forms-accept f .1 (record {
+      whole-table = g .whole-table;
+      whole-references = g .whole-references;
+      whole-registry = g .whole-registry;
+      entries = λ j h. let e = g .entries j h in record { name = e .name; formed = record { inside = e .good .inside; formed = e .good .formed } };
+      ascends = g .ascends;
+      references = λ t h. good-formed _ (g .references t h);
+    });
+    depth-ok = and-true _ _ (all-true _ _ (λ j h. passes _ _ _ _ .1 (g .entries j h .good) .depth-ok)) (all-true _ _ (λ t h. good-passes _ (g .references t h) .0));
+    rules-ok = rw (ne-eqb (tables f) 0 (λ e. omega (arith, g .some)))
+        (then-accepted _ _ (in-order-iff _ _ .1 (λ j h. passes _ _ _ _ .1 (g .entries j h .good) .rules-ok))
+        (in-order-iff _ _ .1 (λ t h. let r = g .references t h in then-accepted _ _ (good-passes _ r .1) (good-root (g .entries) (g .ascends) _ t r))));
+  })
 
   -- The check of a format, its sizes left aside, accepts just the good ones.
   pub rules-accept : (formatRules f ≡ Accepted) ↔ GoodTables f

@@ -2,13 +2,14 @@
 -- Assumes nothing.
 use Prim.Native.Nat.{ℕ, _+_, _%_, _≤_}
 use mathlib.Core.Path.{_≡_}
+use mathlib.Core.Bool.{true}
 use mathlib.Core.List.{List}
 use mathlib.Core.Logic.{_↔_}
 use borrow.Author.Tests.{leb-true, eqb-true, le-leb, eq-eqb}
 use lib.ListN.{length}
 use Rattle.rules.specs.Refusals.{_then_}
 use Rattle.rules.specs.Schema.{deep, Valid, TableRoot}
-use Rattle.rules.specs.Block.{records, block, Formed, treeAt, blockTree, depthOf, Ordered}
+use Rattle.rules.specs.Block.{records, block, Formed, treeAt, blockTree, Ordered}
 use Rattle.rules.specs.SchemaRules.{tableRule}
 use Rattle.rules.specs.Format.{blockFormOk, blockDepthOk, blockRule, oneBlock, schemaAnswer, encoderRules, encoderRule}
 use Rattle.rules.specs.declared.Purpose.{Purpose}
@@ -21,6 +22,11 @@ use Rattle.blocks.proofs.Levels.{block-denotes}
 use Rattle.blocks.proofs.Trees.{denotes-tree, same-depth}
 use Rattle.blocks.proofs.Rules.{accepted}
 use Rattle.blocks.proofs.Roots.{table-accepts}
+
+-- A formed block lies in the record table and has the form of a schema.
+pub record FormedBlock (table names : List ℕ) (first n : ℕ) : Type 0 where
+  pub inside : first + n ≤ records table
+  pub formed : Formed (block table first n) (length names)
 
 -- A good block lies in the record table, has the form of a schema, is at most 64 deep, and its schema keeps the rules.
 pub record GoodBlock (table names : List ℕ) (first n : ℕ) : Type 0 where
@@ -46,30 +52,35 @@ pub tree-within : (s store : List ℕ) → Ordered s → deep (blockTree s store
 tree-within s store o h = denotes-tree s store (block-denotes s store o) 64 h
 
 module _ (table names : List ℕ) (first n : ℕ) where
-  passes-good : Passes (blockFormOk table (length names) first n) (blockDepthOk table first n) (blockRule table first n) → GoodBlock table names first n
-  unfolding blockFormOk blockDepthOk blockRule
-  passes-good p =
-      let a = and-both _ _ (p .form-ok) in
-      let f = formed (block table first n) (length names) .0 (a .1) in
-      let d : deep (blockTree (block table first n) names) ≤ 64 = rw (same-depth (block table first n) names) at (leb-true (depthOf (block table first n)) 64 (p .depth-ok)) in
-      record {
-        inside = leb-true _ _ (a .0);
-        formed = f;
-        depth = d;
-        valid = rw (tree-within (block table first n) names (f .order) d) at (accepted (block table first n) names first 64 0 .0 (p .rules-ok));
-      }
+  -- A block passes the test of its form just if it is formed,
+  pub form-accepts : (blockFormOk table (length names) first n ≡ true) ↔ FormedBlock table names first n
+  unfolding blockFormOk
+  form-accepts = (
+    λ e. let a = and-both _ _ e in record { inside = leb-true _ _ (a .0); formed = formed _ _ .0 (a .1) },
+    λ g. and-true _ _ (le-leb _ _ (g .inside)) (formed _ _ .1 (g .formed)),
+  )
 
-  good-passes : GoodBlock table names first n → Passes (blockFormOk table (length names) first n) (blockDepthOk table first n) (blockRule table first n)
-  unfolding blockFormOk blockDepthOk blockRule
-  good-passes g = record {
-    form-ok = and-true _ _ (le-leb _ _ (g .inside)) (formed (block table first n) (length names) .1 (g .formed));
-    depth-ok = rw (same-depth (block table first n) names) (le-leb _ _ (g .depth));
-    rules-ok = accepted (block table first n) names first 64 0 .1 (rw (tree-within (block table first n) names (g .formed .order) (g .depth)) (g .valid));
-  }
+  -- the test of its depth just if its schema is at most 64 deep,
+  pub depth-accepts : (blockDepthOk table first n ≡ true) ↔ (deep (blockTree (block table first n) names) ≤ 64)
+  unfolding blockDepthOk
+  depth-accepts = rw (same-depth (block table first n) names) (leb-true _ _, le-leb _ _)
 
-  -- A block passes form, depth and rules just if it is good.
+  -- and then the schema rules just if its schema is valid.
+  pub rule-accepts : FormedBlock table names first n → deep (blockTree (block table first n) names) ≤ 64 → (blockRule table first n ≡ Accepted) ↔ Valid (blockTree (block table first n) names)
+  unfolding blockRule
+  rule-accepts g d = rw (← tree-within (block table first n) names (g .formed .order) d) (accepted (block table first n) names first 64 0)
+
+  -- So it passes all three just if it is good.
   pub passes : Passes (blockFormOk table (length names) first n) (blockDepthOk table first n) (blockRule table first n) ↔ GoodBlock table names first n
-  passes = (passes-good, good-passes)
+  passes = (
+    λ p.
+        let f = form-accepts .0 (p .form-ok) in
+        let d = depth-accepts .0 (p .depth-ok) in
+        record { inside = f .inside; formed = f .formed; depth = d; valid = rule-accepts f d .0 (p .rules-ok) },
+    λ g.
+        let f : FormedBlock table names first n = record { inside = g .inside; formed = g .formed } in
+        record { form-ok = form-accepts .1 f; depth-ok = depth-accepts .1 (g .depth); rules-ok = rule-accepts f (g .depth) .1 (g .valid) },
+  )
 
   -- A good block's root and names are accepted just if its schema is fit for a table.
   pub root-accepts : (purpose : Purpose) → GoodBlock table names first n → (tableRule purpose (block table first n) first ≡ Accepted) ↔ TableRoot (blockTree (block table first n) names)
@@ -88,10 +99,10 @@ module _ (table names : List ℕ) (first n : ℕ) where
           table-size = leb-true _ _ (s .0);
           names-size = leb-true _ _ (s .1);
           whole = eqb-true _ _ (w .0);
-          good = passes-good (record { form-ok = w .1; depth-ok = p .depth-ok; rules-ok = p .rules-ok });
+          good = passes .0 (record { form-ok = w .1; depth-ok = p .depth-ok; rules-ok = p .rules-ok });
         },
     λ g.
-        let p = good-passes (g .good) in
+        let p = passes .1 (g .good) in
         accepted-pick _ _ _ (and-true _ _ (le-leb _ _ (g .table-size)) (le-leb _ _ (g .names-size)))
         (in-turn _ _ _ _ _ .1 (record { form-ok = and-true _ _ (eq-eqb _ _ (g .whole)) (p .form-ok); depth-ok = p .depth-ok; rules-ok = p .rules-ok })),
   )

@@ -14,7 +14,7 @@ use Rattle.rules.specs.Format.{entryAt, entryName, lookup}
 use Rattle.rules.specs.declared.Order.{Order}
 use Rattle.rules.specs.declared.Order.the-variants.{Less, Equal, Greater}
 use Rattle.rules.specs.declared.Located.{Located}
-use Rattle.rules.specs.declared.Located.the-variants.{Block, NoEntry}
+use Rattle.rules.specs.declared.Located.the-variants.{Block, NoTable, NoEntry}
 use Rattle.rules.proofs.Orders.{order-equal, order-same, order-less-trans}
 
 -- Strictly ascending: each of n names is less than the one after it.
@@ -93,6 +93,14 @@ module _ (names registry name : List ℕ) where
         rw (i, h .first-is, h .count-is),
   )
   looked-finds (missing f) up first n = (λ p. let z : _≡_ {A = ℕ} 0 1 = cc in absurd (omega arith), λ h. absurd (f (h .entry) (omega arith) (omega (arith, h .below)) (h .same)))
+
+  looked-there : {l : Located} (j n : ℕ) → Looked j n l → l ≡ NoTable → ⊥
+  looked-there j n (found a b e) p = let z : _≡_ {A = ℕ} 0 1 = cc in omega arith
+  looked-there j n (missing f) p = let z : _≡_ {A = ℕ} 0 1 = cc in omega arith
+
+  -- A lookup has nothing to say of tables.
+  pub lookup-there : lookup names registry name 0 (records registry) ≡ NoTable → ⊥
+  lookup-there = looked-there 0 (records registry) (looked 0 (records registry))
 
   -- The lookup finds no entry just if none has the name.
   pub lookup-misses : (lookup names registry name 0 (records registry) ≡ NoEntry) ↔ ((k : ℕ) → k < records registry → entryName names registry k ≡ name → ⊥)
