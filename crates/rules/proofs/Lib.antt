@@ -2,3 +2,4 @@ pub mod Tests
 pub mod Checks
 pub mod Rows
 pub mod Orders
+pub mod Over

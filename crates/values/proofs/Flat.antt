@@ -3,7 +3,7 @@
 use Prim.Native.Nat.{ℕ, zero, suc, _+_, _*_, _/_, _%_, _^_, _≤_, _<_}
 use mathlib.Core.Path.{_≡_, refl, sym, ap, _∙_}
 use mathlib.Core.Bool.{Bool, true, false}
-use mathlib.Core.List.{List, [], append-nil}
+use mathlib.Core.List.{List}
 use mathlib.Core.Logic.{_↔_}
 use native.Mathlib.Omega.{arith}
 use native.Mathlib.Nat.{pow-le-pow-right, lt-of-lt-of-le}
@@ -15,13 +15,14 @@ use Rattle.rules.specs.Bytes.{Stands}
 use Rattle.rules.specs.Wire.{Form, empty, truth, fixed, raw, sized, form, written, writtenIf, typeOf, typeIn, wireTypes}
 use Rattle.rules.specs.Value.{Value, nothing, boolean, number, wide, blob, variant, repeated, tuple, Items, done, item, Values, none, more, items, values, tallyI, tallyV, tall, tallI, tallV, Fits, FitsI, FitsV, recordsOf, payloadOf}
 use Rattle.rules.specs.ValueTable.{valueRecord, bit, pays, paysI, paysV, flat, flatI, flatV, TableOf, Spot, Parsed, Whole, Broken, _>>=_, kindOf, isRecord, kindAt, tagAt, sizeAt, dataAt, next, scalarAt, itemsAt, valuesAt, nodeOf, valueAt, exactly, tableValue}
-use Rattle.values.proofs.Stands.{stands-in, stands-left, stands-part, stands-le, stands-seam}
+use Rattle.values.proofs.Stands.{stands-in, stands-left, stands-part, stands-le, stands-self}
 use Rattle.values.proofs.Records.{length-record, is-record, kind-stands, size-stands, data-stands}
 use Rattle.values.proofs.Sizes.{length-pays, length-flat, length-flatI, length-flatV, items-within, values-within}
 use Rattle.values.proofs.Codes.{fixed-code, raw-code, sized-code}
 use Rattle.values.proofs.Span.{Span, left, right, rest-span, lands, lands-next, lands-here, bears}
 use Rattle.values.proofs.Parse.{Reads, ends, is-table}
 
+-- a boolean as a number, and back
 test-bit : (x : Bool) → ltb 0 (bit x) ≡ x
 unfolding bit
 test-bit true = refl
@@ -36,9 +37,11 @@ bit-small false = omega arith
 wider : (w n x : ℕ) → w ≤ n → x < 256 ^ w → x < 256 ^ n
 wider w n x h l = lt-of-lt-of-le l (pow-le-pow-right (omega arith) h)
 
+-- an answer ends where its reading ends
 answered : {A : Type 0} (a : A) {p q : Spot} → q ≡ p → Whole a p ≡ Whole a q
 answered a e = rw e
 
+-- a value has a level
 one-tall : (v : Value) → 1 ≤ tall v
 unfolding tall
 one-tall nothing = omega arith
@@ -56,13 +59,14 @@ module _ (table store : List ℕ) where
   stood i kind tag n x h = is-record table store i (valueRecord kind tag n x) (length-record kind tag n x) .1 h
 
   -- and its fields are read as what they were written for
-  size-is : (i kind tag n x : ℕ) → n < 256 ^ 4 → Stands table (i * 16) (valueRecord kind tag n x) → sizeAt table store i ≡ n
+  pub size-is : (i kind tag n x : ℕ) → n < 256 ^ 4 → Stands table (i * 16) (valueRecord kind tag n x) → sizeAt table store i ≡ n
   size-is i kind tag n x l h = stands-le table (i * 16 + 4) 4 n l (size-stands table (i * 16) kind tag n x h)
 
   data-is : (i kind tag n x : ℕ) → x < 256 ^ 8 → Stands table (i * 16) (valueRecord kind tag n x) → dataAt table store i ≡ x
   data-is i kind tag n x l h = stands-le table (i * 16 + 8) 8 x l (data-stands table (i * 16) kind tag n x h)
 
-  tag-is : (v : Value) (i tag p : ℕ) → tag < 256 ^ 2 → Stands table (i * 16) (flat v tag p) → tagAt table store i ≡ tag
+  -- the record of a value says by which tag it was chosen
+  pub tag-is : (v : Value) (i tag p : ℕ) → tag < 256 ^ 2 → Stands table (i * 16) (flat v tag p) → tagAt table store i ≡ tag
   tag-is v i tag p l h = stands-le table (i * 16 + 2) 2 tag l (bears table store v (i * 16) tag p h)
 
   -- a scalar's record goes to the rule of its form
@@ -71,15 +75,16 @@ module _ (table store : List ℕ) where
   unfolding nodeOf kindOf pick
   to-scalar child k tag n x f p l e h = let i = kind-stands table (p .at * 16) k tag n x h in rw (i, lt-ltb k 15 l, e, i)
 
-  -- the counts of a table fit their fields
   module _ (short : length table ≤ 4294967295) where
-    count-fits : (at n c : ℕ) (rows : List ℕ) → Stands table at rows → length rows ≡ 16 * c → n ≤ c → n < 256 ^ 4
+    -- the counts of a table fit their fields, since each child has a record
+    pub count-fits : (at n c : ℕ) (rows : List ℕ) → Stands table at rows → length rows ≡ 16 * c → n ≤ c → n < 256 ^ 4
     count-fits at n c rows h e l = omega (arith, stands-in table at rows h)
 
     -- how a child is read
     Child : ℕ → (ℕ → Spot → Parsed Value) → Type 0
     Child d child = (v : Value) (tag : ℕ) (p q : Spot) → Reads table store d tag p v q → child tag p ≡ Whole v q
 
+    -- items that stand, and children of a tuple that stand, are read
     items-parse : (d : ℕ) (child : ℕ → Spot → Parsed Value) → Child d child → (is : Items) (p q : Spot) → Span table store p q (flatI is (p .from)) (paysI is) → FitsI is → tallI is ≤ d →
         itemsAt table store child (items is) p ≡ Whole is q
     unfolding Child itemsAt flatI paysI FitsI tallI items _>>=_
@@ -98,6 +103,7 @@ module _ (table store : List ℕ) where
         let b = right table store (flat v 0 (p .from)) (flatV vs (p .from + payloadOf v)) (pays v) (paysV vs) (recordsOf v) (payloadOf v) (length-flat v 0 (p .from)) (length-pays v) s in
         rw (ok v 0 p _ (record { span = a; fits = f .0; depth = omega arith }), values-parse d child ok vs _ q b (f .1) (omega arith))
 
+    -- so is a node, if its children are
     node-parses : (d : ℕ) (child : ℕ → Spot → Parsed Value) → Child d child → (v : Value) (tag : ℕ) (p q : Spot) → Reads table store (suc d) tag p v q →
         nodeOf table store child (kindOf (kindAt table store (p .at))) tag p ≡ Whole v q
     unfolding Child nodeOf scalarAt flat pays Fits tall pick _and_ _>>=_ kindOf form written writtenIf typeOf typeIn wireTypes
@@ -163,9 +169,6 @@ module _ (table store : List ℕ) where
     unfolding valueAt Child
     parses zero v tag p q a = absurd (omega (arith, one-tall v, a .depth))
     parses (suc d) v tag p q a = node-parses d (valueAt table store d) (parses d) v tag p q a
-
-stands-self : (xs : List ℕ) → Stands xs 0 xs
-stands-self xs = rw append-nil at (stands-seam [] xs [])
 
 -- The table of a value is accepted, with that value.
 pub accepted : (r y : List ℕ) (v : Value) → length r ≤ 4294967295 → TableOf v r y → tableValue r y ≡ Whole v (ends r y)

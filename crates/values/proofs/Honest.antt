@@ -1,57 +1,22 @@
 -- What the refusals of writing say: where the walk met a value that its schema node does not take, and why not.
 -- Assumes nothing.
-use Prim.Native.Nat.{ℕ, _+_, _≤_, _<_}
+use Prim.Native.Nat.{ℕ, _+_, _*_, _^_, _≤_, _<_}
 use mathlib.Core.Path.{_≡_, refl}
 use mathlib.Core.List.{List}
 use borrow.Author.Tests.{leb-false, eqb-true, eqb-false}
 use lib.ListN.{length}
-use Rattle.rules.specs.Block.{nodeAt}
-use Rattle.rules.specs.Value.{Value, nothing, boolean, number, wide, blob, variant, repeated, tuple, Items, done, item, Values, none, more, values, recordsOf}
+use Rattle.rules.specs.Block.{nodeAt, records}
+use Rattle.rules.specs.Value.{Value, nothing, boolean, number, wide, blob, variant, repeated, tuple, Items, done, item, Values, none, more, values, recordsOf, tallyV, Fits}
+use Rattle.rules.specs.ValueTable.{TableOf, kindAt, tagAt, sizeAt, valueRecord, flat, flatV}
 use Rattle.rules.specs.Walk.{Limits, blobLimit}
 use Rattle.rules.specs.Writing.{Refused, write, writeI, writeV, writeRow}
 use Rattle.rules.specs.declared.Refusal.{Refusal}
 use Rattle.rules.specs.declared.Refusal.the-variants.{BlobTooLarge, ValueDoesNotMatchSchema, TupleLength, InvalidVariantTag}
+use Rattle.values.proofs.Stands.{stands-left, stands-self}
+use Rattle.values.proofs.Sizes.{length-flatV, values-within}
+use Rattle.values.proofs.Flat.{size-is, tag-is, count-fits}
+use Rattle.values.proofs.Meets.{kind, Has, first, later, HasV, firstV, laterV, Met, itself, in-variant, in-repeated, in-tuple, Kept, has-fits, has-kept, variant-kept, repeated-kept, tuple-kept, met-fits, met-kept, kept-in, kept-kind}
 use Rattle.values.proofs.Says.{Any, Says, puts, refuses, then, either, refused, takes, fits, tags}
-
--- the kind of a value's record
-unfoldable pub kind : Value → ℕ
-kind nothing = 0
-kind (boolean x) = 1
-kind (number k x) = k
-kind (wide k x) = k
-kind (blob k x) = k
-kind (variant t v) = 15
-kind (repeated is) = 16
-kind (tuple vs) = 17
-
--- among items whose first record is r, one is v, chosen by tag t; its record is n
-pub data Has : Items → ℕ → ℕ → Value → ℕ → Type 0 where
-  first : {r t : ℕ} {v : Value} {is : Items} →
-      Has (item t v is) r t v r
-  later : {r t u n : ℕ} {v w : Value} {is : Items} →
-      Has is (r + recordsOf v) u w n →
-      Has (item t v is) r u w n
-
--- among a tuple's children, whose first record is r and whose first node is j, one is v; its node is k and its record n
-pub data HasV : Values → ℕ → ℕ → Value → ℕ → ℕ → Type 0 where
-  firstV : {j r : ℕ} {v : Value} {vs : Values} →
-      HasV (more v vs) j r v j r
-  laterV : {j r k n : ℕ} {v w : Value} {vs : Values} →
-      HasV vs (j + 1) (r + recordsOf v) w k n →
-      HasV (more v vs) j r w k n
-
--- the walk of a value, from node i₀ and record r₀ on, meets v at node j; its record is n
-pub data Met (sch : List ℕ) (whole : Value) (i₀ r₀ : ℕ) : Value → ℕ → ℕ → Type 0 where
-  itself : Met sch whole i₀ r₀ whole i₀ r₀
-  in-variant : {i r t j n : ℕ} {v : Value} →
-      Met sch whole i₀ r₀ (variant t v) i r → t < nodeAt sch i .children → j ≡ nodeAt sch i .first + t → n ≡ r + 1 →
-      Met sch whole i₀ r₀ v j n
-  in-repeated : {i r t j n : ℕ} {is : Items} {v : Value} →
-      Met sch whole i₀ r₀ (repeated is) i r → Has is (r + 1) t v n → t < nodeAt sch i .children → j ≡ nodeAt sch i .first + t →
-      Met sch whole i₀ r₀ v j n
-  in-tuple : {i r j n : ℕ} {vs : Values} {v : Value} →
-      Met sch whole i₀ r₀ (tuple vs) i r → HasV vs (nodeAt sch i .first) (r + 1) v j n → values vs ≡ nodeAt sch i .children →
-      Met sch whole i₀ r₀ v j n
 
 -- why a value is not written at node i₀, its record being r₀
 pub data Reason (sch : List ℕ) (lim : Limits) (whole : Value) (i₀ r₀ : ℕ) : Refusal → Type 0 where
@@ -118,3 +83,55 @@ honest-row sch lim v x e = refused (rw e at all)
   where
     all : Says Any (Reason sch lim v 0 0) (writeRow sch lim v)
     all = then (write-says sch lim v 0 0 v 0 0 itself) (λ b h. puts tt)
+
+-- ---- the same against the flat table
+
+-- what a refusal carries is what the record at its place says
+pub data Blames (table store : List ℕ) : Refusal → Type 0 where
+  -- 14: that record's kind and payload length
+  blames-blob : {k len limit n : ℕ} →
+      n < records table → kindAt table store n ≡ k → sizeAt table store n ≡ len → limit < len →
+      Blames table store (BlobTooLarge k len limit n)
+  -- 15: its kind
+  blames-kind : {code k n : ℕ} →
+      n < records table → kindAt table store n ≡ k →
+      Blames table store (ValueDoesNotMatchSchema code k n)
+  -- 16: its child count
+  blames-tuple : {expected actual n : ℕ} →
+      n < records table → kindAt table store n ≡ 17 → sizeAt table store n ≡ actual → (actual ≡ expected → ⊥) →
+      Blames table store (TupleLength expected actual n)
+  -- 17: the tag that it bears
+  blames-tag : {code t children n : ℕ} →
+      n < records table → tagAt table store n ≡ t → children ≤ t →
+      Blames table store (InvalidVariantTag code t children n)
+
+module _ (sch : List ℕ) (lim : Limits) (table store : List ℕ) (whole : Value) (i₀ : ℕ) (short : length table ≤ 4294967295) (is-table : TableOf whole table store) where
+  from-start : Kept table whole 0 0
+  from-start = record { before = 0; stands = rw (← (is-table .rows)) (stands-self table) }
+
+  tag-blamed : (code t children n : ℕ) (v : Value) → children ≤ t → t < 256 ^ 2 → Kept table v t n → Blames table store (InvalidVariantTag code t children n)
+  tag-blamed code t children n v l f k = blames-tag (kept-in table k) (tag-is table store v n t (k .before) f (k .stands)) l
+
+  reason-blames : {x : Refusal} → Reason sch lim whole i₀ 0 x → Blames table store x
+  unfolding flat Fits kind
+  reason-blames (too-large {k = k} {n = n} {x = x} m q l) =
+      let h = met-kept table sch from-start m in
+      blames-blob (kept-in table (h .1)) (kept-kind table (blob k x) (h .0) n (h .1)) (size-is table store n k (h .0) (length x) (h .1 .before) (met-fits sch whole i₀ 0 (is-table .fits) m .1) (h .1 .stands)) l
+  reason-blames (mismatch {n = n} {v = v} m q) =
+      let h = met-kept table sch from-start m in
+      blames-kind (kept-in table (h .1)) (kept-kind table v (h .0) n (h .1))
+  reason-blames (wrong-length {n = n} {vs = vs} m q l) =
+      let h = met-kept table sch from-start m in
+      let s = stands-left table (n * 16) (valueRecord 17 (h .0) (values vs) 0) (flatV vs (h .1 .before)) (h .1 .stands) in
+      let c = count-fits table store short ((n + 1) * 16) (values vs) (tallyV vs 1 0 0) (flatV vs (h .1 .before)) (tuple-kept table (h .0) n vs (h .1)) (length-flatV vs (h .1 .before)) (values-within vs) in
+      blames-tuple (kept-in table (h .1)) (kept-kind table (tuple vs) (h .0) n (h .1)) (size-is table store n 17 (h .0) (values vs) 0 c s) l
+  reason-blames (stray {t = t} {j = j} {n = n} {v = v} m q l) =
+      let h = met-kept table sch from-start m in
+      tag-blamed (nodeAt sch j .code) t (nodeAt sch j .children) (n + 1) v l (met-fits sch whole i₀ 0 (is-table .fits) m .0) (variant-kept table t (h .0) n (n + 1) v refl (h .1))
+  reason-blames (stray-item {t = t} {j = j} {n = n} {m = i} {is = is} {v = v} m q g l) =
+      let h = met-kept table sch from-start m in
+      tag-blamed (nodeAt sch j .code) t (nodeAt sch j .children) i v l (has-fits g (met-fits sch whole i₀ 0 (is-table .fits) m) .0) (has-kept table g (h .1 .before) (repeated-kept table (h .0) n is (h .1)))
+
+-- The place of a refusal is a record of the value table, and what the refusal carries of the value is what that record says.
+pub blames : (sch : List ℕ) (lim : Limits) (table store : List ℕ) (v : Value) (x : Refusal) → length table ≤ 4294967295 → TableOf v table store → writeRow sch lim v ≡ Refused x → Blames table store x
+blames sch lim table store v x short t e = reason-blames sch lim table store v 0 short t (honest-row sch lim v x e)

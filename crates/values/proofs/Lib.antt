@@ -7,5 +7,6 @@ pub mod Parse
 pub mod Flat
 pub mod Says
 pub mod Written
+pub mod Meets
 pub mod Honest
 pub mod Conform

@@ -61,13 +61,14 @@ module _ (table store : List ℕ) where
     pub fits : Fits v
     pub depth : tall v ≤ d
 
-  -- and those of n items, or of n children of a tuple
+  -- from p to q stand the records and the payload of n items
   pub record ReadsI (d n : ℕ) (p : Spot) (is : Items) (q : Spot) : Type 0 where
     pub span : Span table store p q (flatI is (p .from)) (paysI is)
     pub fits : FitsI is
     pub depth : tallI is ≤ d
     pub count : items is ≡ n
 
+  -- from p to q stand the records and the payload of n children of a tuple
   pub record ReadsV (d n : ℕ) (p : Spot) (vs : Values) (q : Spot) : Type 0 where
     pub span : Span table store p q (flatV vs (p .from)) (paysV vs)
     pub fits : FitsV vs

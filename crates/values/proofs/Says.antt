@@ -22,17 +22,21 @@ pub data Says (P : List ℕ → Type 0) (R : Refusal → Type 0) : Wrote → Typ
   puts : {b : List ℕ} → P b → Says P R (Put b)
   refuses : {r : Refusal} → R r → Says P R (Refused r)
 
+-- what holds of bytes that were put
 pub put : {P : List ℕ → Type 0} {R : Refusal → Type 0} {b : List ℕ} → Says P R (Put b) → P b
 put (puts h) = h
 
+-- what holds of a refusal that was answered
 pub refused : {P : List ℕ → Type 0} {R : Refusal → Type 0} {r : Refusal} → Says P R (Refused r) → R r
 refused (refuses h) = h
 
+-- one after another
 pub then : {P Q : List ℕ → Type 0} {R : Refusal → Type 0} {x : Wrote} {k : List ℕ → Wrote} → Says P R x → ((b : List ℕ) → P b → Says Q R (k b)) → Says Q R (x >>= k)
 unfolding _>>=_
 then (puts {b = b} h) f = f b h
 then (refuses h) f = refuses h
 
+-- by a test
 pub either : {P : List ℕ → Type 0} {R : Refusal → Type 0} {x y : Wrote} (t : Bool) → (t ≡ true → Says P R x) → (t ≡ false → Says P R y) → Says P R (pick t x y)
 unfolding pick
 either true f g = f refl
@@ -43,11 +47,13 @@ module _ (sch : List ℕ) (lim : Limits) where
   abbrev pub takes : ℕ → ℕ
   takes i = kindFor (nodeAt sch i .code) (form (nodeAt sch i .code))
 
+  -- the kind is tested (15)
   pub fits : {P : List ℕ → Type 0} {R : Refusal → Type 0} {w : Wrote} (kind i r : ℕ) →
       ((kind ≡ takes i → ⊥) → R (ValueDoesNotMatchSchema (nodeAt sch i .code) kind r)) → (kind ≡ takes i → Says P R w) → Says P R (fitting sch lim kind i r w)
   unfolding fitting
   fits kind i r g f = either _ (λ e. f (eqb-true kind (takes i) e)) (λ e. refuses (g (eqb-false kind (takes i) e)))
 
+  -- the tag is tested (17)
   pub tags : {P : List ℕ → Type 0} {R : Refusal → Type 0} {w : Wrote} (t i r : ℕ) →
       (nodeAt sch i .children ≤ t → R (InvalidVariantTag (nodeAt sch i .code) t (nodeAt sch i .children) r)) → (t < nodeAt sch i .children → Says P R w) → Says P R (tagged sch lim t i r w)
   unfolding tagged

@@ -1,12 +1,13 @@
 -- How long the table of a value is: sixteen bytes for each record, and its payload bytes.
 -- Assumes nothing.
 use Prim.Native.Nat.{ℕ, _+_, _*_, _≤_}
-use mathlib.Core.Path.{_≡_, refl, _∙_}
+use mathlib.Core.Path.{_≡_, refl, ap, _∙_}
 use mathlib.Core.List.{List, _++_}
 use native.Mathlib.Omega.{arith}
 use lib.ListN.{length, length-append}
+use Rattle.rules.specs.Block.{records}
 use Rattle.rules.specs.Value.{Value, nothing, boolean, number, wide, blob, variant, repeated, tuple, Items, done, item, Values, none, more, items, values, tally, tallyI, tallyV, recordsOf, payloadOf}
-use Rattle.rules.specs.ValueTable.{valueRecord, bit, pays, paysI, paysV, flat, flatI, flatV}
+use Rattle.rules.specs.ValueTable.{valueRecord, bit, pays, paysI, paysV, flat, flatI, flatV, TableOf}
 use Rattle.values.proofs.Records.{length-record}
 
 mutual
@@ -23,10 +24,12 @@ mutual
   length-pays (repeated is) = omega (arith, length-paysI is)
   length-pays (tuple vs) = omega (arith, length-paysV vs)
 
+  -- so have items
   pub length-paysI : (is : Items) → length (paysI is) ≡ tallyI is 0 1 1
   length-paysI done = refl
   length-paysI (item t v is) = simp length-append (omega (arith, length-pays v, length-paysI is))
 
+  -- and the children of a tuple
   pub length-paysV : (vs : Values) → length (paysV vs) ≡ tallyV vs 0 1 1
   length-paysV none = refl
   length-paysV (more v vs) = simp length-append (omega (arith, length-pays v, length-paysV vs))
@@ -57,10 +60,12 @@ mutual
   length-flat (repeated is) tag p = below 16 tag (items is) 0 (tallyI is 1 0 0) (flatI is p) (length-flatI is p)
   length-flat (tuple vs) tag p = below 17 tag (values vs) 0 (tallyV vs 1 0 0) (flatV vs p) (length-flatV vs p)
 
+  -- so have the records of items
   pub length-flatI : (is : Items) (p : ℕ) → length (flatI is p) ≡ 16 * tallyI is 1 0 0
   length-flatI done p = refl
   length-flatI (item t v is) p = beside (flat v t p) (flatI is (p + payloadOf v)) (recordsOf v) (tallyI is 1 0 0) (length-flat v t p) (length-flatI is (p + payloadOf v))
 
+  -- and those of the children of a tuple
   pub length-flatV : (vs : Values) (p : ℕ) → length (flatV vs p) ≡ 16 * tallyV vs 1 0 0
   length-flatV none p = refl
   length-flatV (more v vs) p = beside (flat v 0 p) (flatV vs (p + payloadOf v)) (recordsOf v) (tallyV vs 1 0 0) (length-flat v 0 p) (length-flatV vs (p + payloadOf v))
@@ -77,13 +82,21 @@ one-record (variant t v) = omega arith
 one-record (repeated is) = omega arith
 one-record (tuple vs) = omega arith
 
--- so there are no more children than records
+-- so there are no more items than records
 pub items-within : (is : Items) → items is ≤ tallyI is 1 0 0
 unfolding items tallyI recordsOf
 items-within done = omega arith
 items-within (item t v is) = omega (arith, one-record v, items-within is)
 
+-- and no more children of a tuple
 pub values-within : (vs : Values) → values vs ≤ tallyV vs 1 0 0
 unfolding values tallyV recordsOf
 values-within none = omega arith
 values-within (more v vs) = omega (arith, one-record v, values-within vs)
+
+-- The table of a value has a record for each of its nodes, and its payload bytes.
+pub counts : (r y : List ℕ) (v : Value) → TableOf v r y → (recordsOf v ≡ records r) × (payloadOf v ≡ length y)
+counts r y v t =
+    let l : length r ≡ 16 * recordsOf v = ap length (t .rows) ∙ length-flat v 0 0 in
+    let m : length y ≡ payloadOf v = ap length (t .payload) ∙ length-pays v in
+    (omega arith, omega arith)

@@ -19,6 +19,7 @@ module _ (table store : List ℕ) where
     pub at-end : q .at * 16 ≡ p .at * 16 + length rows
     pub from-end : q .from ≡ p .from + length payload
 
+  -- two spans, one after the other, are one
   pub join : {p q r : Spot} (a b x y : List ℕ) → Span p q a x → Span q r b y → Span p r (a ++ b) (x ++ y)
   join {p} {q} {r} a b x y s t = record {
     rows-stand = stands-both table (p .at * 16) a b (s .rows-stand) (rw (← (s .at-end)) (t .rows-stand));
@@ -31,6 +32,7 @@ module _ (table store : List ℕ) where
   abbrev pub onward : ℕ → ℕ → Spot → Spot
   onward n m p = record { at = p .at + n; from = p .from + m }
 
+  -- the first part of a span
   pub left : {p r : Spot} (a b x y : List ℕ) (n m : ℕ) → length a ≡ 16 * n → length x ≡ m → Span p r (a ++ b) (x ++ y) → Span p (onward n m p) a x
   left {p} {r} a b x y n m l k s = record {
     rows-stand = stands-left table (p .at * 16) a b (s .rows-stand);
@@ -39,6 +41,7 @@ module _ (table store : List ℕ) where
     from-end = rw k;
   }
 
+  -- and the second part
   pub right : {p r : Spot} (a b x y : List ℕ) (n m : ℕ) → length a ≡ 16 * n → length x ≡ m → Span p r (a ++ b) (x ++ y) → Span (onward n m p) r b y
   right {p} {r} a b x y n m l k s =
       let e : p .at * 16 + length a ≡ (p .at + n) * 16 = rw l (omega arith) in
@@ -92,16 +95,19 @@ module _ (table store : List ℕ) where
       let z : p .from + 0 ≡ p .from = omega arith in
       rw z at (right (valueRecord kind tag n x) rest [] payload 1 0 (length-record kind tag n x) refl s)
 
-  -- a span is over its bytes, so its ends are one if it is over none, and a record apart if it is over one
+  -- a spot is its two numbers
   pub same-spot : {p q : Spot} → q .at ≡ p .at → q .from ≡ p .from → q ≡ p
   same-spot a b = λ i. record { at = a i; from = b i }
 
+  -- a span over a record and payload bytes ends at the next record, past those bytes
   pub lands : {p q : Spot} (kind tag n x : ℕ) (payload : List ℕ) → Span p q (valueRecord kind tag n x) payload → q ≡ past table store (length payload) p
   lands {p} {q} kind tag n x payload s = same-spot {p = past table store (length payload) p} (omega (arith, rw (length-record kind tag n x) at (s .at-end))) (s .from-end)
 
+  -- a span over a record alone ends at the next record
   pub lands-next : {p q : Spot} (kind tag n x : ℕ) → Span p q (valueRecord kind tag n x) [] → q ≡ next table store p
   lands-next {p} {q} kind tag n x s = same-spot {p = next table store p} (omega (arith, rw (length-record kind tag n x) at (s .at-end))) (omega (arith, s .from-end))
 
+  -- a span over nothing ends where it begins
   pub lands-here : {p q : Spot} → Span p q [] [] → q ≡ p
   lands-here {p} {q} s = same-spot (omega (arith, s .at-end)) (omega (arith, s .from-end))
 

@@ -11,26 +11,30 @@ use Rattle.rules.specs.Choice.{pick}
 use Rattle.rules.specs.Bytes.{le}
 use Rattle.rules.specs.Wire.{Form, form, widthOf}
 use Rattle.rules.specs.Schema.{Name, Schema, node, Schemas, count, child}
-use Rattle.rules.specs.Block.{nodeAt, Denotes, denotes, DenoteAll, no-node, a-node}
+use Rattle.rules.specs.Block.{nodeAt, Ordered, blockTree, Denotes, denotes, DenoteAll, no-node, a-node}
 use Rattle.rules.specs.Value.{Value, nothing, boolean, number, wide, blob, variant, repeated, tuple, Items, done, item, Values, none, more, values, recordsOf, Within, WithinI, WithinV, Fits, FitsI, FitsV}
 use Rattle.rules.specs.Grammar.{Conforms, conforms, Suits, s-nothing, s-boolean, s-number, s-wide, s-blob, s-variant, s-repeated, s-tuple, SuitI, s-done, s-item, SuitV, s-none, s-more, formOf, childrenOf, bytesV, bytesI, bytesF, encoded, encodedRow}
 use Rattle.rules.specs.Walk.{Limits, blobLimit}
 use Rattle.rules.specs.Writing.{Wrote, Put, _>>=_, kindFor, fitting, tagged, write, writeI, writeV, writeRow}
+use Rattle.blocks.proofs.Levels.{block-denotes}
 use Rattle.values.proofs.Says.{Any, Says, puts, refuses, then, either, put, fits, tags}
 use Rattle.values.proofs.Codes.{empty-code, truth-code, plain, scalar-taken, nothing-taken, boolean-taken, variant-taken, repeated-taken, tuple-taken}
 
 module _ (sch store : List ℕ) where
+  -- a node has as many children as the schema that it denotes
   pub denote-count : {j n : ℕ} {ss : Schemas} → DenoteAll sch store j n ss → count ss ≡ n
   unfolding count
   denote-count no-node = refl
   denote-count (a-node a b) = ap suc (denote-count b)
 
+  -- the child that a tag names is denoted by the node that the tag names
   pub denote-child : {j n : ℕ} {ss : Schemas} → DenoteAll sch store j n ss → (t : ℕ) → t < n → Denotes sch store (j + t) (child ss t)
   unfolding child
   denote-child no-node t h = absurd (omega arith)
   denote-child (a-node {i = j} a b) zero h = let z : j + 0 ≡ j = omega arith in rw z a
   denote-child (a-node {i = j} a b) (suc t) h = let z : j + suc t ≡ (j + 1) + t = omega arith in rw z (denote-child b t (omega arith))
 
+  -- a tuple's values are as many as the node's children
   denote-values : {j n : ℕ} {ss : Schemas} {vs : Values} → SuitV ss vs → DenoteAll sch store j n ss → values vs ≡ n
   unfolding values
   denote-values s-none no-node = refl
@@ -42,6 +46,7 @@ pub record Fair (lim : Limits) (s : Schema) (v : Value) (b : List ℕ) : Type 0 
   pub within : Within (blobLimit lim) v
   pub bytes : b ≡ encoded s v
 
+-- the same of pairs with tags of w bytes, and of a tuple's children
 record FairI (lim : Limits) (w : ℕ) (ss : Schemas) (is : Items) (b : List ℕ) : Type 0 where
   suits : SuitI ss is
   within : WithinI (blobLimit lim) is
@@ -71,6 +76,7 @@ module _ (sch store : List ℕ) (lim : Limits) where
   mutual
     unfolding write Within encoded bytesV formOf childrenOf Fits values plain Any
 
+    -- what is written is so canonically
     write-fair : (v : Value) (i r : ℕ) {s : Schema} → Denotes sch store i s → Fits v → Says (Fair lim s v) Any (write sch lim v i r)
     write-fair nothing i r (denotes {k = k} {ss = ss} l e m a) h = fits sch lim 0 i r (λ n. tt) (λ q.
         let z : Suits (form k) k ss nothing = rw (nothing-taken k (rw e at q)) s-nothing in
@@ -117,6 +123,7 @@ module _ (sch store : List ℕ) (lim : Limits) where
   mutual
     unfolding write Within encoded bytesV formOf childrenOf widthOf values fitting tagged pick _>>=_ kindFor
 
+    -- all that conforms within the limit is written
     write-all : {s : Schema} {v : Value} → Conforms s v → (i r : ℕ) → Denotes sch store i s → Within (blobLimit lim) v → write sch lim v i r ≡ Put (encoded s v)
     write-all (conforms h) i r (denotes l e m a) n = suits-all h i r e refl a n
 
@@ -164,3 +171,7 @@ writes-row sch store lim v s b d h = (λ e. put (rw e at good), λ f. rw (write-
   where
     good : Says (FairRow lim s v) Any (writeRow sch lim v)
     good = then (write-fair sch store lim v 0 0 d h) (λ x y. puts (record { conforms = y .conforms; within = y .within; bytes = ap (λ (z : List ℕ). le 2 0 ++ z) (y .bytes) }))
+
+-- For a block in level order, that schema is the block's tree.
+pub writes-block : (sch store : List ℕ) (lim : Limits) (v : Value) (b : List ℕ) → Ordered sch → Fits v → (writeRow sch lim v ≡ Put b) ↔ FairRow lim (blockTree sch store) v b
+writes-block sch store lim v b o h = writes-row sch store lim v (blockTree sch store) b (block-denotes sch store o) h
