@@ -15,3 +15,4 @@ pub mod Tables
 pub mod BlockReasons
 pub mod FormatReasons
 pub mod Places
+pub mod FormatRows

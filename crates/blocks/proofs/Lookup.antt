@@ -98,7 +98,7 @@ module _ (names registry name : List ℕ) where
   looked-there j n (found a b e) p = let z : _≡_ {A = ℕ} 0 1 = cc in omega arith
   looked-there j n (missing f) p = let z : _≡_ {A = ℕ} 0 1 = cc in omega arith
 
-  -- A lookup has nothing to say of tables.
+  -- A lookup by name never says that there is no such table.
   pub lookup-there : lookup names registry name 0 (records registry) ≡ NoTable → ⊥
   lookup-there = looked-there 0 (records registry) (looked 0 (records registry))
 
