@@ -15,4 +15,3 @@ pub mod Tables
 pub mod BlockReasons
 pub mod FormatReasons
 pub mod Places
-pub mod FormatRows
