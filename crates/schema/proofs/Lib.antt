@@ -5,3 +5,4 @@ pub mod Lookups
 pub mod Forms
 pub mod Tables
 pub mod Sizes
+pub mod Accepted
