@@ -2,6 +2,7 @@
 // written down in specs/, as definitions that read beside document 01.
 ghost use mathlib.Core.Path.{_≡_};
 ghost use Rattle.rules.specs.Refusals.{reportOf};
+ghost use Rattle.rules.specs.Reading.{settingsOk, defaults};
 
 // A Skiff encoding of one schema node, in the order of the wire codes 0 to 19.
 pub enum WireType {
@@ -318,5 +319,49 @@ impl Refusal {
             Refusal::NoPayloadRoom { needed, place } => numbers(20, place, needed, 0, 0),
             Refusal::NoOutputRoom { needed, place } => numbers(21, place, needed, 0, 0),
         }
+    }
+}
+
+impl Settings {
+    // What the original's decoded value takes, with the compiler that it was measured with.
+    pub const DEFAULT_NODE_CHARGE: u64 = 48;
+    // The largest blob: no length field of an untrusted stream asks for more.
+    pub const DEFAULT_MAX_BLOB_BYTES: u64 = 134217728;
+    // The largest row. Bounding blobs does not bound a row: one byte of a repeated list can stand for a node.
+    pub const DEFAULT_MAX_ROW_BYTES: u64 = 268435456;
+
+    // The largest that each of the three may be.
+    pub const MAX_NODE_CHARGE: u64 = 4096;
+
+    pub const MAX_LIMIT: u64 = 4294967295;
+
+    // The defaults.
+    pub fn new() -> Self
+        ensures { λ r. ⌜ r ≡ defaults ⌝ }
+    {
+        Self {
+            node_charge: Self::DEFAULT_NODE_CHARGE,
+            max_blob_bytes: Self::DEFAULT_MAX_BLOB_BYTES,
+            max_row_bytes: Self::DEFAULT_MAX_ROW_BYTES,
+        }
+    }
+
+    // Whether a call may be made with them.
+    pub fn within_bounds(self) -> bool
+        ensures { λ r. ⌜ r ≡ settingsOk self ⌝ }
+    {
+        let charge = self.node_charge;
+        let blob = self.max_blob_bytes;
+        let row = self.max_row_bytes;
+        if charge < 1 {
+            return false;
+        }
+        if Self::MAX_NODE_CHARGE < charge {
+            return false;
+        }
+        if Self::MAX_LIMIT < blob {
+            return false;
+        }
+        row <= Self::MAX_LIMIT
     }
 }
