@@ -7,3 +7,9 @@ pub mod Schema
 pub mod Block
 pub mod SchemaRules
 pub mod Format
+pub mod Value
+pub mod ValueTable
+pub mod Grammar
+pub mod Walk
+pub mod Reading
+pub mod Writing

@@ -1,7 +1,7 @@
 //! The program under test: cases in on stdin, an answer line for each out on stdout.
 
 use std::io::{self, Read, Write};
-use std::process::{Command, Stdio};
+use std::process::{Command, ExitStatus, Stdio};
 use std::thread;
 
 use crate::case::Case;
@@ -13,6 +13,12 @@ pub struct Program {
     pub path: String,
 }
 
+/// What a run of the program left.
+pub struct Ran {
+    pub lines: Vec<Option<String>>,
+    pub status: ExitStatus,
+}
+
 impl Program {
     fn command(&self) -> Command {
         let mut words = self.runner.iter().chain([&self.path]);
@@ -21,9 +27,10 @@ impl Program {
         command
     }
 
-    /// Runs the program over `input` while this thread does `meanwhile`; its output and the other's
-    /// result. The whole batch is written and the input closed, whatever the program buffers.
-    pub fn run<T>(&self, input: &[u8], meanwhile: impl FnOnce() -> T) -> io::Result<(Vec<u8>, T)> {
+    /// Runs the program over `input` while this thread does `meanwhile`; what it wrote, how it ended,
+    /// and the other's result. The whole batch is written and the input closed, whatever the program
+    /// buffers.
+    pub fn run<T>(&self, input: &[u8], meanwhile: impl FnOnce() -> T) -> io::Result<(Ran, T)> {
         let mut child = self.command().stdin(Stdio::piped()).stdout(Stdio::piped()).spawn()?;
         let mut stdin = child.stdin.take().expect("it is piped");
         let mut stdout = child.stdout.take().expect("it is piped");
@@ -37,16 +44,15 @@ impl Program {
             let result = meanwhile();
             (reader.join().expect("reading does not panic"), result)
         });
-        child.wait()?;
-        Ok((output?, result))
+        let status = child.wait()?;
+        Ok((Ran { lines: lines(&output?), status }, result))
     }
 
     /// The answers to some cases: none for those that the program left without one.
     pub fn answers(&self, cases: &[Case]) -> io::Result<Vec<Option<String>>> {
         let mut input = Vec::new();
         cases.iter().for_each(|case| case.write_to(&mut input));
-        let (output, ()) = self.run(&input, || ())?;
-        let mut lines = lines(&output);
+        let mut lines = self.run(&input, || ())?.0.lines;
         if lines.len() < cases.len() && cases.len() > 1 {
             // It died on one of them: ask singly, so that the others keep their answers.
             lines.clear();
@@ -61,7 +67,7 @@ impl Program {
 }
 
 /// The complete lines of an output; what follows the last newline is no answer.
-pub fn lines(output: &[u8]) -> Vec<Option<String>> {
+fn lines(output: &[u8]) -> Vec<Option<String>> {
     let mut lines: Vec<_> = output.split(|byte| *byte == b'\n').collect();
     lines.pop();
     lines.into_iter().map(|line| Some(String::from_utf8_lossy(line).into_owned())).collect()

@@ -12,10 +12,10 @@ impl Rng {
     /// A stream of its own for each number, so that a case doesn't depend on those before it.
     pub fn for_case(seed: u64, number: u64) -> Self {
         let mut outer = Self::new(seed ^ number.wrapping_mul(0xD1B5_4A32_D192_ED03));
-        Self::new(outer.next())
+        Self::new(outer.draw())
     }
 
-    pub fn next(&mut self) -> u64 {
+    pub fn draw(&mut self) -> u64 {
         self.state = self.state.wrapping_add(0x9E37_79B9_7F4A_7C15);
         let mut mixed = self.state;
         mixed = (mixed ^ (mixed >> 30)).wrapping_mul(0xBF58_476D_1CE4_E5B9);
@@ -25,7 +25,7 @@ impl Rng {
 
     /// A number below `bound`, which is not 0.
     pub fn below(&mut self, bound: usize) -> usize {
-        (self.next() % bound as u64) as usize
+        (self.draw() % bound as u64) as usize
     }
 
     /// A number from `low` to `high`, both included.
@@ -38,7 +38,7 @@ impl Rng {
     }
 
     pub fn byte(&mut self) -> u8 {
-        self.next() as u8
+        self.draw() as u8
     }
 
     pub fn pick<'a, T>(&mut self, among: &'a [T]) -> &'a T {

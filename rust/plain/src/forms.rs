@@ -2,8 +2,8 @@
 //! is a yes or a no.
 
 use crate::tables::{
-    entries, record_count, references, schema_record, Block, Entry, FormatTables, Reference,
-    SchemaRecord, Span, RECORD_BYTES,
+    entries, record_count, references, schema_record, Block, Entry, FormatTables, Reference, SchemaRecord,
+    Span, RECORD_BYTES,
 };
 use crate::wire_type::LAST_CODE;
 

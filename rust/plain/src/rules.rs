@@ -1,9 +1,7 @@
 //! The schema rules, over blocks whose forms and depths are right. Places are record numbers in the
 //! whole record table.
 
-use crate::answer::number::{
-    TABLE_SCHEMA_CHILD_MISSING_NAME, TOO_MANY_CHILDREN, UNEXPECTED_CHILDREN,
-};
+use crate::answer::number::{TABLE_SCHEMA_CHILD_MISSING_NAME, TOO_MANY_CHILDREN, UNEXPECTED_CHILDREN};
 use crate::answer::{Checked, Refusal};
 use crate::tables::{schema_record, Block};
 use crate::wire_type::{maximum_children, LAST_CHILDLESS, TUPLE};

@@ -1,43 +1,11 @@
-//! Hand-made cases, each with the sentence of document 01 that it stands for.
+//! The calls of the format side.
 
 use crate::answer::Refusal;
 use crate::format::{table_schema, validate_encoder, validate_format, validate_schema};
-use crate::tables::{Block, FormatTables};
+use crate::tables::FormatTables;
 use crate::wire_type::{fixed_width, parse, NAMES};
 
-type Fields = (u8, u8, u16, u32, u32, u32);
-
-fn records(rows: &[Fields]) -> Vec<u8> {
-    let mut bytes = Vec::new();
-    for &(code, named, length, start, first, count) in rows {
-        bytes.extend([code, named]);
-        bytes.extend(length.to_le_bytes());
-        bytes.extend(start.to_le_bytes());
-        bytes.extend(first.to_le_bytes());
-        bytes.extend(count.to_le_bytes());
-    }
-    bytes
-}
-
-fn words(rows: &[[u32; 4]]) -> Vec<u8> {
-    rows.iter().flatten().flat_map(|word| word.to_le_bytes()).collect()
-}
-
-fn block(first: u64, count: u64) -> Block {
-    Block { first, count }
-}
-
-/// Document 01's A: tuple("page" uint8, "name" variant8(nothing, string32)).
-fn a() -> (Vec<u8>, Vec<u8>) {
-    let table = records(&[
-        (19, 0, 0, 0, 1, 2),
-        (8, 1, 4, 0, 0, 0),
-        (15, 1, 4, 4, 3, 2),
-        (0, 0, 0, 0, 0, 0),
-        (13, 0, 0, 0, 0, 0),
-    ]);
-    (table, b"pagename".to_vec())
-}
+use super::{a, block, records, words, Fields};
 
 fn refused(number: u64, place: u64, carried: [u64; 3]) -> Result<(), Refusal> {
     Err(Refusal::at(number, place, carried))
@@ -60,20 +28,20 @@ fn schema_a_is_accepted_by_every_check() {
 fn each_form_is_refused() {
     let leaf = (0, 0, 0, 0, 0, 0);
     let bad: &[(&[Fields], u64, u64)] = &[
-        (&[(20, 0, 0, 0, 0, 0)], 0, 1),                                  // no such code
-        (&[(0, 2, 0, 0, 0, 0)], 0, 1),                                   // flag over 1
-        (&[(0, 0, 1, 0, 0, 0)], 0, 1),                                   // unnamed with a length
-        (&[(0, 0, 0, 1, 0, 0)], 0, 1),                                   // unnamed with a start
-        (&[(0, 1, 3, 0, 0, 0)], 0, 1),                                   // span past the store
-        (&[(0, 1, 0, 3, 0, 0)], 0, 1),                                   // empty span past the store
-        (&[(0, 0, 0, 0, 1, 0)], 0, 1),                                   // childless, first child set
-        (&[leaf, (19, 0, 0, 0, 1, 1)], 0, 2),                            // its own child
-        (&[(19, 0, 0, 0, 2, 1), leaf], 0, 2),                            // not 1 + earlier counts
-        (&[(19, 0, 0, 0, 1, 2), leaf], 0, 2),                            // fewer records than children
-        (&[leaf, leaf], 0, 2),                                           // more records than children
-        (&[leaf], 0, 0),                                                 // no record
-        (&[leaf], 1, 1),                                                 // past the end
-        (&[leaf], 1 << 32, 1),                                           // not cut to 32 bits
+        (&[(20, 0, 0, 0, 0, 0)], 0, 1),       // no such code
+        (&[(0, 2, 0, 0, 0, 0)], 0, 1),        // flag over 1
+        (&[(0, 0, 1, 0, 0, 0)], 0, 1),        // unnamed with a length
+        (&[(0, 0, 0, 1, 0, 0)], 0, 1),        // unnamed with a start
+        (&[(0, 1, 3, 0, 0, 0)], 0, 1),        // span past the store
+        (&[(0, 1, 0, 3, 0, 0)], 0, 1),        // empty span past the store
+        (&[(0, 0, 0, 0, 1, 0)], 0, 1),        // childless, first child set
+        (&[leaf, (19, 0, 0, 0, 1, 1)], 0, 2), // its own child
+        (&[(19, 0, 0, 0, 2, 1), leaf], 0, 2), // not 1 + earlier counts
+        (&[(19, 0, 0, 0, 1, 2), leaf], 0, 2), // fewer records than children
+        (&[leaf, leaf], 0, 2),                // more records than children
+        (&[leaf], 0, 0),                      // no record
+        (&[leaf], 1, 1),                      // past the end
+        (&[leaf], 1 << 32, 1),                // not cut to 32 bits
         (&[leaf], u64::MAX, 1),
         (&[leaf], 0, (1 << 32) + 1),
         (&[leaf], 1, u64::MAX),
@@ -83,9 +51,9 @@ fn each_form_is_refused() {
         assert_eq!(answer, refused(2, 0, [0; 3]), "{rows:?} {first} {count}");
     }
     let good: &[(&[Fields], u64, u64)] = &[
-        (&[(0, 1, 2, 0, 0, 0)], 0, 1),              // span to the store's end
-        (&[(0, 1, 0, 2, 0, 0)], 0, 1),              // empty span at the store's end
-        (&[(20, 7, 1, 1, 1, 1), leaf], 1, 1),       // records in no block are not looked at
+        (&[(0, 1, 2, 0, 0, 0)], 0, 1),        // span to the store's end
+        (&[(0, 1, 0, 2, 0, 0)], 0, 1),        // empty span at the store's end
+        (&[(20, 7, 1, 1, 1, 1), leaf], 1, 1), // records in no block are not looked at
     ];
     for (rows, first, count) in good {
         assert_eq!(validate_schema(&records(rows), b"ab", block(*first, *count)), Ok(()));
@@ -176,7 +144,12 @@ fn format_order() {
     ]);
     let check = |references: &[[u32; 4]], registry: &[[u32; 4]]| {
         let (references, registry) = (words(references), words(registry));
-        validate_format(&FormatTables { records: &table, names: b"aab", references: &references, registry: &registry })
+        validate_format(&FormatTables {
+            records: &table,
+            names: b"aab",
+            references: &references,
+            registry: &registry,
+        })
     };
     let good = [0, 0, 1, 0];
     assert_eq!(check(&[good], &[]), Ok(()));

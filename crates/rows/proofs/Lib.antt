@@ -1,0 +1,12 @@
+pub mod Stands
+pub mod Only
+pub mod Span
+pub mod Conform
+pub mod Sound
+pub mod Complete
+pub mod Agree
+pub mod Honest
+pub mod TableRows
+pub mod Decoding
+pub mod Running
+pub mod Refused

@@ -1,0 +1,43 @@
+//! Where cases come from: fixed ones that every run goes through, and random ones that fill it up.
+
+pub mod damage;
+pub mod edges;
+pub mod exhaustive;
+pub mod formats;
+pub mod small_formats;
+pub mod trees;
+pub mod words;
+
+use crate::case::Case;
+use crate::rng::Rng;
+
+/// What kind of case it is, for the count at the end.
+pub type Kind = &'static str;
+
+/// Takes the cases one by one.
+pub type Emit<'a> = dyn FnMut(Kind, Case) + 'a;
+
+/// Every fixed case.
+pub fn fixed(emit: &mut Emit) {
+    words::fixed(emit);
+    exhaustive::fixed(emit);
+    small_formats::fixed(emit);
+    edges::fixed(emit);
+}
+
+/// One random case.
+pub fn random(rng: &mut Rng) -> (Kind, Case) {
+    match rng.below(200) {
+        0..=3 => ("parse", words::random_parse(rng)),
+        4 => ("fixed width", words::random_width(rng)),
+        5..=54 => ("random tree", trees::random_case(rng)),
+        55..=104 => ("random format", formats::random_format(rng)),
+        105..=129 => ("random table", formats::random_table(rng)),
+        130..=159 => ("damaged field", damage::damaged(rng)),
+        160..=179 => ("changed bytes", damage::mutated(rng)),
+        180..=187 => ("block numbers", damage::block_numbers(rng)),
+        188..=191 => ("ragged table", damage::ragged(rng)),
+        192..=195 => ("overlapping blocks", formats::overlapping(rng)),
+        _ => ("names not UTF-8", formats::not_utf8(rng)),
+    }
+}
