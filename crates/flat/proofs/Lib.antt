@@ -1,3 +1,4 @@
 pub mod Turns
 pub mod Columns
 pub mod Parts
+pub mod Stands

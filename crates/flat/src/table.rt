@@ -3,7 +3,8 @@ ghost use mathlib.Core.Path.{_≡_};
 ghost use Prim.Native.Nat.{_+_, _≤_};
 ghost use Rattle.rules.specs.Block.{records, block};
 ghost use Rattle.rules.specs.SchemaRules.{tableRule};
-ghost use Rattle.rules.specs.Format.{blockFormOk, blockDepthOk, blockRule};
+ghost use Rattle.rules.specs.Format.{blockFormOk, blockDepthOk, blockRule, oneBlock};
+ghost use Rattle.rules.specs.declared.Checked.the-variants.{Accepted};
 ghost use Rattle.flat.specs.Sound.{Sound};
 use super::block::block_ok;
 use super::block::depth_of;
@@ -12,6 +13,7 @@ use super::validation::check_root;
 use super::validation::validate;
 use rules::Checked;
 use rules::Purpose;
+use rules::Refusal;
 
 fn block_of(table: &[u8], first: u64, count: u64) -> &[u8]
     requires { ⌜ first + count ≤ records (now table) ⌝ }
@@ -52,4 +54,20 @@ pub fn block_root(table: &[u8], first: u64, count: u64, purpose: Purpose) -> Che
     ensures { λ r. ⌜ r ≡ tableRule purpose (block (now (table .entry)) first count) first ⌝ }
 {
     check_root(block_of(table, first, count), first, purpose)
+}
+
+// Form, then depth: what comes before the rules. The sizes of the slices are the caller's to test.
+pub fn block_stands(table: &[u8], names: &[u8], first: u64, count: u64) -> Checked
+    ensures { λ r. ⌜ r ≡ oneBlock (now (table .entry)) (now (names .entry)) first count Accepted ⌝ }
+{
+    if table.len() % 16 != 0 {
+        return Checked::Refused(Refusal::BadSchemaTable);
+    }
+    if !block_form_ok(table, names.len() as u64, first, count) {
+        return Checked::Refused(Refusal::BadSchemaTable);
+    }
+    if block_depth_ok(table, first, count) {
+        return Checked::Accepted;
+    }
+    Checked::Refused(Refusal::TooDeep)
 }

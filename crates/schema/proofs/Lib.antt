@@ -1,4 +1,3 @@
-pub mod Sizes
 pub mod Lookups
 pub mod Given
 pub mod Tables

@@ -1,8 +1,7 @@
 // The schema side: which schemas and formats the rules accept, and why the others are refused. Each call answers what the
 // rules answer, on every input.
 ghost use mathlib.Core.Path.{_≡_};
-ghost use Rattle.rules.specs.Format.{oneBlock, schemaAnswer, encoderRules, encoderRule, formatRules, formatRule};
-ghost use Rattle.rules.specs.declared.Checked.the-variants.{Accepted};
+ghost use Rattle.rules.specs.Format.{schemaAnswer, encoderRules, encoderRule, formatRules, formatRule};
 ghost use Rattle.schema.specs.Slices.{slices};
 
 pub mod depths;
@@ -11,10 +10,9 @@ pub mod forms;
 pub mod order;
 
 use depths::depths_ok;
-use flat::table::block_depth_ok;
-use flat::table::block_form_ok;
 use flat::table::block_root;
 use flat::table::block_rule;
+use flat::table::block_stands;
 use forms::forms_ok;
 use order::rules_order;
 use rules::Checked;
@@ -25,22 +23,6 @@ use rules::Refusal;
 const LONGEST: usize = 4294967295;
 
 // ---- one block, given by first record and record count
-
-// Its form, then its depth.
-fn block_stands(table: &[u8], names: &[u8], first: u64, count: u64) -> Checked
-    ensures { λ r. ⌜ r ≡ oneBlock (now (table .entry)) (now (names .entry)) first count Accepted ⌝ }
-{
-    if table.len() % 16 != 0 {
-        return Checked::Refused(Refusal::BadSchemaTable);
-    }
-    if !block_form_ok(table, names.len() as u64, first, count) {
-        return Checked::Refused(Refusal::BadSchemaTable);
-    }
-    if block_depth_ok(table, first, count) {
-        return Checked::Accepted;
-    }
-    Checked::Refused(Refusal::TooDeep)
-}
 
 // The check of a schema alone.
 pub fn check_schema(table: &[u8], names: &[u8], first: u64, count: u64) -> Checked

@@ -26,9 +26,9 @@ fn entries_rule(table: &[u8], registry: &[u8]) -> Checked
     let mut j = 0;
     while j < m {
         let e = entry_at(registry, j);
-        let own = block_rule(table, e.first, e.count);
-        let Checked::Accepted = own else {
-            return own;
+        let block = block_rule(table, e.first, e.count);
+        let Checked::Accepted = block else {
+            return block;
         };
         j += 1;
     }
@@ -65,9 +65,9 @@ fn reference_rule(table: &[u8], names: &[u8], references: &[u8], registry: &[u8]
     ensures { λ r. ⌜ r ≡ referenceRule (slices (now (table .entry)) (now (names .entry)) (now (references .entry)) (now (registry .entry))) t ⌝ }
 {
     let r = reference_at(references, t);
-    let own = inline_rule(table, r);
-    let Checked::Accepted = own else {
-        return own;
+    let inline = inline_rule(table, r);
+    let Checked::Accepted = inline else {
+        return inline;
     };
     root_of(table, t, resolve(names, registry, r))
 }
@@ -79,9 +79,9 @@ fn references_rule(table: &[u8], names: &[u8], references: &[u8], registry: &[u8
     let m = (references.len() / 16) as u64;
     let mut t = 0;
     while t < m {
-        let own = reference_rule(table, names, references, registry, t);
-        let Checked::Accepted = own else {
-            return own;
+        let one = reference_rule(table, names, references, registry, t);
+        let Checked::Accepted = one else {
+            return one;
         };
         t += 1;
     }
@@ -96,9 +96,9 @@ pub fn rules_order(table: &[u8], names: &[u8], references: &[u8], registry: &[u8
     if references.len() / 16 == 0 {
         return Checked::Refused(Refusal::EmptyTableSchemas);
     }
-    let own = entries_rule(table, registry);
-    let Checked::Accepted = own else {
-        return own;
+    let entries = entries_rule(table, registry);
+    let Checked::Accepted = entries else {
+        return entries;
     };
     references_rule(table, names, references, registry)
 }

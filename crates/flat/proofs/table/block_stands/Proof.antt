@@ -3,9 +3,9 @@ use mathlib.Core.Path.{sym, _∙_}
 use borrow.Author.Tests.{eq-eqb, ne-eqb, not-true, not-false}
 use Rattle.rules.specs.Choice.{pick, _and_}
 use Rattle.rules.specs.Format.{oneBlock}
 use Rattle.flat.proofs.Parts.{form-sound}
-use Rattle.schema.proofs.block_stands.Statement.{statement}
-use Rattle.schema.proofs.block_stands.Tie as tie
+use Rattle.flat.proofs.table.block_stands.Statement.{statement}
+use Rattle.flat.proofs.table.block_stands.Tie as tie
 
 returns : tie.Need-returns
 unfolding oneBlock pick _and_
