@@ -36,10 +36,10 @@ pub data Says (P : Refusal → Type 0) : Checked → Type 0 where
   silent : Says P Accepted
   says : {r : Refusal} → P r → Says P (Refused r)
 
-said : {P : Refusal → Type 0} {r : Refusal} → Says P (Refused r) → P r
+pub said : {P : Refusal → Type 0} {r : Refusal} → Says P (Refused r) → P r
 said (says p) = p
 
-says-then : (P : Refusal → Type 0) (a b : Checked) → Says P a → Says P b → Says P (a then b)
+pub says-then : (P : Refusal → Type 0) (a b : Checked) → Says P a → Says P b → Says P (a then b)
 unfolding _then_
 says-then P Accepted b x y = y
 says-then P (Refused r) b x y = x

@@ -6,3 +6,12 @@ pub mod Rules
 pub mod Trees
 pub mod Honest
 pub mod Roots
+pub mod Turns
+pub mod Good
+pub mod Lookup
+pub mod Forms
+pub mod Formats
+pub mod Tables
+pub mod BlockReasons
+pub mod FormatReasons
+pub mod Places

@@ -37,7 +37,7 @@ module _ (store : List ℕ) (place index : ℕ) (n : Node) where
       let p = and-both _ _ (pick-accepted (eqb (n .named) 1 and ltb 0 (n .len)) _ _ e .0) in
       rw (p .0) (part-some store (n .start) (n .len) (ltb-true _ _ (p .1)))
 
-  name-rule : NonEmpty (nameIn store n) → nameRule place index n ≡ Accepted
+  pub name-rule : NonEmpty (nameIn store n) → nameRule place index n ≡ Accepted
   unfolding nameRule nameIn pick NonEmpty
   name-rule h = by (eqb (n .named) 1) refl h
     where

@@ -8,3 +8,5 @@ pub mod Agree
 pub mod Honest
 pub mod TableRows
 pub mod Decoding
+pub mod Running
+pub mod Refused

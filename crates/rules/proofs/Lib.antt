@@ -1,3 +1,5 @@
 pub mod Tests
 pub mod Checks
 pub mod Rows
+pub mod Orders
+pub mod Over

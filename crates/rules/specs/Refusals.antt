@@ -2,6 +2,8 @@
 -- Assumes nothing: these are definitions.
 use Prim.Native.Nat.{ℕ, zero, suc, _+_}
 use mathlib.Core.List.{List, [], _∷_}
+use lib.ListN.{getD}
+use Rattle.rules.specs.declared.Report.{Report}
 use Rattle.rules.specs.declared.Refusal.{Refusal}
 use Rattle.rules.specs.declared.Refusal.the-variants.{Setting, BadSchemaTable, TooDeep, UnexpectedChildren, TooManyChildren, EmptyTableSchemas, UnknownRegistryReference, TableSchemaRootMustBeTuple, TableSchemaMustBeTuple, TableSchemaChildMissingName, MissingTableSchema, Truncated, RowTooLarge, BlobTooLarge, ValueDoesNotMatchSchema, TupleLength, InvalidVariantTag, BadValueTable, NoNodeRoom, NoPayloadRoom, NoOutputRoom}
 use Rattle.rules.specs.declared.Checked.{Checked}
@@ -39,6 +41,10 @@ said BadValueTable = say 18 0 []
 said (NoNodeRoom needed place) = say 19 place (needed ∷ [])
 said (NoPayloadRoom needed place) = say 20 place (needed ∷ [])
 said (NoOutputRoom needed place) = say 21 place (needed ∷ [])
+
+-- the same in five numbers, 0 where nothing is carried
+unfoldable pub reportOf : Refusal → Report
+reportOf r = record { number = said r .number; place = said r .place; a = getD (said r .carries) 0 0; b = getD (said r .carries) 1 0; c = getD (said r .carries) 2 0 }
 
 -- the first refusal of two checks
 infixl 20 _then_

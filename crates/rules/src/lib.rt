@@ -1,5 +1,8 @@
 // The types that all crates share: wire types, records of the flat tables, settings, refusals, answers. What is right is
 // written down in specs/, as definitions that read beside document 01.
+ghost use mathlib.Core.Path.{_≡_};
+ghost use Rattle.rules.specs.Refusals.{reportOf};
+ghost use Rattle.rules.specs.Reading.{settingsOk, defaults};
 
 // A Skiff encoding of one schema node, in the order of the wire codes 0 to 19.
 pub enum WireType {
@@ -176,6 +179,15 @@ pub enum Refusal {
     },
 }
 
+// A refusal in numbers: document 01's number, the place, and the carried values, 0 where there is none.
+pub struct Report {
+    pub number: u64,
+    pub place: u64,
+    pub a: u64,
+    pub b: u64,
+    pub c: u64,
+}
+
 // What a table schema is checked for: to stand in a format, or to encode with.
 pub enum Purpose {
     Format,
@@ -220,4 +232,136 @@ pub struct Ran {
 pub enum Written {
     Row(Extent),
     Refused(Refusal),
+}
+
+fn numbers(number: u64, place: u64, a: u64, b: u64, c: u64) -> Report
+    ensures { λ r. ⌜ r ≡ record { number = number; place = place; a = a; b = b; c = c } ⌝ }
+{
+    Report {
+        number,
+        place,
+        a,
+        b,
+        c,
+    }
+}
+
+impl Refusal {
+    // The refusal in numbers, for hosts that take no enum.
+    pub fn in_numbers(self) -> Report
+        ensures { λ r. ⌜ r ≡ reportOf self ⌝ }
+    {
+        match self {
+            Refusal::Setting => numbers(1, 0, 0, 0, 0),
+            Refusal::BadSchemaTable => numbers(2, 0, 0, 0, 0),
+            Refusal::TooDeep => numbers(3, 0, 0, 0, 0),
+            Refusal::UnexpectedChildren {
+                wire_type,
+                count,
+                place,
+            } => numbers(4, place, wire_type as u64, count, 0),
+            Refusal::TooManyChildren {
+                wire_type,
+                count,
+                maximum,
+                place,
+            } => numbers(5, place, wire_type as u64, count, maximum),
+            Refusal::EmptyTableSchemas => numbers(6, 0, 0, 0, 0),
+            Refusal::UnknownRegistryReference { table } => numbers(7, table, table, 0, 0),
+            Refusal::TableSchemaRootMustBeTuple { found, place } => numbers(
+                8,
+                place,
+                found as u64,
+                0,
+                0,
+            ),
+            Refusal::TableSchemaMustBeTuple { found, place } => numbers(
+                9,
+                place,
+                found as u64,
+                0,
+                0,
+            ),
+            Refusal::TableSchemaChildMissingName { index, place } => numbers(
+                10,
+                place,
+                index,
+                0,
+                0,
+            ),
+            Refusal::MissingTableSchema { index, place } => numbers(11, place, index, 0, 0),
+            Refusal::Truncated { context, place } => numbers(12, place, context as u64, 0, 0),
+            Refusal::RowTooLarge { limit, place } => numbers(13, place, limit, 0, 0),
+            Refusal::BlobTooLarge {
+                wire_type,
+                length,
+                limit,
+                place,
+            } => numbers(14, place, wire_type as u64, length, limit),
+            Refusal::ValueDoesNotMatchSchema {
+                wire_type,
+                kind,
+                place,
+            } => numbers(15, place, wire_type as u64, kind as u64, 0),
+            Refusal::TupleLength {
+                expected,
+                actual,
+                place,
+            } => numbers(16, place, expected, actual, 0),
+            Refusal::InvalidVariantTag {
+                wire_type,
+                tag,
+                children,
+                place,
+            } => numbers(17, place, wire_type as u64, tag, children),
+            Refusal::BadValueTable => numbers(18, 0, 0, 0, 0),
+            Refusal::NoNodeRoom { needed, place } => numbers(19, place, needed, 0, 0),
+            Refusal::NoPayloadRoom { needed, place } => numbers(20, place, needed, 0, 0),
+            Refusal::NoOutputRoom { needed, place } => numbers(21, place, needed, 0, 0),
+        }
+    }
+}
+
+impl Settings {
+    // What the original's decoded value takes, with the compiler that it was measured with.
+    pub const DEFAULT_NODE_CHARGE: u64 = 48;
+    // The largest blob: no length field of an untrusted stream asks for more.
+    pub const DEFAULT_MAX_BLOB_BYTES: u64 = 134217728;
+    // The largest row. Bounding blobs does not bound a row: one byte of a repeated list can stand for a node.
+    pub const DEFAULT_MAX_ROW_BYTES: u64 = 268435456;
+
+    // The largest that each of the three may be.
+    pub const MAX_NODE_CHARGE: u64 = 4096;
+
+    pub const MAX_LIMIT: u64 = 4294967295;
+
+    // The defaults.
+    pub fn new() -> Self
+        ensures { λ r. ⌜ r ≡ defaults ⌝ }
+    {
+        Self {
+            node_charge: Self::DEFAULT_NODE_CHARGE,
+            max_blob_bytes: Self::DEFAULT_MAX_BLOB_BYTES,
+            max_row_bytes: Self::DEFAULT_MAX_ROW_BYTES,
+        }
+    }
+
+    // Whether a call may be made with them.
+    pub fn within_bounds(self) -> bool
+        ensures { λ r. ⌜ r ≡ settingsOk self ⌝ }
+    {
+        let charge = self.node_charge;
+        let blob = self.max_blob_bytes;
+        let row = self.max_row_bytes;
+        if charge < 1 {
+            return false;
+        }
+        if Self::MAX_NODE_CHARGE < charge {
+            return false;
+        }
+        if Self::MAX_LIMIT < blob {
+            return false;
+        }
+        row <= Self::MAX_LIMIT
+    }
 }

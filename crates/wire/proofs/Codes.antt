@@ -1,8 +1,8 @@
 -- Wire types and their codes name each other.
 -- Assumes nothing.
-use Prim.Native.Nat.{ℕ, zero, suc, _+_, _-_, _^_, _≤_, _<_}
+use Prim.Native.Nat.{ℕ, zero, suc, _+_, _-_, _≤_, _<_}
 use mathlib.Core.Path.{_≡_, refl, sym, ap, _∙_}
-use mathlib.Core.List.{List, [], _∷_, _++_, map}
+use mathlib.Core.List.{List, [], _∷_, map}
 use mathlib.Core.Bool.{Bool, true, false}
 use native.Mathlib.Omega.{arith}
 use borrow.Author.Tests.{ltb-true, ltb-false, eqb-true}
@@ -10,7 +10,7 @@ use lib.Dec.{ltb, eqb}
 use types.Run.{OneOf}
 use lib.ListN.{length, getD, replicate, List·getD-map, List·getD-append, getD-replicate}
 use lib.Seq.{getD-append-add}
-use Rattle.rules.specs.Choice.{_and_, all}
+use Rattle.rules.specs.Choice.{_and_}
 use Rattle.rules.specs.Wire.{wireTypes, typeIn, typeOf, codeOf, written, writtenIf, form, endTag, fixedForm, fixedWidth, maximum}
 use Rattle.rules.specs.declared.WireType.{WireType}
 use Rattle.rules.specs.declared.WireType.the-variants.{Nothing, Boolean, Int8, Int16, Int32, Int64, Int128, Int256, Uint8, Uint16, Uint32, Uint64, Double, String32, Yson32, Variant8, Variant16, RepeatedVariant8, RepeatedVariant16, Tuple}

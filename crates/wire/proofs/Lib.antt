@@ -1,6 +1,6 @@
 pub mod Choices
-pub mod Fields
 pub mod Parts
+pub mod Fields
 pub mod Orders
 pub mod Codes
 pub mod Names

@@ -3,17 +3,15 @@
 use Prim.Native.Nat.{ℕ, zero, suc, _+_, _-_, _≤_, _<_}
 use mathlib.Core.Path.{_≡_, refl, sym, ap, _∙_}
 use mathlib.Core.Bool.{Bool, true, false}
-use mathlib.Core.List.{List, [], _∷_, _++_}
+use mathlib.Core.List.{List, [], _∷_}
 use native.Mathlib.Omega.{arith}
 use native.Mathlib.Numerals.{add-one}
 use borrow.Author.Tests.{leb-true, eqb-true}
-use lib.Dec.{leb, eqb, ltb}
-use lib.ListN.{length, getD, drop, drop-of-length-le, List·getD-eq-default}
-use lib.Seq.{drop-cons}
-use Prim.Native.Char.{code}
+use lib.Dec.{leb, eqb}
+use lib.ListN.{length, getD, drop, List·getD-eq-default}
 use Rattle.rules.specs.Choice.{pick, _and_, all}
 use Rattle.rules.specs.Bytes.{part, order, isEqual}
-use Rattle.rules.specs.Wire.{wireTypes, typeOf, codeOf}
+use Rattle.rules.specs.Wire.{wireTypes, typeIn, typeOf, codeOf}
 use Rattle.rules.specs.Names.{spelling, ascii, nameOf, parseIn, parsed}
 use Rattle.rules.specs.declared.Order.{Order}
 use Rattle.rules.specs.declared.WireType.{WireType}
@@ -25,7 +23,7 @@ use Rattle.wire.specs.Table.{joined, names, Spells}
 use Rattle.wire.proofs.Choices.{and-both, all-each}
 use Rattle.wire.proofs.Parts.{part-length, part-at, part-whole}
 use Rattle.wire.proofs.Orders.{is-equal, order-equal}
-use Rattle.wire.proofs.Codes.{type-of-code, code-below, type-at}
+use Rattle.wire.proofs.Codes.{type-of-code, code-of-type, code-below, type-at}
 
 -- where each name starts, as the code has it
 abbrev pub starts : List ℕ
@@ -75,24 +73,45 @@ spells-past s name k h l = sym (List·getD-eq-default name 0 {n = k} (rw (spells
 
 -- ---- parsing, one wire type after another
 
-parse-step : (ts : List WireType) (d : WireType) (name : List ℕ) (k : ℕ) → k < length ts →
-    parseIn (drop k ts) name ≡ pick (isEqual (order name (nameOf (getD ts k d)))) (Wire (getD ts k d)) (parseIn (drop (k + 1) ts) name)
-unfolding parseIn
-parse-step ts d name k h = rw (add-one, drop-cons ts k d h)
+parse-step : (ts : List WireType) (name : List ℕ) (k : ℕ) (t : WireType) → typeIn ts k ≡ Wire t →
+    parseIn (drop k ts) name ≡ pick (isEqual (order name (nameOf t))) (Wire t) (parseIn (drop (suc k) ts) name)
+unfolding typeIn parseIn
+parse-step [] name k t e = cc
+parse-step (u ∷ ts) name zero t e = let s : u ≡ t = cc in rw s
+parse-step (u ∷ ts) name (suc k) t e = parse-step ts name k t e
 
--- what is left of the wire types comes to what all of them do; the next one has the name or has it not
-module _ (ts : List WireType) (d : WireType) (name : List ℕ) (whole : Known) (k : ℕ) (h : k < length ts) (left : parseIn (drop k ts) name ≡ whole) (b : Bool) (is : b ≡ isEqual (order name (nameOf (getD ts k d)))) where
-  pub parse-found : b ≡ true → Wire (getD ts k d) ≡ whole
-  unfolding pick
-  parse-found e = rw (← left, parse-step ts d name k h, ← is, e)
+parse-last : (ts : List WireType) (name : List ℕ) (k : ℕ) → typeIn ts k ≡ Unknown → parseIn (drop k ts) name ≡ Unknown
+unfolding typeIn parseIn
+parse-last [] name zero e = refl
+parse-last [] name (suc k) e = refl
+parse-last (u ∷ ts) name zero e = cc
+parse-last (u ∷ ts) name (suc k) e = parse-last ts name k e
 
-  pub parse-next : b ≡ false → parseIn (drop (k + 1) ts) name ≡ whole
-  unfolding pick
-  parse-next e = rw (← left, parse-step ts d name k h, ← is, e)
+-- what the wire types from a code on come to is what all of them do
+unfoldable pub Left : List ℕ → ℕ → Type 0
+Left name code = parseIn (drop code wireTypes) name ≡ parsed name
 
-pub parse-end : (ts : List WireType) (name : List ℕ) (k : ℕ) → length ts ≤ k → parseIn (drop k ts) name ≡ Unknown
-unfolding parseIn
-parse-end ts name k h = rw (drop-of-length-le ts h)
+pub left-all : (name : List ℕ) → Left name 0
+unfolding Left parsed
+left-all name = refl
+
+pub left-none : (name : List ℕ) (code : ℕ) (known : Known) → Left name code → known ≡ typeOf code → known ≡ Unknown → Unknown ≡ parsed name
+unfolding Left typeOf
+left-none name code known left is none = rw (← left, parse-last wireTypes name code (sym is ∙ none))
+
+-- the next one has the name or has it not
+module _ (name : List ℕ) (code : ℕ) (known : Known) (t : WireType) (left : Left name code) (is : known ≡ typeOf code) (one : known ≡ Wire t) where
+  pub code-small : code < 20
+  code-small = omega (arith, code-below t, code-of-type code t (sym is ∙ one))
+
+  module _ (b : Bool) (named : b ≡ isEqual (order name (nameOf t))) where
+    pub left-found : b ≡ true → Wire t ≡ parsed name
+    unfolding Left typeOf pick
+    left-found e = rw (← left, parse-step wireTypes name code t (sym is ∙ one), ← named, e)
+
+    pub left-next : b ≡ false → Left name (code + 1)
+    unfolding Left typeOf pick
+    left-next e = rw (← left, parse-step wireTypes name code t (sym is ∙ one), ← named, e, add-one)
 
 -- ---- a name names the type whose name it is, and no other
 

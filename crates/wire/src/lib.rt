@@ -1,6 +1,6 @@
 // The leaves: little-endian fields, the order of byte strings, and the wire types by code and by name.
 ghost use mathlib.Core.Path.{_≡_};
-ghost use Prim.Native.Nat.{ℕ, _+_, _≤_, _<_};
+ghost use Prim.Native.Nat.{_+_, _≤_, _<_};
 ghost use lib.ListN.{length, getD};
 ghost use Rattle.rules.specs.Bytes.{leAt, part, order, isEqual};
 ghost use Rattle.rules.specs.Names.{nameOf, parsed};
@@ -80,6 +80,16 @@ pub fn compare(s: &[u8], a: usize, la: usize, b: usize, lb: usize) -> Order
     ensures { λ r. ⌜ r ≡ order (part (now (s .entry)) a la) (part (now (s .entry)) b lb) ⌝ }
 {
     order_of(s, a, la, s, b, lb)
+}
+
+pub fn is_equal(o: Order) -> bool
+    ensures { λ r. ⌜ r ≡ isEqual o ⌝ }
+{
+    match o {
+        Order::Less => false,
+        Order::Equal => true,
+        Order::Greater => false,
+    }
 }
 
 // ---- wire types by code
@@ -226,12 +236,7 @@ pub fn is_name(name: &[u8], t: WireType) -> bool
     ensures { λ r. ⌜ r ≡ isEqual (order (now (name .entry)) (nameOf t)) ⌝ }
 {
     let span = span_of(t);
-    let o = order_of(name, 0, name.len(), &NAMES, span.start, span.len);
-    match o {
-        Order::Equal => true,
-        Order::Less => false,
-        Order::Greater => false,
-    }
+    is_equal(order_of(name, 0, name.len(), &NAMES, span.start, span.len))
 }
 
 // The wire type of a name: any bytes, and nothing trimmed.
@@ -239,14 +244,16 @@ pub fn parse(name: &[u8]) -> Known
     ensures { λ r. ⌜ r ≡ parsed (now (name .entry)) ⌝ }
 {
     let mut code = 0;
-    while code < 20 {
-        let t = TYPES[code];
+    loop {
+        let known = from_code(code);
+        let Known::Wire(t) = known else {
+            return Known::Unknown;
+        };
         if is_name(name, t) {
             return Known::Wire(t);
         }
         code += 1;
     }
-    Known::Unknown
 }
 
 pub fn name_len(t: WireType) -> usize

@@ -2,6 +2,8 @@
 
 use std::fmt;
 
+use plain::settings::Settings;
+
 pub mod op {
     pub const PARSE: u32 = 1;
     pub const FIXED_WIDTH: u32 = 2;
@@ -9,11 +11,13 @@ pub mod op {
     pub const ENCODER: u32 = 4;
     pub const FORMAT: u32 = 5;
     pub const TABLE_SCHEMA: u32 = 6;
+    pub const SKIP: u32 = 7;
+    pub const RUN: u32 = 8;
 }
 
-pub const HEADER_BYTES: usize = 40;
+pub const HEADER_BYTES: usize = 64;
 
-/// The four strings of a case have at most this many bytes together.
+/// The five strings of a case have at most this many bytes together.
 pub const MOST_BYTES: usize = 4_194_304;
 
 #[derive(Debug, Clone, PartialEq, Eq, Default)]
@@ -21,18 +25,38 @@ pub struct Case {
     pub op: u32,
     pub a: u64,
     pub b: u64,
+    /// The settings and the input are those of the reading calls, and nothing elsewhere.
+    pub node_charge: u64,
+    pub max_blob_bytes: u64,
+    pub max_row_bytes: u64,
     pub records: Vec<u8>,
     pub names: Vec<u8>,
     pub references: Vec<u8>,
     pub registry: Vec<u8>,
+    pub input: Vec<u8>,
 }
 
 impl Case {
-    pub fn strings(&self) -> [&Vec<u8>; 4] {
-        [&self.records, &self.names, &self.references, &self.registry]
+    /// Whether it reads rows.
+    pub fn reads(&self) -> bool {
+        self.op == op::SKIP || self.op == op::RUN
     }
 
-    /// How many bytes the four strings have together.
+    pub fn settings(&self) -> Settings {
+        let Case { node_charge, max_blob_bytes, max_row_bytes, .. } = *self;
+        Settings { node_charge, max_blob_bytes, max_row_bytes }
+    }
+
+    pub fn with_settings(self, settings: Settings) -> Self {
+        let Settings { node_charge, max_blob_bytes, max_row_bytes } = settings;
+        Self { node_charge, max_blob_bytes, max_row_bytes, ..self }
+    }
+
+    pub fn strings(&self) -> [&Vec<u8>; 5] {
+        [&self.records, &self.names, &self.references, &self.registry, &self.input]
+    }
+
+    /// How many bytes the five strings have together.
     pub fn bytes(&self) -> usize {
         self.strings().iter().map(|string| string.len()).sum()
     }
@@ -43,9 +67,9 @@ impl Case {
         for string in self.strings() {
             out.extend((string.len() as u32).to_le_bytes());
         }
-        out.extend(0_u32.to_le_bytes());
-        out.extend(self.a.to_le_bytes());
-        out.extend(self.b.to_le_bytes());
+        for number in [self.a, self.b, self.node_charge, self.max_blob_bytes, self.max_row_bytes] {
+            out.extend(number.to_le_bytes());
+        }
         for string in self.strings() {
             out.extend_from_slice(string);
         }
@@ -56,39 +80,57 @@ impl Case {
         let (header, mut rest) = input.split_at_checked(HEADER_BYTES)?;
         let u32_at = |at: usize| u32::from_le_bytes(header[at..at + 4].try_into().unwrap());
         let u64_at = |at: usize| u64::from_le_bytes(header[at..at + 8].try_into().unwrap());
-        let mut strings: [Vec<u8>; 4] = Default::default();
-        for (at, string) in [4, 8, 12, 16].into_iter().zip(&mut strings) {
+        let mut strings: [Vec<u8>; 5] = Default::default();
+        for (at, string) in [4, 8, 12, 16, 20].into_iter().zip(&mut strings) {
             let (taken, left) = rest.split_at_checked(u32_at(at) as usize)?;
             *string = taken.to_vec();
             rest = left;
         }
-        let [records, names, references, registry] = strings;
-        let case = Case { op: u32_at(0), a: u64_at(24), b: u64_at(32), records, names, references, registry };
+        let [records, names, references, registry, input] = strings;
+        let case = Case {
+            op: u32_at(0),
+            a: u64_at(24),
+            b: u64_at(32),
+            node_charge: u64_at(40),
+            max_blob_bytes: u64_at(48),
+            max_row_bytes: u64_at(56),
+            records,
+            names,
+            references,
+            registry,
+            input,
+        };
         Some((case, rest))
     }
 }
 
-/// An answer line: number, place and the three values.
+/// An answer line: number, place and the three values; for a run also its rows and bytes.
 #[derive(Debug, Clone, Copy, PartialEq, Eq, PartialOrd, Ord)]
 pub struct Answer {
     pub number: u64,
+    /// The table, where a row was skipped.
     pub place: u64,
     pub values: [u64; 3],
+    pub run: Option<[u64; 2]>,
 }
 
 impl Answer {
     /// No type, or no fixed width.
-    pub const NONE: Answer = Answer { number: 255, place: 0, values: [0, 0, 0] };
+    pub const NONE: Answer = Answer { number: 255, place: 0, values: [0, 0, 0], run: None };
 
     pub fn accepted(values: [u64; 3]) -> Self {
-        Self { number: 0, place: 0, values }
+        Self { number: 0, place: 0, values, run: None }
     }
 }
 
 impl fmt::Display for Answer {
     fn fmt(&self, formatter: &mut fmt::Formatter<'_>) -> fmt::Result {
         let [x, y, z] = self.values;
-        write!(formatter, "{} {} {x} {y} {z}", self.number, self.place)
+        write!(formatter, "{} {} {x} {y} {z}", self.number, self.place)?;
+        match self.run {
+            None => Ok(()),
+            Some([rows, bytes]) => write!(formatter, " {rows} {bytes}"),
+        }
     }
 }
 
@@ -102,28 +144,36 @@ mod tests {
             op: 6,
             a: 0x0102_0304_0506_0708,
             b: u64::MAX,
+            node_charge: 48,
+            max_blob_bytes: 3 << 32,
+            max_row_bytes: 5 << 56,
             records: vec![9],
             names: vec![8, 8],
             references: vec![7, 7, 7],
             registry: vec![6, 6, 6, 6],
+            input: vec![5],
         };
         let mut bytes = Vec::new();
         case.write_to(&mut bytes);
-        let mut expected = vec![6, 0, 0, 0, 1, 0, 0, 0, 2, 0, 0, 0, 3, 0, 0, 0, 4, 0, 0, 0, 0, 0, 0, 0];
+        let mut expected = vec![6, 0, 0, 0, 1, 0, 0, 0, 2, 0, 0, 0, 3, 0, 0, 0, 4, 0, 0, 0, 1, 0, 0, 0];
         expected.extend([8, 7, 6, 5, 4, 3, 2, 1]);
         expected.extend([255; 8]);
-        expected.extend([9, 8, 8, 7, 7, 7, 6, 6, 6, 6]);
+        expected.extend([48, 0, 0, 0, 0, 0, 0, 0]);
+        expected.extend([0, 0, 0, 0, 3, 0, 0, 0]);
+        expected.extend([0, 0, 0, 0, 0, 0, 0, 5]);
+        expected.extend([9, 8, 8, 7, 7, 7, 6, 6, 6, 6, 5]);
         assert_eq!(bytes, expected);
         bytes.extend([1, 2, 3]);
         assert_eq!(Case::read_from(&bytes), Some((case, &[1, 2, 3][..])));
-        assert_eq!(Case::read_from(&bytes[..49]), None);
-        assert_eq!(Case::read_from(&bytes[..39]), None);
+        assert_eq!(Case::read_from(&bytes[..74]), None);
+        assert_eq!(Case::read_from(&bytes[..63]), None);
     }
 
     #[test]
-    fn an_answer_is_five_numbers_with_one_blank_between() {
-        let answer = Answer { number: 5, place: 3, values: [17, 256, 255] };
+    fn an_answer_is_numbers_with_one_blank_between() {
+        let answer = Answer { number: 5, place: 3, values: [17, 256, 255], run: None };
         assert_eq!(answer.to_string(), "5 3 17 256 255");
+        assert_eq!(Answer { run: Some([7, 8]), ..answer }.to_string(), "5 3 17 256 255 7 8");
         assert_eq!(Answer::NONE.to_string(), "255 0 0 0 0");
     }
 }

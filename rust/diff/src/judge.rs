@@ -2,6 +2,8 @@
 
 use plain::answer::Refusal;
 use plain::format::{table_schema, validate_encoder, validate_format, validate_schema};
+use plain::reading::{run, skip};
+use plain::report::{what, Report};
 use plain::tables::{Block, FormatTables};
 use plain::wire_type::{fixed_width, parse};
 
@@ -22,7 +24,7 @@ pub fn lone_block(case: &Case) -> Block {
 }
 
 pub fn refused(refusal: Refusal) -> Answer {
-    Answer { number: refusal.number, place: refusal.place, values: refusal.carried }
+    Answer { number: refusal.number, place: refusal.place, values: refusal.carried, run: None }
 }
 
 pub fn checked(answer: Result<(), Refusal>) -> Answer {
@@ -31,6 +33,28 @@ pub fn checked(answer: Result<(), Refusal>) -> Answer {
 
 fn found(answer: Option<u64>) -> Answer {
     answer.map_or(Answer::NONE, |value| Answer::accepted([value, 0, 0]))
+}
+
+/// What the plain reading has a C function write.
+pub fn plain_report(case: &Case) -> Report {
+    match case.op {
+        op::SKIP => Report::of_skip(&skip(&case.settings(), &tables(case), &case.input, case.a)),
+        op::RUN => Report::of_run(&run(&case.settings(), &tables(case), &case.input)),
+        other => panic!("not a reading operation: {other}"),
+    }
+}
+
+/// A reading call's report as an answer line. A row has bytes, so it differs from an end.
+pub fn line(op: u32, report: &Report) -> Answer {
+    let Report { number, place, carried: values, .. } = *report;
+    if op == op::RUN {
+        Answer { number, place, values, run: Some([report.rows, report.bytes]) }
+    } else if report.what == what::ROW {
+        let values = [report.bytes, report.records, report.payload];
+        Answer { number, place: report.table, values, run: None }
+    } else {
+        Answer { number, place, values, run: None }
+    }
 }
 
 pub fn plain_answer(case: &Case) -> Answer {
@@ -42,6 +66,7 @@ pub fn plain_answer(case: &Case) -> Answer {
         op::FORMAT => checked(validate_format(&tables(case))),
         op::TABLE_SCHEMA => table_schema(&tables(case), case.a)
             .map_or_else(refused, |block| Answer::accepted([block.first, block.count, 0])),
+        op::SKIP | op::RUN => line(case.op, &plain_report(case)),
         other => panic!("no such operation: {other}"),
     }
 }

@@ -1,5 +1,8 @@
 //! What the original answers to a case, on demand 2's domain: calls that are not answered 1, 2 or 3,
-//! with UTF-8 names. The original knows no places, so it is compared in number and carried values.
+//! with UTF-8 names and, where rows are read, its own node charge. The original knows no places, so it
+//! is compared in number and carried values, in what it accepts, and in a run's rows and bytes.
+
+mod rows;
 
 use std::collections::BTreeMap;
 
@@ -37,16 +40,18 @@ fn code(wire_type: WireType) -> u64 {
     TYPES.iter().position(|known| *known == wire_type).expect("all twenty are listed") as u64
 }
 
-/// Number and carried values.
+/// Number and carried values; the table of a row; a run's rows and bytes.
 #[derive(Debug, Clone, Copy, PartialEq, Eq)]
 pub struct Said {
     pub number: u64,
+    pub table: Option<u64>,
     pub values: [u64; 3],
+    pub run: Option<[u64; 2]>,
 }
 
 impl Said {
     fn new(number: u64, values: [u64; 3]) -> Self {
-        Self { number, values }
+        Self { number, table: None, values, run: None }
     }
 
     fn accepted() -> Self {
@@ -54,7 +59,10 @@ impl Said {
     }
 
     pub fn agrees_with(&self, answer: &Answer) -> bool {
-        self.number == answer.number && self.values == answer.values
+        self.number == answer.number
+            && self.table.is_none_or(|table| table == answer.place)
+            && self.values == answer.values
+            && self.run == answer.run
     }
 }
 
@@ -102,6 +110,7 @@ pub fn ask(case: &Case, plain: &Answer) -> Option<Said> {
                 Err(error) => refused(case, error),
             })
         }
+        op::SKIP | op::RUN => rows::ask(case),
         other => panic!("no such operation: {other}"),
     }
 }

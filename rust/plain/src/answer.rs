@@ -1,7 +1,8 @@
 //! A refusal: its number, its place and the values it carries, in document 01's order.
 
-/// The refusal numbers of the format side.
+/// The refusal numbers of the format side and of reading.
 pub mod number {
+    pub const SETTING: u64 = 1;
     pub const BAD_SCHEMA_TABLE: u64 = 2;
     pub const TOO_DEEP: u64 = 3;
     pub const UNEXPECTED_CHILDREN: u64 = 4;
@@ -12,6 +13,19 @@ pub mod number {
     pub const TABLE_SCHEMA_MUST_BE_TUPLE: u64 = 9;
     pub const TABLE_SCHEMA_CHILD_MISSING_NAME: u64 = 10;
     pub const MISSING_TABLE_SCHEMA: u64 = 11;
+    pub const TRUNCATED: u64 = 12;
+    pub const ROW_TOO_LARGE: u64 = 13;
+    pub const BLOB_TOO_LARGE: u64 = 14;
+    pub const INVALID_VARIANT_TAG: u64 = 17;
+}
+
+/// What a stream was cut in, as 12 carries it. A fixed type's context is its own wire code, 1 to 12.
+pub mod context {
+    pub const BLOB_LENGTH: u64 = 13;
+    pub const BLOB_PAYLOAD: u64 = 14;
+    pub const VARIANT8_TAG: u64 = 15;
+    pub const VARIANT16_TAG: u64 = 16;
+    pub const TABLE_TAG: u64 = 17;
 }
 
 #[derive(Debug, Clone, Copy, PartialEq, Eq)]

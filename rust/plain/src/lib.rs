@@ -4,15 +4,20 @@
 //! It is meant to be compared with the document by eye. Every check runs over everything before the
 //! next check begins, which is the order of refusals as it is written, and nothing is clever.
 //!
-//! The format side stands here: [`wire_type`], [`tables`], [`forms`], [`depth`], [`rules`] and the
-//! calls in [`format`].
+//! The format side: [`wire_type`], [`tables`], [`forms`], [`depth`], [`rules`] and the calls in
+//! [`format`]. Reading: [`settings`], the [`walk`] over a row, the calls in [`reading`], and the
+//! [`report`] that the C functions write.
 
 pub mod answer;
 pub mod depth;
 pub mod format;
 pub mod forms;
+pub mod reading;
+pub mod report;
 pub mod rules;
+pub mod settings;
 pub mod tables;
+pub mod walk;
 pub mod wire_type;
 
 #[cfg(test)]

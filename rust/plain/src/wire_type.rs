@@ -25,6 +25,10 @@ pub const NAMES: [&str; 20] = [
 
 pub const LAST_CODE: u8 = 19;
 pub const LAST_CHILDLESS: u8 = 14;
+pub const INT128: u8 = 6;
+pub const INT256: u8 = 7;
+pub const STRING32: u8 = 13;
+pub const YSON32: u8 = 14;
 pub const VARIANT8: u8 = 15;
 pub const VARIANT16: u8 = 16;
 pub const REPEATED_VARIANT8: u8 = 17;

@@ -1,6 +1,6 @@
 use borrow.Author.Needs.{needs}
 use native.Mathlib.Omega.{arith}
-use Prim.Native.Nat.{ℕ, _+_, _-_, _≤_, _<_, _^_}
+use Prim.Native.Nat.{_+_, _-_, _≤_, _<_, _^_}
 use mathlib.Core.Path.{_≡_, _∙_}
 use Rattle.rules.specs.Bytes.{leAt}
 use Rattle.wire.proofs.Fields.{le-within, le-none, le-all, le-step}

@@ -1,7 +1,9 @@
 use borrow.Author.Needs.{needs}
 use native.Mathlib.Omega.{arith}
 use Prim.Native.Nat.{_+_, _-_, _≤_}
-use mathlib.Core.Path.{_≡_, sym}
+use mathlib.Core.Path.{_≡_, sym, _∙_}
+use mathlib.Core.List.{_∷_}
+use lib.ListN.{getD}
 use Rattle.rules.specs.Bytes.{part, order}
 use Rattle.wire.proofs.Parts.{part-none, part-step, part-end}
 use Rattle.wire.proofs.Orders.{order-cons-same, order-cons-less, order-cons-greater}
@@ -35,15 +37,23 @@ add-y c = search needs
 shared-slice-read-y : tie.Need-shared-slice-read-y Inv-loop μ-loop
 shared-slice-read-y c = search needs
 
+-- where both spans go on, the next bytes and what is after them decide
+turn : (c : tie.Else1 Inv-loop μ-loop) →
+    let a = c .before .before .before .args in
+    let i = c .before .before .loop .i in
+    order (getD (a .s .now) (a .a + i) 0 ∷ part (a .s .now) (a .a + (i + 1)) (a .la - (i + 1))) (getD (a .t .now) (a .b + i) 0 ∷ part (a .t .now) (a .b + (i + 1)) (a .lb - (i + 1)))
+    ≡ order (part (a .s .now) (a .a) (a .la)) (part (a .t .now) (a .b) (a .lb))
+turn c = rw (← part-step _ _ _ _ (c .before .loop-test .taken), ← part-step _ _ _ _ (c .if1 .left)) (c .before .before .loop .inv .1)
+
 returns-2 : tie.Need-returns-2 Inv-loop μ-loop
 returns-2 c =
     let u = c .before .before .before in
-    rw (← u .before .before .loop .inv .1, part-step _ _ _ _ (u .before .loop-test .taken), part-step _ _ _ _ (u .if1 .left)) (sym (order-cons-less _ _ _ _ (c .if2 .taken)))
+    sym (order-cons-less _ _ _ _ (c .if2 .taken)) ∙ turn u
 
 returns-3 : tie.Need-returns-3 Inv-loop μ-loop
 returns-3 c =
     let u = c .before .before .before .before in
-    rw (← u .before .before .loop .inv .1, part-step _ _ _ _ (u .before .loop-test .taken), part-step _ _ _ _ (u .if1 .left)) (sym (order-cons-greater _ _ _ _ (c .if3 .taken)))
+    sym (order-cons-greater _ _ _ _ (c .if3 .taken)) ∙ turn u
 
 add-i : tie.Need-add-i Inv-loop μ-loop
 add-i c = search needs
@@ -54,7 +64,7 @@ loop-less c = search needs
 loop-again : tie.Need-loop-again Inv-loop μ-loop
 loop-again c =
     let u = c .before .before .before .before in
-    (search needs, rw (← u .before .before .loop .inv .1, part-step _ _ _ _ (u .before .loop-test .taken), part-step _ _ _ _ (u .if1 .left)) (sym (order-cons-same _ _ _ _ (omega (arith, c .if3 .left, c .before .if2 .left)))))
+    (search needs, sym (order-cons-same _ _ _ _ (omega (arith, c .if3 .left, c .before .if2 .left))) ∙ turn u)
 
 returns-4 : tie.Need-returns-4 Inv-loop μ-loop
 unfolding order

@@ -1,43 +1,11 @@
-//! Hand-made cases, each with the sentence of document 01 that it stands for.
+//! The calls of the format side.
 
 use crate::answer::Refusal;
 use crate::format::{table_schema, validate_encoder, validate_format, validate_schema};
-use crate::tables::{Block, FormatTables};
+use crate::tables::FormatTables;
 use crate::wire_type::{fixed_width, parse, NAMES};
 
-type Fields = (u8, u8, u16, u32, u32, u32);
-
-fn records(rows: &[Fields]) -> Vec<u8> {
-    let mut bytes = Vec::new();
-    for &(code, named, length, start, first, count) in rows {
-        bytes.extend([code, named]);
-        bytes.extend(length.to_le_bytes());
-        bytes.extend(start.to_le_bytes());
-        bytes.extend(first.to_le_bytes());
-        bytes.extend(count.to_le_bytes());
-    }
-    bytes
-}
-
-fn words(rows: &[[u32; 4]]) -> Vec<u8> {
-    rows.iter().flatten().flat_map(|word| word.to_le_bytes()).collect()
-}
-
-fn block(first: u64, count: u64) -> Block {
-    Block { first, count }
-}
-
-/// Document 01's A: tuple("page" uint8, "name" variant8(nothing, string32)).
-fn a() -> (Vec<u8>, Vec<u8>) {
-    let table = records(&[
-        (19, 0, 0, 0, 1, 2),
-        (8, 1, 4, 0, 0, 0),
-        (15, 1, 4, 4, 3, 2),
-        (0, 0, 0, 0, 0, 0),
-        (13, 0, 0, 0, 0, 0),
-    ]);
-    (table, b"pagename".to_vec())
-}
+use super::{a, block, records, words, Fields};
 
 fn refused(number: u64, place: u64, carried: [u64; 3]) -> Result<(), Refusal> {
     Err(Refusal::at(number, place, carried))

@@ -1,0 +1,73 @@
+// A block as a part of the record table, given by first record and record count.
+ghost use mathlib.Core.Path.{_≡_};
+ghost use Prim.Native.Nat.{_+_, _≤_};
+ghost use Rattle.rules.specs.Block.{records, block};
+ghost use Rattle.rules.specs.SchemaRules.{tableRule};
+ghost use Rattle.rules.specs.Format.{blockFormOk, blockDepthOk, blockRule, oneBlock};
+ghost use Rattle.rules.specs.declared.Checked.the-variants.{Accepted};
+ghost use Rattle.flat.specs.Sound.{Sound};
+use super::block::block_ok;
+use super::block::depth_of;
+use super::block::span_ok;
+use super::validation::check_root;
+use super::validation::validate;
+use rules::Checked;
+use rules::Purpose;
+use rules::Refusal;
+
+fn block_of(table: &[u8], first: u64, count: u64) -> &[u8]
+    requires { ⌜ first + count ≤ records (now table) ⌝ }
+    ensures { λ r. ⌜ now r ≡ block (now (table .entry)) first count ⌝ }
+{
+    let from = (first * 16) as usize;
+    let to = ((first + count) * 16) as usize;
+    &table[from..to]
+}
+
+// It lies in the table and has the form.
+pub fn block_form_ok(table: &[u8], store: u64, first: u64, count: u64) -> bool
+    ensures { λ r. ⌜ r ≡ blockFormOk (now (table .entry)) store first count ⌝ }
+{
+    let m = (table.len() / 16) as u64;
+    if !span_ok(first, count, m) {
+        return false;
+    }
+    block_ok(block_of(table, first, count), store)
+}
+
+pub fn block_depth_ok(table: &[u8], first: u64, count: u64) -> bool
+    requires { ⌜ Sound (now table) first count ⌝ }
+    ensures { λ r. ⌜ r ≡ blockDepthOk (now (table .entry)) first count ⌝ }
+{
+    depth_of(block_of(table, first, count)) <= 64
+}
+
+pub fn block_rule(table: &[u8], first: u64, count: u64) -> Checked
+    requires { ⌜ Sound (now table) first count ⌝ }
+    ensures { λ r. ⌜ r ≡ blockRule (now (table .entry)) first count ⌝ }
+{
+    validate(block_of(table, first, count), first, 64, 0)
+}
+
+pub fn block_root(table: &[u8], first: u64, count: u64, purpose: Purpose) -> Checked
+    requires { ⌜ Sound (now table) first count ⌝ }
+    ensures { λ r. ⌜ r ≡ tableRule purpose (block (now (table .entry)) first count) first ⌝ }
+{
+    check_root(block_of(table, first, count), first, purpose)
+}
+
+// Form, then depth: what comes before the rules. The sizes of the slices are the caller's to test.
+pub fn block_stands(table: &[u8], names: &[u8], first: u64, count: u64) -> Checked
+    ensures { λ r. ⌜ r ≡ oneBlock (now (table .entry)) (now (names .entry)) first count Accepted ⌝ }
+{
+    if table.len() % 16 != 0 {
+        return Checked::Refused(Refusal::BadSchemaTable);
+    }
+    if !block_form_ok(table, names.len() as u64, first, count) {
+        return Checked::Refused(Refusal::BadSchemaTable);
+    }
+    if block_depth_ok(table, first, count) {
+        return Checked::Accepted;
+    }
+    Checked::Refused(Refusal::TooDeep)
+}

@@ -1,0 +1,131 @@
+// The schema rules on a block, in the Rust's order (4, 5), and a table's root and names (8, 9, 10).
+ghost use mathlib.Core.Path.{_≡_};
+ghost use Prim.Native.Nat.{ℕ, _+_, _*_, _^_, _≤_, _<_};
+ghost use lib.ListN.{length};
+ghost use Rattle.rules.specs.Wire.{form, maximum};
+ghost use Rattle.rules.specs.Block.{records, Closed};
+ghost use Rattle.rules.specs.SchemaRules.{nodeRule, schemaRule, notTuple, rootRule, nameRule, tableRule};
+use rules::Checked;
+use rules::Children;
+use rules::Node;
+use rules::Purpose;
+use rules::Refusal;
+
+// What the rules say of a node by itself.
+fn node_rule(place: u64, n: Node) -> Checked
+    ensures { λ r. ⌜ r ≡ nodeRule place n (maximum (form (n .code))) ⌝ }
+{
+    let code = n.code;
+    let children = n.children;
+    let most = wire::maximum_of(code);
+    match most {
+        Children::None => {
+            if children == 0 {
+                return Checked::Accepted;
+            }
+            Checked::Refused(Refusal::UnexpectedChildren {
+                wire_type: code,
+                count: children,
+                place,
+            })
+        }
+        Children::UpTo(maximum) => {
+            if children <= maximum {
+                return Checked::Accepted;
+            }
+            Checked::Refused(Refusal::TooManyChildren {
+                wire_type: code,
+                count: children,
+                maximum,
+                place,
+            })
+        }
+        Children::Any => Checked::Accepted,
+        Children::Unknown => Checked::Refused(Refusal::BadSchemaTable),
+    }
+}
+
+// The first refusal in preorder: a node before its children, its children in order. `base` is the block's first record in
+// the table, so that a place is a record of the table.
+pub fn validate(s: &[u8], base: u64, depth: u64, i: u64) -> Checked
+    requires { ⌜ Closed (now s) × (i * 16 + 16 ≤ length (now s)) × (base + records (now s) < 2 ^ 64) ⌝ }
+    ensures { λ r. ⌜ r ≡ schemaRule (now (s .entry)) base depth i ⌝ }
+{
+    if depth == 0 {
+        return Checked::Refused(Refusal::TooDeep);
+    }
+    let n = super::block::node_at(s, i);
+    let own = node_rule(base + i, n);
+    let Checked::Accepted = own else {
+        return own;
+    };
+    let first = n.first;
+    let children = n.children;
+    let mut k = 0;
+    while k < children {
+        let below = validate(s, base, depth - 1, first + k);
+        let Checked::Accepted = below else {
+            return below;
+        };
+        k += 1;
+    }
+    Checked::Accepted
+}
+
+// A root that is no tuple has a number of its own for the encoder.
+fn not_tuple(purpose: Purpose, found: u8, place: u64) -> Refusal
+    ensures { λ r. ⌜ r ≡ notTuple purpose found place ⌝ }
+{
+    match purpose {
+        Purpose::Format => Refusal::TableSchemaRootMustBeTuple { found, place },
+        Purpose::Encoder => Refusal::TableSchemaMustBeTuple { found, place },
+    }
+}
+
+fn root_rule(purpose: Purpose, place: u64, n: Node) -> Checked
+    ensures { λ r. ⌜ r ≡ rootRule purpose place n ⌝ }
+{
+    let code = n.code;
+    if code == 19 {
+        return Checked::Accepted;
+    }
+    Checked::Refused(not_tuple(purpose, code, place))
+}
+
+// A column has a name, and one that is not empty.
+fn name_rule(place: u64, index: u64, n: Node) -> Checked
+    ensures { λ r. ⌜ r ≡ nameRule place index n ⌝ }
+{
+    let named = n.named;
+    let len = n.len;
+    if named == 1 {
+        if 0 < len {
+            return Checked::Accepted;
+        }
+    }
+    Checked::Refused(Refusal::TableSchemaChildMissingName { index, place })
+}
+
+// A table's root is a tuple, and each of its direct children has a name.
+pub fn check_root(s: &[u8], base: u64, purpose: Purpose) -> Checked
+    requires { ⌜ Closed (now s) × (16 ≤ length (now s)) × (base + records (now s) < 2 ^ 64) ⌝ }
+    ensures { λ r. ⌜ r ≡ tableRule purpose (now (s .entry)) base ⌝ }
+{
+    let root = super::block::node_at(s, 0);
+    let own = root_rule(purpose, base, root);
+    let Checked::Accepted = own else {
+        return own;
+    };
+    let first = root.first;
+    let children = root.children;
+    let mut k = 0;
+    while k < children {
+        let n = super::block::node_at(s, first + k);
+        let column = name_rule(base + (first + k), k, n);
+        let Checked::Accepted = column else {
+            return column;
+        };
+        k += 1;
+    }
+    Checked::Accepted
+}

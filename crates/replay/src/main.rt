@@ -1,0 +1,101 @@
+// Answers cases: reads them one after another from standard input and writes a line for each to standard output. The gate runs it on
+// recorded cases and compares the lines; the differential runs ask it for answers.
+//
+// A case is a header of 64 bytes and five byte strings. The header, little-endian: u32 op; u32 lengths of records, names, references,
+// registry and input; u64 a; u64 b; u64 node charge; u64 largest blob; u64 largest row. A line: refusal number (0 if none), place, and
+// up to three values.
+mod answers;
+
+use answers::answer;
+use rules::Report;
+use wire::field;
+ghost use Prim.Native.Nat.{_+_, _≤_};
+ghost use lib.ListN.{length};
+ghost use mathlib.Core.Path.{_≡_};
+
+// The longest four byte strings of a case, together.
+const SPACE: u64 = 4194304;
+
+// Reads as much as there is, or as the slice holds; true if it is full.
+fn fill(s: &mut [u8]) -> bool {
+    io::read_full(0, s) == s.len()
+}
+
+fn write_line(r: Report) {
+    io::print_decimal(1, r.number);
+    io::write_all(1, b" ");
+    io::print_decimal(1, r.place);
+    io::write_all(1, b" ");
+    io::print_decimal(1, r.a);
+    io::write_all(1, b" ");
+    io::print_decimal(1, r.b);
+    io::write_all(1, b" ");
+    io::print_decimal(1, r.c);
+    io::write_all(1, b"\n");
+}
+
+// A length of the header. One over the space counts as one more than the space, so that sums stay small.
+fn size_at(head: &[u8; 64], at: usize) -> usize
+    requires { ⌜ at + 4 ≤ 64 ⌝ }
+    ensures { λ r. ⌜ r ≤ 4194305 ⌝ }
+{
+    let size = field(head, at, 4);
+    if SPACE < size {
+        return 4194305;
+    }
+    size as usize
+}
+
+// Answers the case whose byte strings end in `body` at x, y, z, w and its end.
+fn answer_body(op: u64, body: &[u8], x: usize, y: usize, z: usize, w: usize, a: u64, b: u64)
+    requires { ⌜ (x ≤ y) × (y ≤ z) × (z ≤ w) × (w ≤ length (now body)) ⌝ }
+{
+    write_line(answer(op, &body[0..x], &body[x..y], &body[y..z], &body[z..w], a, b));
+}
+
+// Answers the next case; false where there is none, or it is cut, or too long for the space.
+fn answer_next(space: &mut [u8]) -> bool {
+    let mut head = [0u8; 64];
+    if !fill(&mut head) {
+        return false;
+    }
+    let x = size_at(&head, 4);
+    let y = x + size_at(&head, 8);
+    let z = y + size_at(&head, 12);
+    let w = z + size_at(&head, 16);
+    let end = w + size_at(&head, 20);
+    if space.len() < end {
+        return false;
+    }
+    if !fill(&mut space[0..end]) {
+        return false;
+    }
+    let op = field(&head, 0, 4);
+    let a = field(&head, 24, 8);
+    let b = field(&head, 32, 8);
+    answer_body(op, &space[0..end], x, y, z, w, a, b);
+    true
+}
+
+// A proved loop has to end, and nothing says that the input does: it counts its turns down, from more than any run has.
+fn answer_all(space: &mut [u8]) {
+    let mut turns = u64::MAX;
+    while 0 < turns {
+        if !answer_next(space) {
+            return;
+        }
+        turns -= 1;
+    }
+}
+
+// Room for the byte strings of a case. The `ensures` gives only the length, which lending the array as a slice needs.
+fn space() -> [u8; 4194304]
+    ensures { λ r. ⌜ 4194304 ≡ length r ⌝ }
+{
+    [0; 4194304]
+}
+
+fn main() {
+    let mut bytes = space();
+    answer_all(&mut bytes);
+}

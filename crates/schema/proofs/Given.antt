@@ -1,0 +1,103 @@
+-- What the forms of a format give, and its parts over the slices that each looks at.
+-- Assumes nothing.
+use Prim.Native.Nat.{ℕ, zero, suc, _+_, _-_, _≤_, _<_}
+use mathlib.Core.Path.{_≡_, refl, sym, _∙_}
+use mathlib.Core.Bool.{Bool, true, false}
+use mathlib.Core.List.{List, []}
+use mathlib.Core.Logic.{⊎-elim}
+use native.Mathlib.Omega.{arith}
+use borrow.Author.Tests.{leb-true, eq-eqb, ne-eqb}
+use lib.ListN.{length}
+use lib.Dec.{eqb}
+use Rattle.rules.specs.Choice.{pick, _and_, all}
+use Rattle.rules.specs.Bytes.{part, order, isLess}
+use Rattle.rules.specs.Block.{records, spanOk}
+use Rattle.rules.specs.Format.{Format, wholeOk, blockFormOk, blockDepthOk, blockRule, entryAt, referenceAt, entryName, referenceOk, ascending, entryOk, referenceFormOk, formsOk, entryDepthOk, referenceDepthOk, depthsOk, entryRule}
+use Rattle.rules.specs.declared.Entry.{Entry}
+use Rattle.rules.specs.declared.Reference.{Reference}
+use Rattle.rules.specs.declared.Order.{Order}
+use Rattle.rules.specs.declared.Checked.{Checked}
+use Rattle.rules.proofs.Tests.{and-both, all-each, pick-either}
+use Rattle.flat.specs.Sound.{Sound}
+use Rattle.schema.specs.Slices.{slices, entriesOk, referencesOk, entriesShallow, referencesShallow, EntriesSound, InlineSound, EntriesNamed, ReferencesNamed}
+use Rattle.flat.proofs.Parts.{form-sound}
+
+all-same : (f g : ℕ → Bool) → ((i : ℕ) → f i ≡ g i) → (n : ℕ) → all f n ≡ all g n
+unfolding all
+all-same f g h zero = refl
+all-same f g h (suc n) = rw (all-same f g h n, h n)
+
+-- ---- a test looks at its slices alone
+pub ascending-any : (table references names registry : List ℕ) (j : ℕ) → ascending (slices table names references registry) j ≡ ascending (slices [] names [] registry) j
+unfolding ascending
+ascending-any table references names registry zero = refl
+ascending-any table references names registry (suc j) = refl
+
+entry-any : (table names references registry : List ℕ) (j : ℕ) → entryOk (slices table names references registry) j ≡ entryOk (slices table names [] registry) j
+unfolding entryOk
+entry-any table names references registry j = rw (ascending-any table references names registry j, ascending-any table [] names registry j)
+
+pub forms-is : (table names references registry : List ℕ) → formsOk (slices table names references registry) ≡ wholeOk table and wholeOk references and wholeOk registry and entriesOk table names registry and referencesOk table names references
+unfolding formsOk referenceFormOk referenceOk
+forms-is table names references registry = rw (all-same _ _ (entry-any table names references registry) (records registry))
+
+pub depths-is : (table names references registry : List ℕ) → depthsOk (slices table names references registry) ≡ entriesShallow table registry and referencesShallow table references
+unfolding depthsOk entryDepthOk referenceDepthOk
+depths-is table names references registry = refl
+
+pub depths-any : (table names references registry : List ℕ) → depthsOk (slices table names references registry) ≡ depthsOk (slices table [] references registry)
+unfolding depthsOk entryDepthOk referenceDepthOk
+depths-any table names references registry = refl
+
+-- ---- a test of the code is the rules' test of that entry or reference
+pub ascending-suc : (names registry : List ℕ) (j : ℕ) → (j ≡ 0 → ⊥) → (last e : Entry) → last ≡ entryAt registry (j - 1) → e ≡ entryAt registry j → (o : Order) → o ≡ order (part names (last .start) (last .len)) (part names (e .start) (e .len)) → (b : Bool) → b ≡ isLess o → b ≡ ascending (slices [] names [] registry) j
+unfolding ascending entryName
+ascending-suc names registry zero h last e a c o p b q = absurd (h refl)
+ascending-suc names registry (suc j) h last e a c o p b q =
+    let k : suc j - 1 ≡ j = omega arith in
+    rw (← k, ← a, k, ← c, ← p) q
+
+module _ (table registry : List ℕ) (j : ℕ) (e : Entry) (is : e ≡ entryAt registry j) where
+  pub entry-shallow : (b : Bool) → b ≡ blockDepthOk table (e .first) (e .count) → b ≡ entryDepthOk (slices table [] [] registry) j
+  unfolding entryDepthOk
+  entry-shallow b h = rw (← is) h
+
+  pub entry-rule : (r : Checked) → r ≡ blockRule table (e .first) (e .count) → r ≡ entryRule (slices table [] [] registry) (0 + j)
+  unfolding entryRule
+  entry-rule r h = let z : 0 + j ≡ j = omega arith in rw (z, ← is) h
+
+module _ (table references : List ℕ) (t : ℕ) (r : Reference) (is : r ≡ referenceAt references t) where
+  pub reference-form : (names : List ℕ) (b : Bool) → b ≡ referenceOk (slices table names [] []) r → b ≡ referenceFormOk (slices table names references []) t
+  unfolding referenceFormOk referenceOk
+  reference-form names b h = rw (← is) h
+
+  pub reference-deep : (b : Bool) → b ≡ pick (eqb (r .kind) 0) (blockDepthOk table (r .start) (r .len)) true → b ≡ referenceDepthOk (slices table [] references []) t
+  unfolding referenceDepthOk
+  reference-deep b h = rw (← is) h
+
+-- ---- what the forms give
+module _ (table names registry : List ℕ) where
+  pub entry-gives : (j : ℕ) → entryOk (slices table names [] registry) j ≡ true → (entryAt registry j .start + entryAt registry j .len ≤ length names) × Sound table (entryAt registry j .first) (entryAt registry j .count)
+  unfolding entryOk
+  entry-gives j e =
+      let p = and-both _ _ (and-both _ _ e .0) in
+      (leb-true _ _ (p .0), form-sound _ _ _ _ (p .1))
+
+  pub entries-named : entriesOk table names registry ≡ true → EntriesNamed names registry
+  entries-named e j h = entry-gives j (all-each _ _ j e h) .0
+
+  pub entries-sound : entriesOk table names registry ≡ true → EntriesSound table registry
+  entries-sound e j h = entry-gives j (all-each _ _ j e h) .1
+
+module _ (table names references : List ℕ) (ok : referencesOk table names references ≡ true) where
+  pub inline-sound : InlineSound table references
+  unfolding referenceFormOk referenceOk pick
+  inline-sound t h z =
+      let p = and-both _ _ (all-each _ _ t ok h) in
+      form-sound _ _ _ (length names) (rw (eq-eqb _ _ z) at (p .1))
+
+  pub references-named : ReferencesNamed names references
+  unfolding referenceFormOk referenceOk pick
+  references-named t h z =
+      let p = and-both _ _ (all-each _ _ t ok h) in
+      leb-true _ _ (and-both _ _ (rw (ne-eqb _ _ z) at (p .1)) .1)

@@ -1,0 +1,4 @@
+pub mod Lookups
+pub mod Given
+pub mod Tables
+pub mod Accepted

@@ -1,0 +1,57 @@
+-- A format as the four slices that a call is given: its parts by the slices that each looks at, and what the check of the
+-- forms lets the steps after it rely on.
+-- Assumes nothing: these are definitions.
+use Prim.Native.Nat.{ℕ, _+_, _≤_, _<_}
+use mathlib.Core.Path.{_≡_}
+use mathlib.Core.Bool.{Bool}
+use mathlib.Core.List.{List, []}
+use lib.ListN.{length}
+use Rattle.rules.specs.Choice.{all}
+use Rattle.rules.specs.Refusals.{inOrder}
+use Rattle.rules.specs.Block.{records}
+use Rattle.rules.specs.Format.{Format, entryAt, referenceAt, entryOk, referenceFormOk, entryDepthOk, referenceDepthOk, entryRule}
+use Rattle.rules.specs.declared.Checked.{Checked}
+use Rattle.flat.specs.Sound.{Sound}
+
+abbrev pub slices : List ℕ → List ℕ → List ℕ → List ℕ → Format
+slices table names references registry = record { table = table; names = names; references = references; registry = registry }
+
+-- ---- the parts of a format's check, over the slices that they look at
+
+abbrev pub entriesOk : List ℕ → List ℕ → List ℕ → Bool
+entriesOk table names registry = all (entryOk (slices table names [] registry)) (records registry)
+
+abbrev pub referencesOk : List ℕ → List ℕ → List ℕ → Bool
+referencesOk table names references = all (referenceFormOk (slices table names references [])) (records references)
+
+abbrev pub entriesShallow : List ℕ → List ℕ → Bool
+entriesShallow table registry = all (entryDepthOk (slices table [] [] registry)) (records registry)
+
+abbrev pub referencesShallow : List ℕ → List ℕ → Bool
+referencesShallow table references = all (referenceDepthOk (slices table [] references [])) (records references)
+
+abbrev pub entriesRule : List ℕ → List ℕ → Checked
+entriesRule table registry = inOrder (entryRule (slices table [] [] registry)) 0 (records registry)
+
+-- ---- what the forms give
+
+-- the blocks of the registry, and the inline ones
+abbrev pub EntriesSound : List ℕ → List ℕ → Type 0
+EntriesSound table registry = (j : ℕ) → j < records registry → Sound table (entryAt registry j .first) (entryAt registry j .count)
+
+abbrev pub InlineSound : List ℕ → List ℕ → Type 0
+InlineSound table references = (t : ℕ) → t < records references → referenceAt references t .kind ≡ 0 → Sound table (referenceAt references t .start) (referenceAt references t .len)
+
+-- the names of the registry, and those that references give, lie in the store
+abbrev pub EntriesNamed : List ℕ → List ℕ → Type 0
+EntriesNamed names registry = (j : ℕ) → j < records registry → entryAt registry j .start + entryAt registry j .len ≤ length names
+
+abbrev pub ReferencesNamed : List ℕ → List ℕ → Type 0
+ReferencesNamed names references = (t : ℕ) → t < records references → (referenceAt references t .kind ≡ 0 → ⊥) → referenceAt references t .start + referenceAt references t .len ≤ length names
+
+-- what all forms of a format give
+pub record Forms (f : Format) : Type 0 where
+  pub entries : EntriesSound (f .table) (f .registry)
+  pub inline : InlineSound (f .table) (f .references)
+  pub entry-names : EntriesNamed (f .names) (f .registry)
+  pub reference-names : ReferencesNamed (f .names) (f .references)

@@ -1,0 +1,102 @@
+// The schema side: which schemas and formats the rules accept, and why the others are refused. Each call answers what the
+// rules answer, on every input.
+ghost use mathlib.Core.Path.{_≡_};
+ghost use Rattle.rules.specs.Format.{schemaAnswer, encoderRules, encoderRule, formatRules, formatRule};
+ghost use Rattle.schema.specs.Slices.{slices};
+
+pub mod depths;
+pub mod format;
+pub mod forms;
+pub mod order;
+
+use depths::depths_ok;
+use flat::table::block_root;
+use flat::table::block_rule;
+use flat::table::block_stands;
+use forms::forms_ok;
+use order::rules_order;
+use rules::Checked;
+use rules::Purpose;
+use rules::Refusal;
+
+// A slice that is read has at most so many bytes.
+const LONGEST: usize = 4294967295;
+
+// ---- one block, given by first record and record count
+
+// The check of a schema alone.
+pub fn check_schema(table: &[u8], names: &[u8], first: u64, count: u64) -> Checked
+    ensures { λ r. ⌜ r ≡ schemaAnswer (now (table .entry)) (now (names .entry)) first count ⌝ }
+{
+    if LONGEST < table.len() {
+        return Checked::Refused(Refusal::Setting);
+    }
+    if LONGEST < names.len() {
+        return Checked::Refused(Refusal::Setting);
+    }
+    let stands = block_stands(table, names, first, count);
+    let Checked::Accepted = stands else {
+        return stands;
+    };
+    block_rule(table, first, count)
+}
+
+// The check of the encoder's schema, its sizes left to a caller that has more settings to test.
+pub fn encoder_rules(table: &[u8], names: &[u8], first: u64, count: u64) -> Checked
+    ensures { λ r. ⌜ r ≡ encoderRules (now (table .entry)) (now (names .entry)) first count ⌝ }
+{
+    let stands = block_stands(table, names, first, count);
+    let Checked::Accepted = stands else {
+        return stands;
+    };
+    let own = block_rule(table, first, count);
+    let Checked::Accepted = own else {
+        return own;
+    };
+    block_root(table, first, count, Purpose::Encoder)
+}
+
+pub fn check_encoder_schema(table: &[u8], names: &[u8], first: u64, count: u64) -> Checked
+    ensures { λ r. ⌜ r ≡ encoderRule (now (table .entry)) (now (names .entry)) first count ⌝ }
+{
+    if LONGEST < table.len() {
+        return Checked::Refused(Refusal::Setting);
+    }
+    if LONGEST < names.len() {
+        return Checked::Refused(Refusal::Setting);
+    }
+    encoder_rules(table, names, first, count)
+}
+
+// ---- a format
+
+// All forms, all depths, then the rules; its sizes left to a caller that has more settings to test.
+pub fn format_rules(table: &[u8], names: &[u8], references: &[u8], registry: &[u8]) -> Checked
+    ensures { λ r. ⌜ r ≡ formatRules (slices (now (table .entry)) (now (names .entry)) (now (references .entry)) (now (registry .entry))) ⌝ }
+{
+    if !forms_ok(table, names, references, registry) {
+        return Checked::Refused(Refusal::BadSchemaTable);
+    }
+    if !depths_ok(table, references, registry) {
+        return Checked::Refused(Refusal::TooDeep);
+    }
+    rules_order(table, names, references, registry)
+}
+
+pub fn check_format(table: &[u8], names: &[u8], references: &[u8], registry: &[u8]) -> Checked
+    ensures { λ r. ⌜ r ≡ formatRule (slices (now (table .entry)) (now (names .entry)) (now (references .entry)) (now (registry .entry))) ⌝ }
+{
+    if LONGEST < table.len() {
+        return Checked::Refused(Refusal::Setting);
+    }
+    if LONGEST < names.len() {
+        return Checked::Refused(Refusal::Setting);
+    }
+    if LONGEST < references.len() {
+        return Checked::Refused(Refusal::Setting);
+    }
+    if LONGEST < registry.len() {
+        return Checked::Refused(Refusal::Setting);
+    }
+    format_rules(table, names, references, registry)
+}

@@ -1,0 +1,12 @@
+pub mod Stands
+pub mod Records
+pub mod Sizes
+pub mod Codes
+pub mod Span
+pub mod Parse
+pub mod Flat
+pub mod Says
+pub mod Written
+pub mod Meets
+pub mod Honest
+pub mod Conform

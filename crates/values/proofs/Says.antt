@@ -1,0 +1,60 @@
+-- What holds of the bytes that are written, and of the refusals.
+-- Assumes nothing.
+use Prim.Native.Nat.{ℕ, _≤_, _<_}
+use mathlib.Core.Path.{_≡_, refl}
+use mathlib.Core.Bool.{Bool, true, false}
+use mathlib.Core.List.{List}
+use borrow.Author.Tests.{ltb-true, ltb-false, eqb-true, eqb-false}
+use Rattle.rules.specs.Choice.{pick}
+use Rattle.rules.specs.Wire.{form}
+use Rattle.rules.specs.Block.{nodeAt}
+use Rattle.rules.specs.Walk.{Limits}
+use Rattle.rules.specs.Writing.{Wrote, Put, Refused, _>>=_, kindFor, fitting, tagged}
+use Rattle.rules.specs.declared.Refusal.{Refusal}
+use Rattle.rules.specs.declared.Refusal.the-variants.{ValueDoesNotMatchSchema, InvalidVariantTag}
+
+-- no property at all
+unfoldable pub Any : {A : Type 0} → A → Type 0
+Any a = Unit
+
+-- bytes have the property P, a refusal the property R
+pub data Says (P : List ℕ → Type 0) (R : Refusal → Type 0) : Wrote → Type 0 where
+  puts : {b : List ℕ} → P b → Says P R (Put b)
+  refuses : {r : Refusal} → R r → Says P R (Refused r)
+
+-- what holds of bytes that were put
+pub put : {P : List ℕ → Type 0} {R : Refusal → Type 0} {b : List ℕ} → Says P R (Put b) → P b
+put (puts h) = h
+
+-- what holds of a refusal that was answered
+pub refused : {P : List ℕ → Type 0} {R : Refusal → Type 0} {r : Refusal} → Says P R (Refused r) → R r
+refused (refuses h) = h
+
+-- one after another
+pub then : {P Q : List ℕ → Type 0} {R : Refusal → Type 0} {x : Wrote} {k : List ℕ → Wrote} → Says P R x → ((b : List ℕ) → P b → Says Q R (k b)) → Says Q R (x >>= k)
+unfolding _>>=_
+then (puts {b = b} h) f = f b h
+then (refuses h) f = refuses h
+
+-- by a test
+pub either : {P : List ℕ → Type 0} {R : Refusal → Type 0} {x y : Wrote} (t : Bool) → (t ≡ true → Says P R x) → (t ≡ false → Says P R y) → Says P R (pick t x y)
+unfolding pick
+either true f g = f refl
+either false f g = g refl
+
+module _ (sch : List ℕ) (lim : Limits) where
+  -- the kind that node i takes
+  abbrev pub takes : ℕ → ℕ
+  takes i = kindFor (nodeAt sch i .code) (form (nodeAt sch i .code))
+
+  -- the kind is tested (15)
+  pub fits : {P : List ℕ → Type 0} {R : Refusal → Type 0} {w : Wrote} (kind i r : ℕ) →
+      ((kind ≡ takes i → ⊥) → R (ValueDoesNotMatchSchema (nodeAt sch i .code) kind r)) → (kind ≡ takes i → Says P R w) → Says P R (fitting sch lim kind i r w)
+  unfolding fitting
+  fits kind i r g f = either _ (λ e. f (eqb-true kind (takes i) e)) (λ e. refuses (g (eqb-false kind (takes i) e)))
+
+  -- the tag is tested (17)
+  pub tags : {P : List ℕ → Type 0} {R : Refusal → Type 0} {w : Wrote} (t i r : ℕ) →
+      (nodeAt sch i .children ≤ t → R (InvalidVariantTag (nodeAt sch i .code) t (nodeAt sch i .children) r)) → (t < nodeAt sch i .children → Says P R w) → Says P R (tagged sch lim t i r w)
+  unfolding tagged
+  tags t i r g f = either _ (λ e. f (ltb-true t (nodeAt sch i .children) e)) (λ e. refuses (g (ltb-false t (nodeAt sch i .children) e)))
