@@ -4,3 +4,4 @@ pub mod Steps
 pub mod Turn
 pub mod Onward
 pub mod Nodes
+pub mod Root

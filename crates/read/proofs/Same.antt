@@ -1,7 +1,7 @@
 -- The walk that skip makes is the rules' walk, its value forgotten.
 -- Assumes nothing.
 use Prim.Native.Nat.{ℕ, zero, suc, _+_, _-_}
-use mathlib.Core.Path.{_≡_, refl, sym, _∙_}
+use mathlib.Core.Path.{_≡_, refl, _∙_}
 use mathlib.Core.Bool.{Bool, true, false}
 use mathlib.Core.List.{List}
 use native.Mathlib.Nat.{add-zero}
@@ -13,14 +13,11 @@ use Rattle.rules.specs.Wire.{Form, empty, truth, fixed, raw, sized, choice, ser
 use Rattle.rules.specs.Block.{nodeAt}
 use Rattle.rules.specs.Value.{boolean}
 use Rattle.rules.specs.Walk as rule
-use Rattle.rules.specs.Reading.{limits, start}
 use Rattle.rules.specs.declared.Node.{Node}
-use Rattle.rules.specs.declared.Settings.{Settings}
 use Rattle.rules.specs.declared.Refusal.the-variants.{Truncated, RowTooLarge}
-use Rattle.read.specs.Budget.{fresh, spent, longest}
+use Rattle.read.specs.Budget.{spent, longest}
 use Rattle.read.specs.Fields.{numberAt}
-use Rattle.read.specs.Skim.{placed, skimmed, standing, _>>=_, reading, passed, having, charged, counted, stored, bytesOf, blobOf, Skimmer, childOf, choiceOf, pairsOf, fieldsOf, valueOf, nodeOf, skim}
-use Rattle.read.specs.declared.budget.RowBudget.{RowBudget}
+use Rattle.read.specs.Skim.{placed, skimmed, _>>=_, reading, passed, having, charged, counted, stored, bytesOf, blobOf, Skimmer, childOf, choiceOf, pairsOf, fieldsOf, valueOf, nodeOf, skim}
 use Rattle.read.specs.declared.budget.Charged.the-variants.{Left}
 use Rattle.read.specs.declared.budget.Charged.the-variants as charged-is
 use Rattle.read.specs.declared.fields.Number.the-variants.{Is}
@@ -135,9 +132,3 @@ module _ (lim : rule.Limits) where
   skim-same sch inp zero i p = refl
   skim-same sch inp (suc d) i p = charged-same (lim .charge) 1 (p .at) p _ _ (λ q.
       value-same inp (rule.walk sch inp lim d) (skim sch inp (lim .charge) d) (skim-same sch inp d) (nodeAt sch i) (form (nodeAt sch i .code)) (record { at = q .at; left = q .left; records = q .records + 1; payload = q .payload }))
-
--- from the start of a row's value
-pub root-same : (s : Settings) (sch inp : List ℕ) (at : ℕ) (b : RowBudget) → b ≡ fresh (s .«max_blob_bytes») (s .«max_row_bytes») →
-    skim sch inp (s .«node_charge») 64 0 (standing at b 0 0) ≡ skimmed (limits s) (rule.walk sch inp (limits s) 64 0 (start (limits s) at))
-unfolding limits start placed fresh
-root-same s sch inp at b e = rw e (sym (skim-same (limits s) sch inp 64 0 (start (limits s) at)))

@@ -8,17 +8,14 @@ use native.Mathlib.Omega.{arith}
 use borrow.Author.Tests.{leb-true}
 use lib.ListN.{length}
 use lib.Dec.{leb}
-use Rattle.rules.specs.Choice.{pick, _and_}
+use Rattle.rules.specs.Choice.{pick}
 use Rattle.rules.specs.Bytes.{leAt}
 use Rattle.rules.specs.declared.Refusal.{Refusal}
 use Rattle.rules.specs.declared.Refusal.the-variants.{Truncated, RowTooLarge}
-use Rattle.rules.specs.Reading.{settingsOk}
-use Rattle.rules.specs.declared.Settings.{Settings}
-use Rattle.rules.proofs.Tests.{and-both}
-use Rattle.read.specs.Budget.{fresh, leaving, spent}
+use Rattle.read.specs.Budget.{leaving, spent}
 use Rattle.read.specs.Fields.{numberAt}
 use Rattle.read.specs.Skim.{standing}
-use Rattle.read.specs.Ready.{Ready, Rooted}
+use Rattle.read.specs.Ready.{Ready}
 use Rattle.read.specs.declared.budget.RowBudget.{RowBudget}
 use Rattle.read.specs.declared.budget.Charged.{Charged}
 use Rattle.read.specs.declared.budget.Charged.the-variants.{Left}
@@ -43,21 +40,7 @@ number-past inp w context at n next t h a b = ends (subst (λ (x : Number). Read
     fits true e = is {n = leAt inp at w} {next = at + w} (omega (arith, leb-true w (length inp - at) e))
     fits false e = cut
 
--- ---- where a walk may stand
-
--- at the start of a row's value, under settings that are accepted
-pub ready-root : (sch inp : List ℕ) (s : Settings) (at blob : ℕ) (b : RowBudget) → Rooted sch inp s at → b ≡ fresh blob (s .«max_row_bytes») → Ready inp (s .«node_charge») (standing at b 0 0)
-unfolding settingsOk fresh
-ready-root sch inp s at blob b k e =
-    let x = and-both _ _ (k .accepted) in
-    let y = and-both _ _ (x .0) in
-    let z = and-both _ _ (y .0) in
-    record {
-      stands = record { within = k .within; short = k .short; passed = omega arith };
-      costs = leb-true 1 (s .«node_charge») (z .0);
-      total = rw e (omega (arith, leb-true (s .«max_row_bytes») 4294967295 (x .1)));
-    }
-
+-- a charge that was made
 data Paid (b : RowBudget) (cost : ℕ) : Charged → Type 0 where
   left : {a : RowBudget} → a .remaining + cost ≡ b .remaining → Paid b cost (Left a)
   dear : {r : Refusal} → Paid b cost (charged-is.Refused r)
