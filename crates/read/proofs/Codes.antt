@@ -1,0 +1,82 @@
+-- What the form of a wire code is, by the ranges that the code's tests tell apart.
+-- Assumes nothing.
+use Prim.Native.Nat.{ℕ, _+_, _-_, _%_, _≤_, _<_}
+use mathlib.Core.Path.{_≡_, refl}
+use mathlib.Core.Bool.{Bool, true, false}
+use mathlib.Core.List.{List}
+use mathlib.Core.Logic.{_⊎_, inl, inr, ⊎-elim}
+use native.Mathlib.Omega.{arith}
+use native.Mathlib.Nat.{eq-or-lt-of-le}
+use borrow.Author.Tests.{lt-ltb, le-ltb, ltb-true, ltb-false}
+use lib.Dec.{ltb}
+use Rattle.rules.specs.Choice.{pick}
+use Rattle.rules.specs.Wire.{sized, choice, series, fields, wireTypes, typeIn, typeOf, written, writtenIf, form, widthOf}
+use Rattle.read.specs.Fields.{numberAt}
+use Rattle.read.specs.Children.{variant, repeated, tuple, shapeOf, byTag, picked}
+
+-- one of two numbers
+two : (a n : ℕ) → a ≤ n → n < a + 2 → (a ≡ n) ⊎ (a + 1 ≡ n)
+two a n h l = ⊎-elim (λ e. inl e) (λ g. inr (omega arith)) (eq-or-lt-of-le h)
+
+pub form-choice : (code : ℕ) → 14 < code → code < 17 → form code ≡ choice (widthOf (form code))
+unfolding wireTypes typeIn typeOf written writtenIf form widthOf
+form-choice code h l = ⊎-elim (λ e. rw (← e)) (λ e. rw (← e)) (two 15 code h (omega arith))
+
+pub form-series : (code : ℕ) → 17 ≤ code → code < 19 → form code ≡ series (widthOf (form code))
+unfolding wireTypes typeIn typeOf written writtenIf form widthOf
+form-series code h l = ⊎-elim (λ e. rw (← e)) (λ e. rw (← e)) (two 17 code h (omega arith))
+
+pub form-fields : (code : ℕ) → 19 ≤ code → code ≤ 19 → form code ≡ fields
+unfolding wireTypes typeIn typeOf written writtenIf form
+form-fields code h l = let e : code ≡ 19 = omega arith in rw e
+
+pub form-sized : (code : ℕ) → 13 ≤ code → code < 15 → form code ≡ sized
+unfolding wireTypes typeIn typeOf written writtenIf form
+form-sized code h l = ⊎-elim (λ e. rw (← e)) (λ e. rw (← e)) (two 13 code h (omega arith))
+
+-- ---- the shapes
+
+pub shape-variant : (code : ℕ) → code < 17 → shapeOf code ≡ variant (widthOf (form code))
+unfolding shapeOf pick
+shape-variant code h = rw (lt-ltb code 17 h)
+
+pub shape-repeated : (code : ℕ) → 17 ≤ code → code < 19 → shapeOf code ≡ repeated (widthOf (form code))
+unfolding shapeOf pick
+shape-repeated code h l = rw (le-ltb code 17 h, lt-ltb code 19 l)
+
+pub shape-tuple : (code : ℕ) → 19 ≤ code → shapeOf code ≡ tuple
+unfolding shapeOf pick
+shape-tuple code h = rw (le-ltb code 17 (omega arith), le-ltb code 19 h)
+
+-- ---- tags
+
+-- a tag has one byte where the code is odd, else two
+module _ (code : ℕ) (h : 14 < code) (l : code < 19) where
+  tag-width : widthOf (form code) ≡ 2 - code % 2
+  unfolding wireTypes typeIn typeOf written writtenIf form widthOf
+  tag-width = by (ltb code 17) refl
+    where
+      by : (b : Bool) → ltb code 17 ≡ b → widthOf (form code) ≡ 2 - code % 2
+      by true e = let k = ltb-true code 17 e in ⊎-elim (λ e. rw (← e)) (λ e. rw (← e)) (two 15 code h (omega arith))
+      by false e = ⊎-elim (λ e. rw (← e)) (λ e. rw (← e)) (two 17 code (ltb-false code 17 e) (omega arith))
+
+  pub tag-one : code % 2 ≡ 1 → widthOf (form code) ≡ 1
+  tag-one e = omega (arith, tag-width)
+
+  pub tag-two : (code % 2 ≡ 1 → ⊥) → widthOf (form code) ≡ 2
+  tag-two e = omega (arith, tag-width)
+
+  pub tag-some : 0 < widthOf (form code)
+  tag-some = omega (arith, tag-width)
+
+-- up to 18 a tag says which child
+pub picked-tag : (code first count : ℕ) (inp : List ℕ) (i at : ℕ) → code ≤ 18 →
+    picked code first count inp (shapeOf code) i at ≡ byTag code first count (shapeOf code) at (numberAt inp (widthOf (form code)) (14 + widthOf (form code)) at)
+unfolding shapeOf pick picked
+picked-tag code first count inp i at h = rw (lt-ltb code 19 (omega arith)) (either (ltb code 17))
+  where
+    either : (b : Bool) →
+        picked code first count inp (pick b (variant (widthOf (form code))) (repeated (widthOf (form code)))) i at
+        ≡ byTag code first count (pick b (variant (widthOf (form code))) (repeated (widthOf (form code)))) at (numberAt inp (widthOf (form code)) (14 + widthOf (form code)) at)
+    either true = refl
+    either false = refl

@@ -1,0 +1,6 @@
+pub mod Codes
+pub mod Same
+pub mod Steps
+pub mod Turn
+pub mod Onward
+pub mod Nodes

@@ -1,0 +1,136 @@
+-- A node, one level at a time.
+-- Assumes nothing.
+use Prim.Native.Nat.{ℕ, zero, suc, _+_, _-_, _*_, _≤_, _<_}
+use mathlib.Core.Path.{_≡_, refl, sym, _∙_}
+use mathlib.Core.Bool.{Bool, true, false}
+use mathlib.Core.List.{List}
+use native.Mathlib.Omega.{arith}
+use native.Mathlib.Nat.{add-zero}
+use borrow.Author.Tests.{lt-ltb, le-ltb, lt-leb, le-leb, leb-true, ltb-true, ltb-false}
+use lib.Dec.{ltb, leb}
+use lib.ListN.{length, getD}
+use Rattle.rules.specs.Choice.{pick, _and_, all}
+use Rattle.rules.specs.Bytes.{leAt}
+use Rattle.rules.specs.Wire.{Form, empty, truth, fixed, raw, sized, choice, series, fields, unknown, wireTypes, typeIn, typeOf, written, writtenIf, form, widthOf}
+use Rattle.rules.specs.Block.{nodeAt, Closed, Formed, records}
+use Rattle.rules.specs.declared.Refusal.{Refusal}
+use Rattle.rules.specs.declared.Refusal.the-variants.{TooDeep, Truncated}
+use Rattle.rules.proofs.Tests.{all-each}
+use Rattle.blocks.proofs.Form as blocks
+use Rattle.read.specs.Budget.{spent}
+use Rattle.read.specs.Fields.{keptOf}
+use Rattle.read.specs.Children.{shapeOf}
+use Rattle.read.specs.Skim.{standing, _>>=_, passed, stored, having, charged, counted, bytesOf, fixedOf, leafOf, Skimmer, valueOf, nodeOf, skim}
+use Rattle.read.specs.Ready.{Inside, Sound}
+use Rattle.read.specs.declared.budget.RowBudget.{RowBudget}
+use Rattle.read.specs.declared.budget.Charged.{Charged}
+use Rattle.read.specs.declared.budget.Charged.the-variants.{Left}
+use Rattle.read.specs.declared.budget.Charged.the-variants as charged-is
+use Rattle.read.specs.declared.walk.Pos.{Pos}
+use Rattle.read.specs.declared.walk.Skipped.{Skipped}
+use Rattle.read.specs.declared.walk.Skipped.the-variants.{At, Refused}
+use Rattle.read.proofs.Codes.{form-sized}
+use Rattle.read.proofs.Turn.{steps, steps-all}
+
+-- ---- a leaf
+
+-- a form of a fixed width, whose payload is what a record does not hold
+unfoldable plain : Form → Bool
+plain empty = true
+plain truth = true
+plain (fixed w) = leb w 8
+plain (raw w) = ltb 8 w
+plain sized = false
+plain (choice w) = false
+plain (series w) = false
+plain fields = false
+plain unknown = false
+
+-- no payload bytes more are none
+unstored : (inp : List ℕ) (w context : ℕ) (p : Pos) → passed inp w context p ≡ bytesOf inp w context 0 p
+unfolding bytesOf passed stored pick _>>=_
+unstored inp w context p = go (leb w (length inp - p .at))
+  where
+    go : (b : Bool) → pick b (At (standing (p .at + w) (p .budget) (p .records) (p .payload))) (Refused (Truncated context (p .at)))
+        ≡ pick b (At (standing (p .at + w) (p .budget) (p .records) (p .payload))) (Refused (Truncated context (p .at))) >>= (λ q. At (stored 0 q))
+    go true = rw (add-zero (p .payload))
+    go false = refl
+
+-- no bytes more are none
+none-passed : (inp : List ℕ) (context : ℕ) (p : Pos) → At p ≡ passed inp 0 context p
+unfolding passed pick
+none-passed inp context p = rw (le-leb 0 (length inp - p .at) (omega arith), add-zero (p .at))
+
+module _ (inp : List ℕ) (rec : Skimmer) (code first count : ℕ) (p : Pos) where
+  plain-value : (f : Form) → plain f ≡ true → valueOf inp rec code first count f p ≡ bytesOf inp (widthOf f) code (keptOf (widthOf f)) p
+  unfolding plain valueOf widthOf keptOf pick
+  plain-value empty e = none-passed inp code p ∙ unstored inp 0 code p
+  plain-value truth e = unstored inp 1 code p
+  plain-value (fixed w) e = rw e (unstored inp w code p)
+  plain-value (raw w) e = rw (lt-leb w 8 (ltb-true 8 w e))
+  plain-value sized e = cc
+  plain-value (choice w) e = cc
+  plain-value (series w) e = cc
+  plain-value fields e = cc
+  plain-value unknown e = cc
+
+  plain-codes : all (λ k. plain (form k)) 13 ≡ true
+  unfolding all _and_ plain wireTypes typeIn typeOf written writtenIf form
+  plain-codes = refl
+
+  value-leaf : code < 15 → valueOf inp rec code first count (form code) p ≡ leafOf inp code p
+  unfolding leafOf fixedOf pick valueOf
+  value-leaf h = by (ltb code 13) refl
+    where
+      by : (b : Bool) → ltb code 13 ≡ b → valueOf inp rec code first count (form code) p ≡ leafOf inp code p
+      by true e = rw e (plain-value (form code) (all-each (λ k. plain (form k)) 13 code plain-codes (ltb-true code 13 e)))
+      by false e = rw (form-sized code (ltb-false code 13 e) h, e)
+
+-- ---- a node
+
+module _ (sch inp : List ℕ) (charge d i : ℕ) (p : Pos) where
+  pub skim-none : d ≡ 0 → skim sch inp charge d i p ≡ Refused TooDeep
+  unfolding skim
+  skim-none e = rw e
+
+  module _ (h : d ≡ 0 → ⊥) (c : Charged) (is : c ≡ spent (p .budget) charge (p .at)) where
+    step : skim sch inp charge d i p ≡ having p c >>= (λ q. nodeOf sch inp (skim sch inp charge (d - 1)) i (counted q))
+    unfolding skim charged
+    step = rw is (at-suc (d - 1) (omega arith))
+      where
+        at-suc : (e : ℕ) → d ≡ suc e → skim sch inp charge d i p ≡ having p (spent (p .budget) charge (p .at)) >>= (λ q. nodeOf sch inp (skim sch inp charge e) i (counted q))
+        at-suc e q = rw q
+
+    -- one that cannot be paid, and one that can
+    pub skim-dear : (r : Refusal) → c ≡ charged-is.Refused r → skim sch inp charge d i p ≡ Refused r
+    unfolding having _>>=_
+    skim-dear r e = step ∙ rw e
+
+    pub skim-paid : (b : RowBudget) → c ≡ Left b → skim sch inp charge d i p ≡ nodeOf sch inp (skim sch inp charge (d - 1)) i (standing (p .at) b (p .records + 1) (p .payload))
+    unfolding having _>>=_ counted
+    skim-paid b e = step ∙ rw e
+
+pub node-leaf : (sch inp : List ℕ) (rec : Skimmer) (i : ℕ) (p : Pos) → getD sch (i * 16) 0 < 15 → nodeOf sch inp rec i p ≡ leafOf inp (getD sch (i * 16) 0) p
+unfolding nodeOf nodeAt
+node-leaf sch inp rec i p h = value-leaf inp rec (getD sch (i * 16) 0) _ _ p h
+
+-- ---- blocks
+
+-- the form of a block is enough
+pub formed-sound : (s : List ℕ) (store : ℕ) → Formed s store → Sound s
+formed-sound s store f = record { codes = λ i h. f .codes i (omega arith); closed = blocks.closed s (f .order) }
+
+-- a node with children, its record in the code's numbers
+module _ (s : List ℕ) (i code first count : ℕ) (o : Sound s) (h : Inside s i) (is : code ≡ nodeAt s i .code) (a : first ≡ leAt s (i * 16 + 8) 4) (b : count ≡ leAt s (i * 16 + 12) 4) where
+  pub node-code : code ≤ 19
+  node-code = rw is (o .codes i h)
+
+  -- its children lie in the block
+  pub node-children : (first + count) * 16 ≤ length s
+  unfolding nodeAt Closed
+  node-children = omega (arith, a, b, o .closed i h)
+
+  -- the loop starts with the whole
+  pub node-start : (inp : List ℕ) (rec : Skimmer) (p : Pos) → 14 < code → steps inp rec code first count (shapeOf code) 0 (suc (length inp - p .at)) p ≡ nodeOf s inp rec i p
+  unfolding nodeOf nodeAt
+  node-start inp rec p l = rw (← is, ← a, ← b) (steps-all inp rec code first count p l node-code)

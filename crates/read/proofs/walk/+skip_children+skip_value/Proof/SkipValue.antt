@@ -1,0 +1,74 @@
+use Rattle.rules.specs.Block.{nodeAt}
+use Rattle.read.proofs.Steps.{ready-paid}
+use Rattle.read.proofs.Nodes.{skim-none, skim-dear, skim-paid, node-leaf}
+use borrow.Author.Needs.{needs}
+use native.Mathlib.Omega.{arith}
+use Prim.Native.Nat.{ℕ, suc, _+_, _-_, _*_, _≤_, _<_}
+use mathlib.Core.Path.{_≡_, refl, sym, _∙_}
+use Rattle.read.proofs.walk.skip_value.Reads as skip-value
+use Rattle.read.proofs.walk.+skip_children+skip_value.Lts-skip_value as lts
+use Rattle.read.proofs.walk.+skip_children+skip_value.Proof.Setup.{skip-value-at, skip-value-calls}
+
+module _ (t : ℕ) where
+  pub returns : lts.Need-returns (skip-value-calls t) (skip-value-at t) skip-value.Post
+  returns c = rw (skim-none _ _ _ _ _ _ (c .if1 .taken))
+
+  pub charge-requires : lts.Need-charge-requires (skip-value-calls t) (skip-value-at t) skip-value.Post
+  charge-requires c κs = search needs
+
+  pub enum-known-paid : lts.Need-enum-known-paid (skip-value-calls t) (skip-value-at t) skip-value.Post
+  enum-known-paid c = search needs
+
+  pub enum-told : lts.Need-enum-told (skip-value-calls t) (skip-value-at t) skip-value.Post
+  enum-told c = search needs
+
+  pub dear-requires : lts.Need-dear-requires (skip-value-calls t) (skip-value-at t) skip-value.Post
+  dear-requires c κs = search needs
+
+  pub returns-2 : lts.Need-returns-2 (skip-value-calls t) (skip-value-at t) skip-value.Post
+  returns-2 c = rw (c .dear .ensures _ (c .before .enum-told .given .1), skim-dear _ _ _ _ _ (c .before .before .before .before .before .before .before .before .args .p) (c .before .before .before .before .before .if1 .left) _ (c .before .before .before .charge .ensures) _ (c .before .enum-told .given .1))
+
+  pub add-t19 : lts.Need-add-t19 (skip-value-calls t) (skip-value-at t) skip-value.Post
+  add-t19 c = search needs
+
+  pub mul-code : lts.Need-mul-code (skip-value-calls t) (skip-value-at t) skip-value.Post
+  mul-code c = search needs
+
+  pub shared-slice-read-code : lts.Need-shared-slice-read-code (skip-value-calls t) (skip-value-at t) skip-value.Post
+  shared-slice-read-code c = search needs
+
+  pub skip-leaf-requires : lts.Need-skip-leaf-requires (skip-value-calls t) (skip-value-at t) skip-value.Post
+  skip-leaf-requires c κs = search needs
+
+  pub enum-known-s : lts.Need-enum-known-s (skip-value-calls t) (skip-value-at t) skip-value.Post
+  enum-known-s c = search needs
+
+  pub enum-told-2 : lts.Need-enum-told-2 (skip-value-calls t) (skip-value-at t) skip-value.Post
+  enum-told-2 c = search needs
+
+  pub returns-3 : lts.Need-returns-3 (skip-value-calls t) (skip-value-at t) skip-value.Post
+  returns-3 c = rw (skim-paid _ _ _ _ _ (c .before .before .before .before .before .before .before .before .before .before .before .before .before .before .args .p) (c .before .before .before .before .before .before .before .before .before .before .before .if1 .left) _ (c .before .before .before .before .before .before .before .before .before .charge .ensures) _ (c .before .before .before .before .before .before .before .paid .given .1), node-leaf _ _ _ _ _ (c .before .before .before .if2 .taken), ← c .before .before .skip-leaf .ensures, c .enum-told2 .given .1)
+
+  pub returns-4 : lts.Need-returns-4 (skip-value-calls t) (skip-value-at t) skip-value.Post
+  returns-4 c = rw (skim-paid _ _ _ _ _ (c .before .before .before .before .before .before .before .before .before .before .before .before .before .before .before .args .p) (c .before .before .before .before .before .before .before .before .before .before .before .before .if1 .left) _ (c .before .before .before .before .before .before .before .before .before .before .charge .ensures) _ (c .before .before .before .before .before .before .before .before .paid .given .1), node-leaf _ _ _ _ _ (c .before .before .before .before .if2 .taken), ← c .before .before .before .skip-leaf .ensures, c .before .s .given .1)
+
+  pub sub-skip-children : lts.Need-sub-skip-children (skip-value-calls t) (skip-value-at t) skip-value.Post
+  sub-skip-children c = search needs
+
+  pub skip-children-requires : lts.Need-skip-children-requires (skip-value-calls t) (skip-value-at t) skip-value.Post
+  unfolding nodeAt
+  skip-children-requires c κs =
+      let s = c .before .before .before .before .before .before .before .before .before .before .before in
+      (omega (arith, s .pre .0, c .before .before .before .before .before .before .before .before .if1 .left), (s .pre .1 .0, s .pre .1 .1, refl, c .if2 .left, ready-paid _ _ _ _ _ (s .pre .1 .2) (c .before .before .before .before .before .before .charge .ensures) (c .before .before .before .before .paid .given .1)))
+
+  pub enum-known-s-2 : lts.Need-enum-known-s-2 (skip-value-calls t) (skip-value-at t) skip-value.Post
+  enum-known-s-2 c = search needs
+
+  pub enum-told-3 : lts.Need-enum-told-3 (skip-value-calls t) (skip-value-at t) skip-value.Post
+  enum-told-3 c = search needs
+
+  pub returns-5 : lts.Need-returns-5 (skip-value-calls t) (skip-value-at t) skip-value.Post
+  returns-5 c = rw (skim-paid _ _ _ _ _ (c .before .before .before .before .before .before .before .before .before .before .before .before .before .before .args .p) (c .before .before .before .before .before .before .before .before .before .before .before .if1 .left) _ (c .before .before .before .before .before .before .before .before .before .charge .ensures) _ (c .before .before .before .before .before .before .before .paid .given .1), ← c .before .before .skip-children .ensures, c .enum-told3 .given .1)
+
+  pub returns-6 : lts.Need-returns-6 (skip-value-calls t) (skip-value-at t) skip-value.Post
+  returns-6 c = rw (skim-paid _ _ _ _ _ (c .before .before .before .before .before .before .before .before .before .before .before .before .before .before .before .args .p) (c .before .before .before .before .before .before .before .before .before .before .before .before .if1 .left) _ (c .before .before .before .before .before .before .before .before .before .before .charge .ensures) _ (c .before .before .before .before .before .before .before .before .paid .given .1), ← c .before .before .before .skip-children .ensures, c .before .s2 .given .1)

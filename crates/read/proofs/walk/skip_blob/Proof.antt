@@ -1,0 +1,86 @@
+use native.Mathlib.Omega.{arith}
+use borrow.Author.Tests.{le-leb, lt-leb}
+use Rattle.rules.specs.Choice.{pick}
+use Rattle.read.specs.Skim.{_>>=_, reading, charged, having, passed, stored, bytesOf, blobOf}
+use Rattle.read.proofs.Steps.{number-past}
+use borrow.Author.Needs.{needs}
+use Rattle.read.proofs.walk.skip_blob.Statement.{statement}
+use Rattle.read.proofs.walk.skip_blob.Tie as tie
+
+read-length-requires : tie.Need-read-length-requires
+read-length-requires c κs = search needs
+
+enum-known-length : tie.Need-enum-known-length
+enum-known-length c = search needs
+
+enum-told : tie.Need-enum-told
+enum-told c = search needs
+
+cut-requires : tie.Need-cut-requires
+cut-requires c κs = search needs
+
+returns : tie.Need-returns
+unfolding blobOf reading
+returns c = rw (c .cut .ensures _ (c .before .enum-told .given .1), ← c .before .before .before .read-length .ensures, c .before .enum-told .given .1)
+
+blob-limit-requires : tie.Need-blob-limit-requires
+blob-limit-requires c κs = search needs
+
+returns-2 : tie.Need-returns-2
+unfolding blobOf reading pick
+returns-2 c = rw (← c .before .before .before .before .before .read-length .ensures, c .before .before .before .length .given .1, ← c .before .blob-limit .ensures, lt-leb _ _ (c .if1 .taken))
+
+charge-requires : tie.Need-charge-requires
+charge-requires c κs = search needs
+
+enum-known-paid : tie.Need-enum-known-paid
+enum-known-paid c = search needs
+
+enum-told-2 : tie.Need-enum-told-2
+enum-told-2 c = search needs
+
+dear-requires : tie.Need-dear-requires
+dear-requires c κs = search needs
+
+returns-3 : tie.Need-returns-3
+unfolding blobOf reading charged having bytesOf passed stored pick _>>=_
+returns-3 c = rw (c .dear .ensures _ (c .before .enum-told2 .given .1), ← c .before .before .before .before .before .before .before .before .before .read-length .ensures, c .before .before .before .before .before .before .before .length .given .1, ← c .before .before .before .before .before .blob-limit .ensures, le-leb _ _ (c .before .before .before .before .if1 .left), ← c .before .before .before .charge .ensures, c .before .enum-told2 .given .1)
+
+sub-if2 : tie.Need-sub-if2
+sub-if2 c = number-past _ _ _ _ _ _ _ (c .before .before .before .before .before .before .before .before .before .before .before .before .pre .0) (c .before .before .before .before .before .before .before .before .before .read-length .ensures) (c .before .before .before .before .before .before .before .length .given .1) .1
+
+returns-4 : tie.Need-returns-4
+unfolding blobOf reading charged having bytesOf passed stored pick _>>=_
+returns-4 c = rw (← c .before .before .before .before .before .before .before .before .before .before .read-length .ensures, c .before .before .before .before .before .before .before .before .length .given .1, ← c .before .before .before .before .before .before .blob-limit .ensures, le-leb _ _ (c .before .before .before .before .before .if1 .left), ← c .before .before .before .before .charge .ensures, c .before .before .paid .given .1, lt-leb _ _ (c .if2 .taken))
+
+add-t17 : tie.Need-add-t17
+add-t17 c = search needs
+
+add-t15 : tie.Need-add-t15
+add-t15 c = search needs
+
+returns-5 : tie.Need-returns-5
+unfolding blobOf reading charged having bytesOf passed stored pick _>>=_
+returns-5 c = rw (← c .before .before .before .before .before .before .before .before .before .before .before .read-length .ensures, c .before .before .before .before .before .before .before .before .before .length .given .1, ← c .before .before .before .before .before .before .before .blob-limit .ensures, le-leb _ _ (c .before .before .before .before .before .before .if1 .left), ← c .before .before .before .before .before .charge .ensures, c .before .before .before .paid .given .1, le-leb _ _ (c .before .if2 .left))
+
+pub skip-blob-spec : {M : Type 1} → statement M
+skip-blob-spec =
+    tie.close
+    (tie.spec
+    read-length-requires
+    enum-known-length
+    enum-told
+    cut-requires
+    returns
+    blob-limit-requires
+    returns-2
+    charge-requires
+    enum-known-paid
+    enum-told-2
+    dear-requires
+    returns-3
+    sub-if2
+    returns-4
+    add-t17
+    add-t15
+    returns-5)

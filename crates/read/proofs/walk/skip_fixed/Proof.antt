@@ -1,0 +1,34 @@
+use borrow.Author.Tests.{le-leb, lt-leb}
+use Rattle.rules.specs.Choice.{pick}
+use Rattle.read.specs.Skim.{_>>=_, passed, stored, bytesOf, fixedOf}
+use borrow.Author.Needs.{needs}
+use Rattle.read.proofs.walk.skip_fixed.Statement.{statement}
+use Rattle.read.proofs.walk.skip_fixed.Tie as tie
+
+fixed-width-requires : tie.Need-fixed-width-requires
+fixed-width-requires c κs = search needs
+
+sub-if1 : tie.Need-sub-if1
+sub-if1 c = search needs
+
+returns : tie.Need-returns
+unfolding fixedOf bytesOf passed pick _>>=_
+returns c = rw (← c .before .fixed-width .ensures .0, lt-leb _ _ (c .if1 .taken))
+
+add-t7 : tie.Need-add-t7
+add-t7 c = search needs
+
+kept-requires : tie.Need-kept-requires
+kept-requires c κs = search needs
+
+add-t13 : tie.Need-add-t13
+add-t13 c = search needs
+
+returns-2 : tie.Need-returns-2
+unfolding fixedOf bytesOf passed stored pick _>>=_
+returns-2 c = rw (← c .before .before .before .before .fixed-width .ensures .0, ← c .before .kept .ensures .0, le-leb _ _ (c .before .before .before .if1 .left))
+
+pub skip-fixed-spec : {M : Type 1} → statement M
+skip-fixed-spec =
+    tie.close
+    (tie.spec fixed-width-requires sub-if1 returns add-t7 kept-requires add-t13 returns-2)

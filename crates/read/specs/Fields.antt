@@ -1,0 +1,19 @@
+-- What the readers of fields answer.
+-- Assumes nothing: these are definitions.
+use Prim.Native.Nat.{ℕ, _+_, _-_}
+use mathlib.Core.List.{List}
+use lib.ListN.{length}
+use lib.Dec.{leb}
+use Rattle.rules.specs.Choice.{pick}
+use Rattle.rules.specs.Bytes.{leAt}
+use Rattle.rules.specs.declared.Refusal.the-variants.{Truncated}
+use Rattle.read.specs.declared.fields.Number.{Number}
+use Rattle.read.specs.declared.fields.Number.the-variants.{Is, Refused}
+
+-- the number in w bytes and the place after it, or 12 at the cut field
+unfoldable pub numberAt : List ℕ → ℕ → ℕ → ℕ → Number
+numberAt inp w context at = pick (leb w (length inp - at)) (Is (leAt inp at w) (at + w)) (Refused (Truncated context at))
+
+-- of a value's bytes, how many are payload: all, where they are more than the eight of a record
+unfoldable pub keptOf : ℕ → ℕ
+keptOf w = pick (leb w 8) 0 w

@@ -1,0 +1,5 @@
+pub mod Budget
+pub mod Fields
+pub mod Children
+pub mod Skim
+pub mod Ready

@@ -1,0 +1,295 @@
+// The walk over a table's block and the input: what skip answers. A node step and a children step call each other, and
+// depth falls.
+ghost use mathlib.Core.Path.{_≡_};
+ghost use mathlib.Core.Bool.{true};
+ghost use Prim.Native.Nat.{ℕ, _+_, _*_, _^_, _≤_, _<_};
+ghost use lib.ListN.{length};
+ghost use Rattle.rules.specs.Block.{nodeAt};
+ghost use Rattle.rules.specs.Walk.{walk};
+ghost use Rattle.rules.specs.Reading.{settingsOk, limits, start};
+ghost use Rattle.read.specs.Children.{shapeOf, picked};
+ghost use Rattle.read.specs.Skim.{skimmed, fixedOf, blobOf, leafOf, nodeOf, skim};
+ghost use Rattle.read.specs.Ready.{Inside, Sound, Ready};
+use super::budget::Charged;
+use super::budget::RowBudget;
+use super::budget::blob_limit;
+use super::fields::Number;
+use super::fields::ends;
+use super::fields::fixed_width;
+use super::fields::kept;
+use super::fields::read_length;
+use super::fields::read_tag;
+use rules::Refusal;
+use rules::Settings;
+use wire::u32_at;
+
+// Where the walk stands, what is left of the row's allowance, and the records and payload bytes that it has passed.
+pub struct Pos {
+    pub at: usize,
+    pub budget: RowBudget,
+    pub records: u64,
+    pub payload: u64,
+}
+
+// What skipping a value answers: where it ends, or why there is none.
+pub enum Skipped {
+    At(Pos),
+    Refused(Refusal),
+}
+
+// A node's next child and where it starts, or where the children end.
+pub enum Pick {
+    Child(usize, usize),
+    End(usize),
+    Refused(Refusal),
+}
+
+// ---- a refusal, taken out of one answer and handed up in another
+
+fn dear(charged: Charged) -> Skipped
+    ensures { λ r. ⌜ ((why : Refusal) → charged ≡ Charged.Refused why → r ≡ Skipped.Refused why) ⌝ }
+{
+    match charged {
+        Charged::Refused(why) => Skipped::Refused(why),
+        Charged::Left(_) => Skipped::Refused(Refusal::Setting),
+    }
+}
+
+fn cut(length: Number) -> Skipped
+    ensures { λ r. ⌜ ((why : Refusal) → length ≡ Number.Refused why → r ≡ Skipped.Refused why) ⌝ }
+{
+    match length {
+        Number::Refused(why) => Skipped::Refused(why),
+        Number::Is(_, _) => Skipped::Refused(Refusal::Setting),
+    }
+}
+
+fn no_child(tag: Number) -> Pick
+    ensures { λ r. ⌜ ((why : Refusal) → tag ≡ Number.Refused why → r ≡ Pick.Refused why) ⌝ }
+{
+    match tag {
+        Number::Refused(why) => Pick::Refused(why),
+        Number::Is(_, _) => Pick::Refused(Refusal::Setting),
+    }
+}
+
+// ---- nodes without children
+
+fn skip_fixed(code: u8, input: &[u8], p: Pos) -> Skipped
+    requires { ⌜ (code < 13) × (p .at ≤ length (now input)) × (length (now input) < 2 ^ 32) × (p .payload ≤ p .at) ⌝ }
+    ensures { λ r. ⌜ r ≡ fixedOf (now (input .entry)) code p ⌝ }
+{
+    let at = p.at;
+    let width = fixed_width(code);
+    if input.len() - at < width {
+        return Skipped::Refused(Refusal::Truncated {
+            context: code,
+            place: at as u64,
+        });
+    }
+    let budget = p.budget;
+    Skipped::At(Pos {
+        at: at + width,
+        budget,
+        records: p.records,
+        payload: p.payload + kept(width),
+    })
+}
+
+// The blob limit first, then the charge, and only then whether the bytes are there: a length that the stream does not keep
+// is refused for what it asks.
+fn skip_blob(code: u8, input: &[u8], p: Pos) -> Skipped
+    requires { ⌜ (p .at ≤ length (now input)) × (length (now input) < 2 ^ 32) × (p .payload ≤ p .at) ⌝ }
+    ensures { λ r. ⌜ r ≡ blobOf (now (input .entry)) code p ⌝ }
+{
+    let at = p.at;
+    let budget = p.budget;
+    let length = read_length(input, at);
+    let Number::Is(n, next) = length else {
+        return cut(length);
+    };
+    let limit = blob_limit(budget, code);
+    if limit < n {
+        return Skipped::Refused(Refusal::BlobTooLarge {
+            wire_type: code,
+            length: n,
+            limit,
+            place: at as u64,
+        });
+    }
+    let paid = budget.charge(n, at as u64);
+    let Charged::Left(rest) = paid else {
+        return dear(paid);
+    };
+    if ((input.len() - next) as u64) < n {
+        return Skipped::Refused(Refusal::Truncated {
+            context: 14,
+            place: next as u64,
+        });
+    }
+    Skipped::At(Pos {
+        at: next + n as usize,
+        budget: rest,
+        records: p.records,
+        payload: p.payload + n,
+    })
+}
+
+fn skip_leaf(code: u8, input: &[u8], p: Pos) -> Skipped
+    requires { ⌜ (p .at ≤ length (now input)) × (length (now input) < 2 ^ 32) × (p .payload ≤ p .at) ⌝ }
+    ensures { λ r. ⌜ r ≡ leafOf (now (input .entry)) code p ⌝ }
+{
+    if code < 13 {
+        let s = skip_fixed(code, input, p);
+        let Skipped::At(q) = s else {
+            return s;
+        };
+        return Skipped::At(q);
+    }
+    let s = skip_blob(code, input, p);
+    let Skipped::At(q) = s else {
+        return s;
+    };
+    Skipped::At(q)
+}
+
+// ---- nodes with children
+
+// The child after i others. A tuple's children come in order; else a tag names the child, or ends the children.
+fn next_child(code: u8, first: u64, count: u64, i: u64, input: &[u8], at: usize) -> Pick
+    requires { ⌜ (14 < code) × (code ≤ 19) × (first + count < 2 ^ 64) × (at ≤ length (now input)) ⌝ }
+    ensures { λ r. ⌜ r ≡ picked code first count (now (input .entry)) (shapeOf code) i at ⌝ }
+{
+    if 18 < code {
+        if count <= i {
+            return Pick::End(at);
+        }
+        return Pick::Child((first + i) as usize, at);
+    }
+    let t = read_tag(code, input, at);
+    let Number::Is(tag, next) = t else {
+        return no_child(t);
+    };
+    if ends(code, tag) {
+        return Pick::End(next);
+    }
+    if count <= tag {
+        return Pick::Refused(Refusal::InvalidVariantTag {
+            wire_type: code,
+            tag,
+            children: count,
+            place: at as u64,
+        });
+    }
+    Pick::Child((first + tag) as usize, next)
+}
+
+// The node step.
+fn skip_value(block: &[u8], node: usize, depth: usize, input: &[u8], p: Pos, charge: u64) -> Skipped
+    requires { ⌜ Sound (now block) × Inside (now block) node × Ready (now input) charge p ⌝ }
+    ensures { λ r. ⌜ r ≡ skim (now (block .entry)) (now (input .entry)) charge depth node p ⌝ }
+{
+    if depth == 0 {
+        return Skipped::Refused(Refusal::TooDeep);
+    }
+    let at = p.at;
+    let budget = p.budget;
+    let paid = budget.charge(charge, at as u64);
+    let Charged::Left(rest) = paid else {
+        return dear(paid);
+    };
+    let q = Pos {
+        at,
+        budget: rest,
+        records: p.records + 1,
+        payload: p.payload,
+    };
+    let code = block[node * 16];
+    if code < 15 {
+        let s = skip_leaf(code, input, q);
+        let Skipped::At(r) = s else {
+            return s;
+        };
+        return Skipped::At(r);
+    }
+    let s = skip_children(block, code, node, depth - 1, input, q, charge);
+    let Skipped::At(r) = s else {
+        return s;
+    };
+    Skipped::At(r)
+}
+
+// The children step: one loop for tuples, variants and repeated variants, so that each step calls the other from one
+// place only.
+fn skip_children(
+    block: &[u8],
+    code: u8,
+    node: usize,
+    depth: usize,
+    input: &[u8],
+    p: Pos,
+    charge: u64,
+) -> Skipped
+    requires { ⌜ Sound (now block) × Inside (now block) node × (code ≡ nodeAt (now block) node .code) × (14 < code) × Ready (now input) charge p ⌝ }
+    ensures { λ r. ⌜ r ≡ nodeOf (now (block .entry)) (now (input .entry)) (skim (now (block .entry)) (now (input .entry)) charge depth) node p ⌝ }
+{
+    let k = node * 16;
+    let first = u32_at(block, k + 8);
+    let count = u32_at(block, k + 12);
+    let mut q = p;
+    let mut i: u64 = 0;
+    loop {
+        let at = q.at;
+        let budget = q.budget;
+        let pick = next_child(code, first, count, i, input, at);
+        match pick {
+            Pick::Child(child, start) => {
+                let from = Pos {
+                    at: start,
+                    budget,
+                    records: q.records,
+                    payload: q.payload,
+                };
+                let s = skip_value(block, child, depth, input, from, charge);
+                let Skipped::At(r) = s else {
+                    return s;
+                };
+                if code < 17 {
+                    return Skipped::At(r);
+                }
+                q = r;
+                i += 1;
+            }
+            Pick::End(end) => {
+                return Skipped::At(Pos {
+                    at: end,
+                    budget,
+                    records: q.records,
+                    payload: q.payload,
+                });
+            }
+            Pick::Refused(why) => {
+                return Skipped::Refused(why);
+            }
+        }
+    }
+}
+
+// A row's value: the root of its table's block, from a place, with the whole allowance.
+pub fn skip_root(block: &[u8], input: &[u8], at: usize, settings: Settings) -> Skipped
+    requires { ⌜ Sound (now block) × Inside (now block) 0 × (settingsOk settings ≡ true) × (length (now input) < 2 ^ 32) × (at ≤ length (now input)) ⌝ }
+    ensures { λ r. ⌜ r ≡ skimmed (limits settings) (walk (now (block .entry)) (now (input .entry)) (limits settings) 64 0 (start (limits settings) at)) ⌝ }
+{
+    let budget = RowBudget::new(settings.max_blob_bytes, settings.max_row_bytes);
+    let p = Pos {
+        at,
+        budget,
+        records: 0,
+        payload: 0,
+    };
+    let s = skip_value(block, 0, 64, input, p, settings.node_charge);
+    let Skipped::At(q) = s else {
+        return s;
+    };
+    Skipped::At(q)
+}
