@@ -1,12 +1,12 @@
 -- A node, one level at a time.
 -- Assumes nothing.
-use Prim.Native.Nat.{ℕ, zero, suc, _+_, _-_, _*_, _≤_, _<_}
-use mathlib.Core.Path.{_≡_, refl, sym, _∙_}
+use Prim.Native.Nat.{ℕ, suc, _+_, _-_, _*_, _≤_, _<_}
+use mathlib.Core.Path.{_≡_, refl, _∙_}
 use mathlib.Core.Bool.{Bool, true, false}
 use mathlib.Core.List.{List}
 use native.Mathlib.Omega.{arith}
 use native.Mathlib.Nat.{add-zero}
-use borrow.Author.Tests.{lt-ltb, le-ltb, lt-leb, le-leb, leb-true, ltb-true, ltb-false}
+use borrow.Author.Tests.{lt-leb, le-leb, ltb-true, ltb-false}
 use lib.Dec.{ltb, leb}
 use lib.ListN.{length, getD}
 use Rattle.rules.specs.Choice.{pick, _and_, all}
@@ -21,13 +21,12 @@ use Rattle.read.specs.Budget.{spent}
 use Rattle.read.specs.Fields.{keptOf}
 use Rattle.read.specs.Children.{shapeOf}
 use Rattle.read.specs.Skim.{standing, _>>=_, passed, stored, having, charged, counted, bytesOf, fixedOf, leafOf, Skimmer, valueOf, nodeOf, skim}
-use Rattle.read.specs.Ready.{Inside, Sound}
+use Rattle.read.specs.Ready.{Inside, Sound, Coded}
 use Rattle.read.specs.declared.budget.RowBudget.{RowBudget}
 use Rattle.read.specs.declared.budget.Charged.{Charged}
 use Rattle.read.specs.declared.budget.Charged.the-variants.{Left}
 use Rattle.read.specs.declared.budget.Charged.the-variants as charged-is
 use Rattle.read.specs.declared.walk.Pos.{Pos}
-use Rattle.read.specs.declared.walk.Skipped.{Skipped}
 use Rattle.read.specs.declared.walk.Skipped.the-variants.{At, Refused}
 use Rattle.read.proofs.Codes.{form-sized}
 use Rattle.read.proofs.Turn.{steps, steps-all}
@@ -120,17 +119,20 @@ node-leaf sch inp rec i p h = value-leaf inp rec (getD sch (i * 16) 0) _ _ p h
 pub formed-sound : (s : List ℕ) (store : ℕ) → Formed s store → Sound s
 formed-sound s store f = record { codes = λ i h. f .codes i (omega arith); closed = blocks.closed s (f .order) }
 
+pub formed-root : (s : List ℕ) (store : ℕ) → Formed s store → Inside s 0
+formed-root s store f = omega (arith, f .order .size)
+
 -- a node with children, its record in the code's numbers
-module _ (s : List ℕ) (i code first count : ℕ) (o : Sound s) (h : Inside s i) (is : code ≡ nodeAt s i .code) (a : first ≡ leAt s (i * 16 + 8) 4) (b : count ≡ leAt s (i * 16 + 12) 4) where
+module _ (s : List ℕ) (i code first count : ℕ) (k : Coded s i code) (a : first ≡ leAt s (i * 16 + 8) 4) (b : count ≡ leAt s (i * 16 + 12) 4) where
   pub node-code : code ≤ 19
-  node-code = rw is (o .codes i h)
+  node-code = rw (k .is) (k .sound .codes i (k .inside))
 
   -- its children lie in the block
   pub node-children : (first + count) * 16 ≤ length s
   unfolding nodeAt Closed
-  node-children = omega (arith, a, b, o .closed i h)
+  node-children = omega (arith, a, b, k .sound .closed i (k .inside))
 
   -- the loop starts with the whole
   pub node-start : (inp : List ℕ) (rec : Skimmer) (p : Pos) → 14 < code → steps inp rec code first count (shapeOf code) 0 (suc (length inp - p .at)) p ≡ nodeOf s inp rec i p
   unfolding nodeOf nodeAt
-  node-start inp rec p l = rw (← is, ← a, ← b) (steps-all inp rec code first count p l node-code)
+  node-start inp rec p l = rw (← k .is, ← a, ← b) (steps-all inp rec code first count p l node-code)

@@ -6,7 +6,7 @@ use mathlib.Core.Bool.{Bool, true, false}
 use mathlib.Core.List.{List}
 use native.Mathlib.Omega.{arith}
 use borrow.Author.Tests.{leb-true}
-use lib.Dec.{leb, eqb}
+use lib.Dec.{leb}
 use lib.ListN.{length}
 use Rattle.rules.specs.Choice.{pick}
 use Rattle.rules.specs.Bytes.{leAt}
@@ -147,8 +147,8 @@ module _ (inp : List ℕ) where
   skim-goes sch charge c (suc depth) i p h = counted-goes charge (p .at) c _ (value-goes (skim sch inp charge depth) (skim-goes sch charge c depth) _ _ _ _) p h
 
 at-ready : {inp : List ℕ} {p q : Pos} (charge : ℕ) → Ready inp charge p → Onward inp p (At q) → (p .at ≤ q .at) × Ready inp charge q
-at-ready charge r (at f h) = (f .on, record { within = h; short = r .short; costs = r .costs; total = omega arith; passed = omega arith })
+at-ready charge r (at f h) = (f .on, record { stands = record { within = h; short = r .stands .short; passed = omega arith }; costs = r .costs; total = omega arith })
 
 -- where an accepted child leaves off, the walk may stand
 pub skim-at : (sch inp : List ℕ) (charge depth i : ℕ) (p q : Pos) (s : Skipped) → s ≡ skim sch inp charge depth i p → s ≡ At q → Ready inp charge p → (p .at ≤ q .at) × Ready inp charge q
-skim-at sch inp charge depth i p q s is e r = at-ready charge r (subst (λ (x : Skipped). Onward inp p x) (sym is ∙ e) (skim-goes inp sch charge (r .costs) depth i p (r .within)))
+skim-at sch inp charge depth i p q s is e r = at-ready charge r (subst (λ (x : Skipped). Onward inp p x) (sym is ∙ e) (skim-goes inp sch charge (r .costs) depth i p (r .stands .within)))

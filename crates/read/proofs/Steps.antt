@@ -1,6 +1,6 @@
 -- What an accepted step tells.
 -- Assumes nothing.
-use Prim.Native.Nat.{ℕ, _+_, _-_, _^_, _≤_, _<_}
+use Prim.Native.Nat.{ℕ, _+_, _-_, _≤_}
 use mathlib.Core.Path.{_≡_, refl, sym, subst, _∙_}
 use mathlib.Core.Bool.{Bool, true, false}
 use mathlib.Core.List.{List}
@@ -18,7 +18,7 @@ use Rattle.rules.proofs.Tests.{and-both}
 use Rattle.read.specs.Budget.{fresh, leaving, spent}
 use Rattle.read.specs.Fields.{numberAt}
 use Rattle.read.specs.Skim.{standing}
-use Rattle.read.specs.Ready.{Ready}
+use Rattle.read.specs.Ready.{Ready, Rooted}
 use Rattle.read.specs.declared.budget.RowBudget.{RowBudget}
 use Rattle.read.specs.declared.budget.Charged.{Charged}
 use Rattle.read.specs.declared.budget.Charged.the-variants.{Left}
@@ -28,36 +28,34 @@ use Rattle.read.specs.declared.fields.Number.{Number}
 use Rattle.read.specs.declared.fields.Number.the-variants.{Is, Refused}
 
 -- a number that was read lies in the input
-data Read (inp : List ℕ) (w at : ℕ) : Number → Type 0 where
-  is : {n next : ℕ} → next ≡ at + w → next ≤ length inp → Read inp w at (Is n next)
-  cut : {r : Refusal} → Read inp w at (Refused r)
+data Read (inp : List ℕ) : Number → Type 0 where
+  is : {n next : ℕ} → next ≤ length inp → Read inp (Is n next)
+  cut : {r : Refusal} → Read inp (Refused r)
 
-pub number-past : (inp : List ℕ) (w context at n next : ℕ) (t : Number) → at ≤ length inp → t ≡ numberAt inp w context at → t ≡ Is n next → (next ≡ at + w) × (next ≤ length inp)
+pub number-past : (inp : List ℕ) (w context at n next : ℕ) (t : Number) → at ≤ length inp → t ≡ numberAt inp w context at → t ≡ Is n next → next ≤ length inp
 unfolding numberAt pick
-number-past inp w context at n next t h a b = ends (subst (λ (x : Number). Read inp w at x) (sym a ∙ b) (fits (leb w (length inp - at)) refl))
+number-past inp w context at n next t h a b = ends (subst (λ (x : Number). Read inp x) (sym a ∙ b) (fits (leb w (length inp - at)) refl))
   where
-    ends : Read inp w at (Is n next) → (next ≡ at + w) × (next ≤ length inp)
-    ends (is x y) = (x, y)
+    ends : Read inp (Is n next) → next ≤ length inp
+    ends (is h) = h
 
-    fits : (b : Bool) → leb w (length inp - at) ≡ b → Read inp w at (pick b (Is (leAt inp at w) (at + w)) (Refused (Truncated context at)))
-    fits true e = is {n = leAt inp at w} {next = at + w} refl (omega (arith, leb-true w (length inp - at) e))
+    fits : (b : Bool) → leb w (length inp - at) ≡ b → Read inp (pick b (Is (leAt inp at w) (at + w)) (Refused (Truncated context at)))
+    fits true e = is {n = leAt inp at w} {next = at + w} (omega (arith, leb-true w (length inp - at) e))
     fits false e = cut
 
 -- ---- where a walk may stand
 
 -- at the start of a row's value, under settings that are accepted
-pub ready-root : (s : Settings) (inp : List ℕ) (at blob : ℕ) (b : RowBudget) → settingsOk s ≡ true → length inp < 2 ^ 32 → at ≤ length inp → b ≡ fresh blob (s .«max_row_bytes») → Ready inp (s .«node_charge») (standing at b 0 0)
+pub ready-root : (sch inp : List ℕ) (s : Settings) (at blob : ℕ) (b : RowBudget) → Rooted sch inp s at → b ≡ fresh blob (s .«max_row_bytes») → Ready inp (s .«node_charge») (standing at b 0 0)
 unfolding settingsOk fresh
-ready-root s inp at blob b ok short h e =
-    let x = and-both _ _ ok in
+ready-root sch inp s at blob b k e =
+    let x = and-both _ _ (k .accepted) in
     let y = and-both _ _ (x .0) in
     let z = and-both _ _ (y .0) in
     record {
-      within = h;
-      short = short;
+      stands = record { within = k .within; short = k .short; passed = omega arith };
       costs = leb-true 1 (s .«node_charge») (z .0);
       total = rw e (omega (arith, leb-true (s .«max_row_bytes») 4294967295 (x .1)));
-      passed = omega arith;
     }
 
 data Paid (b : RowBudget) (cost : ℕ) : Charged → Type 0 where
@@ -70,7 +68,7 @@ unfolding spent pick
 ready-paid inp charge p c a r m e = so (subst (λ (x : Charged). Paid (p .budget) charge x) (sym m ∙ e) (pays (leb charge (p .budget .remaining)) refl))
   where
     so : Paid (p .budget) charge (Left a) → Ready inp charge (standing (p .at) a (p .records + 1) (p .payload))
-    so (left h) = record { within = r .within; short = r .short; costs = r .costs; total = omega (arith, r .total, r .costs); passed = r .passed }
+    so (left h) = record { stands = record { within = r .stands .within; short = r .stands .short; passed = r .stands .passed }; costs = r .costs; total = omega (arith, r .total, r .costs) }
 
     pays : (b : Bool) → leb charge (p .budget .remaining) ≡ b → Paid (p .budget) charge (pick b (Left (leaving (p .budget) (p .budget .remaining - charge))) (charged-is.Refused (RowTooLarge (p .budget .limit) (p .at))))
     pays true e = left {a = leaving (p .budget) (p .budget .remaining - charge)} (omega (arith, leb-true charge (p .budget .remaining) e))

@@ -1,12 +1,18 @@
--- What the walk asks of a block, and where it may stand.
+-- What the walk asks of a block, of the settings, and of where it stands.
 -- Assumes nothing: these are definitions.
 use Prim.Native.Nat.{ℕ, _+_, _*_, _^_, _≤_, _<_}
+use mathlib.Core.Path.{_≡_}
+use mathlib.Core.Bool.{true}
 use mathlib.Core.List.{List}
 use lib.ListN.{length}
 use Rattle.rules.specs.Block.{nodeAt, Closed}
+use Rattle.rules.specs.Reading.{settingsOk}
+use Rattle.rules.specs.declared.Settings.{Settings}
 use Rattle.read.specs.declared.walk.Pos.{Pos}
 
--- a record of the block
+-- ---- blocks
+
+-- the block has a record i
 abbrev pub Inside : List ℕ → ℕ → Type 0
 Inside s i = i * 16 + 16 ≤ length s
 
@@ -15,10 +21,31 @@ pub record Sound (s : List ℕ) : Type 0 where
   pub codes : (i : ℕ) → Inside s i → nodeAt s i .code ≤ 19
   pub closed : Closed s
 
--- in the input; each record so far was paid for, and each payload byte was passed, so that no count wraps
-pub record Ready (inp : List ℕ) (charge : ℕ) (p : Pos) : Type 0 where
+-- record i of a sound block, and its wire code
+pub record Coded (s : List ℕ) (i code : ℕ) : Type 0 where
+  pub sound : Sound s
+  pub inside : Inside s i
+  pub is : code ≡ nodeAt s i .code
+
+-- ---- positions
+
+-- in an input of less than 2 ^ 32 bytes; payload bytes were passed, so that their count does not wrap
+pub record Readable (inp : List ℕ) (p : Pos) : Type 0 where
   pub within : p .at ≤ length inp
   pub short : length inp < 2 ^ 32
+  pub passed : p .payload ≤ p .at
+
+-- and records were paid for, so that theirs does not
+pub record Ready (inp : List ℕ) (charge : ℕ) (p : Pos) : Type 0 where
+  pub stands : Readable inp p
   pub costs : 0 < charge
   pub total : p .records + p .budget .remaining < 2 ^ 32
-  pub passed : p .payload ≤ p .at
+
+-- ---- a row's value, at a place of the input
+
+pub record Rooted (s inp : List ℕ) (settings : Settings) (at : ℕ) : Type 0 where
+  pub sound : Sound s
+  pub root : Inside s 0
+  pub accepted : settingsOk settings ≡ true
+  pub short : length inp < 2 ^ 32
+  pub within : at ≤ length inp

@@ -1,13 +1,11 @@
 -- The walk as skip makes it: the rules' walk without the value, over the code's own position and allowance. That it is the
 -- same walk is `skim-same`, in proofs/.
 -- Assumes nothing: these are definitions.
-use Prim.Native.Nat.{ℕ, zero, suc, _+_, _-_, _*_}
-use mathlib.Core.Bool.{Bool, true, false}
+use Prim.Native.Nat.{ℕ, zero, suc, _+_, _-_}
 use mathlib.Core.List.{List}
 use lib.ListN.{length}
 use lib.Dec.{ltb, leb, eqb}
 use Rattle.rules.specs.Choice.{pick}
-use Rattle.rules.specs.Bytes.{leAt}
 use Rattle.rules.specs.Wire.{Form, empty, truth, fixed, raw, sized, choice, series, fields, unknown, form, widthOf, endTag}
 use Rattle.rules.specs.Block.{nodeAt}
 use Rattle.rules.specs.Walk as rule

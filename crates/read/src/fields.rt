@@ -1,6 +1,6 @@
 // The fields of a row: tags, lengths, and what the wire types of a fixed width take.
 ghost use mathlib.Core.Path.{_≡_};
-ghost use Prim.Native.Nat.{ℕ, _+_, _≤_, _<_};
+ghost use Prim.Native.Nat.{_+_, _≤_, _<_};
 ghost use lib.ListN.{length};
 ghost use Rattle.rules.specs.Wire.{form, widthOf};
 ghost use Rattle.read.specs.Fields.{numberAt, keptOf};
@@ -40,6 +40,17 @@ pub fn read_tag(code: u8, input: &[u8], at: usize) -> Number
     }
     if left < 2 {
         return truncated(16, at);
+    }
+    Number::Is(u16_at(input, at), at + 2)
+}
+
+// The number of a row's table.
+pub fn read_table(input: &[u8], at: usize) -> Number
+    requires { ⌜ at ≤ length (now input) ⌝ }
+    ensures { λ r. ⌜ r ≡ numberAt (now (input .entry)) 2 17 at ⌝ }
+{
+    if input.len() - at < 2 {
+        return truncated(17, at);
     }
     Number::Is(u16_at(input, at), at + 2)
 }
@@ -86,7 +97,8 @@ pub fn kept(width: usize) -> u64
     if width <= 8 { 0 } else { width as u64 }
 }
 
-// Whether a tag ends the children: the largest one of its width does, in the repeated types.
+// Whether a tag ends the children: the largest one of its width does, in the repeated types. The width is asked as
+// `read_tag` asks it, so that the compiler asks once.
 pub fn ends(code: u8, tag: u64) -> bool
     requires { ⌜ code < 19 ⌝ }
     ensures { λ r. ⌜ r ≡ endsAt (shapeOf code) tag ⌝ }
@@ -94,7 +106,7 @@ pub fn ends(code: u8, tag: u64) -> bool
     if code < 17 {
         return false;
     }
-    if code == 17 {
+    if code % 2 == 1 {
         return tag == 255;
     }
     tag == 65535

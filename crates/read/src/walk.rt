@@ -1,15 +1,13 @@
 // The walk over a table's block and the input: what skip answers. A node step and a children step call each other, and
 // depth falls.
 ghost use mathlib.Core.Path.{_≡_};
-ghost use mathlib.Core.Bool.{true};
-ghost use Prim.Native.Nat.{ℕ, _+_, _*_, _^_, _≤_, _<_};
+ghost use Prim.Native.Nat.{_+_, _^_, _≤_, _<_};
 ghost use lib.ListN.{length};
-ghost use Rattle.rules.specs.Block.{nodeAt};
 ghost use Rattle.rules.specs.Walk.{walk};
-ghost use Rattle.rules.specs.Reading.{settingsOk, limits, start};
+ghost use Rattle.rules.specs.Reading.{limits, start};
 ghost use Rattle.read.specs.Children.{shapeOf, picked};
 ghost use Rattle.read.specs.Skim.{skimmed, fixedOf, blobOf, leafOf, nodeOf, skim};
-ghost use Rattle.read.specs.Ready.{Inside, Sound, Ready};
+ghost use Rattle.read.specs.Ready.{Inside, Sound, Coded, Readable, Ready, Rooted};
 use super::budget::Charged;
 use super::budget::RowBudget;
 use super::budget::blob_limit;
@@ -44,7 +42,8 @@ pub enum Pick {
     Refused(Refusal),
 }
 
-// ---- a refusal, taken out of one answer and handed up in another
+// ---- a refusal, taken out of one answer and handed up in another. Each is called where the answer is known to be one, so
+// that its other arm is never met.
 
 fn dear(charged: Charged) -> Skipped
     ensures { λ r. ⌜ ((why : Refusal) → charged ≡ Charged.Refused why → r ≡ Skipped.Refused why) ⌝ }
@@ -76,7 +75,7 @@ fn no_child(tag: Number) -> Pick
 // ---- nodes without children
 
 fn skip_fixed(code: u8, input: &[u8], p: Pos) -> Skipped
-    requires { ⌜ (code < 13) × (p .at ≤ length (now input)) × (length (now input) < 2 ^ 32) × (p .payload ≤ p .at) ⌝ }
+    requires { ⌜ (code < 13) × Readable (now input) p ⌝ }
     ensures { λ r. ⌜ r ≡ fixedOf (now (input .entry)) code p ⌝ }
 {
     let at = p.at;
@@ -99,7 +98,7 @@ fn skip_fixed(code: u8, input: &[u8], p: Pos) -> Skipped
 // The blob limit first, then the charge, and only then whether the bytes are there: a length that the stream does not keep
 // is refused for what it asks.
 fn skip_blob(code: u8, input: &[u8], p: Pos) -> Skipped
-    requires { ⌜ (p .at ≤ length (now input)) × (length (now input) < 2 ^ 32) × (p .payload ≤ p .at) ⌝ }
+    requires { ⌜ Readable (now input) p ⌝ }
     ensures { λ r. ⌜ r ≡ blobOf (now (input .entry)) code p ⌝ }
 {
     let at = p.at;
@@ -108,6 +107,7 @@ fn skip_blob(code: u8, input: &[u8], p: Pos) -> Skipped
     let Number::Is(n, next) = length else {
         return cut(length);
     };
+    let left = (input.len() - next) as u64;
     let limit = blob_limit(budget, code);
     if limit < n {
         return Skipped::Refused(Refusal::BlobTooLarge {
@@ -121,7 +121,7 @@ fn skip_blob(code: u8, input: &[u8], p: Pos) -> Skipped
     let Charged::Left(rest) = paid else {
         return dear(paid);
     };
-    if ((input.len() - next) as u64) < n {
+    if left < n {
         return Skipped::Refused(Refusal::Truncated {
             context: 14,
             place: next as u64,
@@ -136,7 +136,7 @@ fn skip_blob(code: u8, input: &[u8], p: Pos) -> Skipped
 }
 
 fn skip_leaf(code: u8, input: &[u8], p: Pos) -> Skipped
-    requires { ⌜ (p .at ≤ length (now input)) × (length (now input) < 2 ^ 32) × (p .payload ≤ p .at) ⌝ }
+    requires { ⌜ Readable (now input) p ⌝ }
     ensures { λ r. ⌜ r ≡ leafOf (now (input .entry)) code p ⌝ }
 {
     if code < 13 {
@@ -184,7 +184,7 @@ fn next_child(code: u8, first: u64, count: u64, i: u64, input: &[u8], at: usize)
     Pick::Child((first + tag) as usize, next)
 }
 
-// The node step.
+// The node step. Leaf or not, a node is charged before any byte of it is looked at.
 fn skip_value(block: &[u8], node: usize, depth: usize, input: &[u8], p: Pos, charge: u64) -> Skipped
     requires { ⌜ Sound (now block) × Inside (now block) node × Ready (now input) charge p ⌝ }
     ensures { λ r. ⌜ r ≡ skim (now (block .entry)) (now (input .entry)) charge depth node p ⌝ }
@@ -230,7 +230,7 @@ fn skip_children(
     p: Pos,
     charge: u64,
 ) -> Skipped
-    requires { ⌜ Sound (now block) × Inside (now block) node × (code ≡ nodeAt (now block) node .code) × (14 < code) × Ready (now input) charge p ⌝ }
+    requires { ⌜ Coded (now block) node code × (14 < code) × Ready (now input) charge p ⌝ }
     ensures { λ r. ⌜ r ≡ nodeOf (now (block .entry)) (now (input .entry)) (skim (now (block .entry)) (now (input .entry)) charge depth) node p ⌝ }
 {
     let k = node * 16;
@@ -277,7 +277,7 @@ fn skip_children(
 
 // A row's value: the root of its table's block, from a place, with the whole allowance.
 pub fn skip_root(block: &[u8], input: &[u8], at: usize, settings: Settings) -> Skipped
-    requires { ⌜ Sound (now block) × Inside (now block) 0 × (settingsOk settings ≡ true) × (length (now input) < 2 ^ 32) × (at ≤ length (now input)) ⌝ }
+    requires { ⌜ Rooted (now block) (now input) settings at ⌝ }
     ensures { λ r. ⌜ r ≡ skimmed (limits settings) (walk (now (block .entry)) (now (input .entry)) (limits settings) 64 0 (start (limits settings) at)) ⌝ }
 {
     let budget = RowBudget::new(settings.max_blob_bytes, settings.max_row_bytes);

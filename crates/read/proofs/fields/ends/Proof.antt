@@ -12,7 +12,9 @@ returns c = rw (shape-variant _ (c .if1 .taken))
 
 returns-2 : tie.Need-returns-2
 unfolding endsAt endTag wireTypes typeIn typeOf written writtenIf form widthOf
-returns-2 c = rw (shape-repeated _ (c .before .if1 .left) (c .before .before .pre), c .if2 .taken)
+returns-2 c =
+    let e : c .before .before .args .code ≡ 17 = omega arith in
+    rw (shape-repeated _ (c .before .if1 .left) (c .before .before .pre), e)
 
 returns-3 : tie.Need-returns-3
 unfolding endsAt endTag wireTypes typeIn typeOf written writtenIf form widthOf

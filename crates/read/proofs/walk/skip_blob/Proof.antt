@@ -1,4 +1,3 @@
-use native.Mathlib.Omega.{arith}
 use borrow.Author.Tests.{le-leb, lt-leb}
 use Rattle.rules.specs.Choice.{pick}
 use Rattle.read.specs.Skim.{_>>=_, reading, charged, having, passed, stored, bytesOf, blobOf}
@@ -23,6 +22,9 @@ returns : tie.Need-returns
 unfolding blobOf reading
 returns c = rw (c .cut .ensures _ (c .before .enum-told .given .1), ← c .before .before .before .read-length .ensures, c .before .enum-told .given .1)
 
+sub-left : tie.Need-sub-left
+sub-left c = number-past _ _ _ _ _ _ _ (c .before .before .before .before .before .before .pre .within) (c .before .before .before .read-length .ensures) (c .before .length .given .1)
+
 blob-limit-requires : tie.Need-blob-limit-requires
 blob-limit-requires c κs = search needs
 
@@ -46,18 +48,15 @@ returns-3 : tie.Need-returns-3
 unfolding blobOf reading charged having bytesOf passed stored pick _>>=_
 returns-3 c = rw (c .dear .ensures _ (c .before .enum-told2 .given .1), ← c .before .before .before .before .before .before .before .before .before .read-length .ensures, c .before .before .before .before .before .before .before .length .given .1, ← c .before .before .before .before .before .blob-limit .ensures, le-leb _ _ (c .before .before .before .before .if1 .left), ← c .before .before .before .charge .ensures, c .before .enum-told2 .given .1)
 
-sub-if2 : tie.Need-sub-if2
-sub-if2 c = number-past _ _ _ _ _ _ _ (c .before .before .before .before .before .before .before .before .before .before .before .before .pre .0) (c .before .before .before .before .before .before .before .before .before .read-length .ensures) (c .before .before .before .before .before .before .before .length .given .1) .1
-
 returns-4 : tie.Need-returns-4
 unfolding blobOf reading charged having bytesOf passed stored pick _>>=_
 returns-4 c = rw (← c .before .before .before .before .before .before .before .before .before .before .read-length .ensures, c .before .before .before .before .before .before .before .before .length .given .1, ← c .before .before .before .before .before .before .blob-limit .ensures, le-leb _ _ (c .before .before .before .before .before .if1 .left), ← c .before .before .before .before .charge .ensures, c .before .before .paid .given .1, lt-leb _ _ (c .if2 .taken))
 
-add-t17 : tie.Need-add-t17
-add-t17 c = search needs
+add-t14 : tie.Need-add-t14
+add-t14 c = search needs
 
-add-t15 : tie.Need-add-t15
-add-t15 c = search needs
+add-t18 : tie.Need-add-t18
+add-t18 c = search needs
 
 returns-5 : tie.Need-returns-5
 unfolding blobOf reading charged having bytesOf passed stored pick _>>=_
@@ -72,6 +71,7 @@ skip-blob-spec =
     enum-told
     cut-requires
     returns
+    sub-left
     blob-limit-requires
     returns-2
     charge-requires
@@ -79,8 +79,7 @@ skip-blob-spec =
     enum-told-2
     dear-requires
     returns-3
-    sub-if2
     returns-4
-    add-t17
-    add-t15
+    add-t14
+    add-t18
     returns-5)

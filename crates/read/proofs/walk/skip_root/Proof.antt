@@ -11,7 +11,7 @@ new-requires c κs = search needs
 skip-value-requires : tie.Need-skip-value-requires
 skip-value-requires c κs =
     let s = c .before .before .before in
-    (s .pre .0, s .pre .1, ready-root _ _ _ _ _ (s .pre .2) (s .pre .3) (s .pre .4) (c .new .ensures))
+    (s .pre .sound, s .pre .root, ready-root _ _ _ _ _ _ (s .pre) (c .new .ensures))
 
 enum-known-s : tie.Need-enum-known-s
 enum-known-s c = search needs

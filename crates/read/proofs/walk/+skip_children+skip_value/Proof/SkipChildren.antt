@@ -1,15 +1,15 @@
 use lib.ListN.{length}
 use Rattle.read.specs.Children.{shapeOf}
 use Rattle.read.specs.Skim.{_>>=_, nodeOf, skim}
-use Rattle.read.specs.Ready.{Inside, Ready}
+use Rattle.read.specs.Ready.{Ready}
 use Rattle.read.proofs.Codes.{shape-variant}
 use Rattle.read.proofs.Turn.{moved, steps, goOn, Fuelled, fuel-all, fuel-next, turn-child, turn-end, turn-refused, turn-on, Moved, wide-shape, picked-child}
 use Rattle.read.proofs.Onward.{skim-at}
 use Rattle.read.proofs.Nodes.{node-code, node-children, node-start}
 use borrow.Author.Needs.{needs}
 use native.Mathlib.Omega.{arith}
-use Prim.Native.Nat.{ℕ, suc, _+_, _-_, _*_, _≤_, _<_}
-use mathlib.Core.Path.{_≡_, refl, sym, _∙_}
+use Prim.Native.Nat.{ℕ, suc, _+_, _-_, _*_, _≤_}
+use mathlib.Core.Path.{_≡_}
 use Rattle.read.proofs.walk.skip_children.Reads as skip-children
 use Rattle.read.proofs.walk.+skip_children+skip_value.Lts-skip_children as lts
 use Rattle.read.proofs.walk.+skip_children+skip_value.Proof.Setup.{skip-children-at, skip-children-calls}
@@ -25,10 +25,14 @@ abbrev pub μ-loop : lts.MeasureT-loop
 μ-loop block code node depth input charge k first count q₀ i₀ q i = count - i + (length input - q .at)
 
 module _ (t : ℕ) where
+  -- the node's children lie in the block
+  inside : (c : lts.After-u32-at2 (skip-children-calls t) (skip-children-at t) skip-children.Post Inv-loop μ-loop) → (c .before .u32-at .result + c .u32-at2 .result) * 16 ≤ length (c .before .before .before .before .args .block .now)
+  inside c = node-children _ _ _ _ _ (c .before .before .before .before .pre .1 .0) (c .before .u32-at .ensures) (c .u32-at2 .ensures)
+
   -- what the next child tells
   child : (c : lts.After-known-told (skip-children-calls t) (skip-children-at t) skip-children.Post Inv-loop μ-loop) → let s = c .before .before .before .before .before .before .before .before .before .before .args in let l = c .before .before .before .before .before .loop in
       Moved (shapeOf (s .code)) (length (s .input .now)) (c .before .before .before .before .before .before .before .u32-at .result) (c .before .before .before .before .before .before .u32-at2 .result) (l .i) (l .q .at) (c .before .pick .given .0 .0) (c .before .pick .given .0 .1 .0)
-  child c = let l = c .before .before .before .before .before .loop .inv in picked-child _ _ _ _ _ _ (l .1 .0 .within) (l .0) _ (wide-shape _ (c .before .before .before .before .before .before .before .before .before .before .pre .1 .3)) _ _ _ (c .before .before .before .next-child .ensures) (c .before .pick .given .1)
+  child c = let l = c .before .before .before .before .before .loop .inv in picked-child _ _ _ _ _ _ (l .1 .0 .stands .within) (l .0) _ (wide-shape _ (c .before .before .before .before .before .before .before .before .before .before .pre .1 .1)) _ _ _ (c .before .before .before .next-child .ensures) (c .before .pick .given .1)
 
   -- where it may start
   enters : (c : lts.After-known-told (skip-children-calls t) (skip-children-at t) skip-children.Post Inv-loop μ-loop) → let s = c .before .before .before .before .before .before .before .before .before .before .args in
@@ -36,7 +40,7 @@ module _ (t : ℕ) where
   enters c =
       let m = child c in
       let r = c .before .before .before .before .before .loop .inv .1 .0 in
-      record { within = m .within; short = r .short; costs = r .costs; total = r .total; passed = omega (arith, m .from, r .passed) }
+      record { stands = record { within = m .within; short = r .stands .short; passed = omega (arith, m .from, r .stands .passed) }; costs = r .costs; total = r .total }
 
   -- and where it leaves off
   leaves : (c : lts.Else1 (skip-children-calls t) (skip-children-at t) skip-children.Post Inv-loop μ-loop) → let s = c .before .before .before .before .before .before .before .before .before .before .before .before .before .before .before .args in
@@ -62,12 +66,12 @@ module _ (t : ℕ) where
   loop-holds c =
       let s = c .before .before .before .before in
       let a = s .args in
-      (omega arith, (s .pre .1 .4, (suc (length (a .input .now) - a .p .at), (fuel-all _ _, node-start _ _ _ _ _ (s .pre .1 .0) (s .pre .1 .1) (s .pre .1 .2) (c .before .u32-at .ensures) (c .u32-at2 .ensures) _ _ _ (s .pre .1 .3)))))
+      (omega arith, (s .pre .1 .2, (suc (length (a .input .now) - a .p .at), (fuel-all _ _, node-start _ _ _ _ _ (s .pre .1 .0) (c .before .u32-at .ensures) (c .u32-at2 .ensures) _ _ _ (s .pre .1 .1)))))
 
   pub next-child-requires : lts.Need-next-child-requires (skip-children-calls t) (skip-children-at t) skip-children.Post Inv-loop μ-loop
   next-child-requires c κs =
-      let k = node-children _ _ _ _ _ (c .before .before .before .before .before .before .pre .1 .0) (c .before .before .before .before .before .before .pre .1 .1) (c .before .before .before .before .before .before .pre .1 .2) (c .before .before .before .u32-at .ensures) (c .before .before .u32-at2 .ensures) in
-      (c .before .before .before .before .before .before .pre .1 .3, node-code _ _ _ _ _ (c .before .before .before .before .before .before .pre .1 .0) (c .before .before .before .before .before .before .pre .1 .1) (c .before .before .before .before .before .before .pre .1 .2) (c .before .before .before .u32-at .ensures) (c .before .before .u32-at2 .ensures), omega (arith, k), c .before .loop .inv .1 .0 .within)
+      let k = inside (c .before .before) in
+      (c .before .before .before .before .before .before .pre .1 .1, node-code _ _ _ _ _ (c .before .before .before .before .before .before .pre .1 .0) (c .before .before .before .u32-at .ensures) (c .before .before .u32-at2 .ensures), omega (arith, k), c .before .loop .inv .1 .0 .stands .within)
 
   pub enum-known-pick : lts.Need-enum-known-pick (skip-children-calls t) (skip-children-at t) skip-children.Post Inv-loop μ-loop
   enum-known-pick c = search needs
@@ -75,8 +79,8 @@ module _ (t : ℕ) where
   pub skip-value-requires : lts.Need-skip-value-requires (skip-children-calls t) (skip-children-at t) skip-children.Post Inv-loop μ-loop
   skip-value-requires c κs =
       let s = c .before .before .before .before .before .before .before .before .before .before in
-      let k = node-children _ _ _ _ _ (c .before .before .before .before .before .before .before .before .before .before .pre .1 .0) (c .before .before .before .before .before .before .before .before .before .before .pre .1 .1) (c .before .before .before .before .before .before .before .before .before .before .pre .1 .2) (c .before .before .before .before .before .before .before .u32-at .ensures) (c .before .before .before .before .before .before .u32-at2 .ensures) in
-      (omega arith, (s .pre .1 .0, omega (arith, k, child c .high), enters c))
+      let k = inside (c .before .before .before .before .before .before) in
+      (omega arith, (s .pre .1 .0 .sound, omega (arith, k, child c .high), enters c))
 
   pub enum-known-s : lts.Need-enum-known-s (skip-children-calls t) (skip-children-at t) skip-children.Post Inv-loop μ-loop
   enum-known-s c = search needs
@@ -99,8 +103,8 @@ module _ (t : ℕ) where
   pub add-i : lts.Need-add-i (skip-children-calls t) (skip-children-at t) skip-children.Post Inv-loop μ-loop
   add-i c =
       let m = child (c .before .before .before .before .before) in
-      let k = node-children _ _ _ _ _ (c .before .before .before .before .before .before .before .before .before .before .before .before .before .before .before .pre .1 .0) (c .before .before .before .before .before .before .before .before .before .before .before .before .before .before .before .pre .1 .1) (c .before .before .before .before .before .before .before .before .before .before .before .before .before .before .before .pre .1 .2) (c .before .before .before .before .before .before .before .before .before .before .before .before .u32-at .ensures) (c .before .before .before .before .before .before .before .before .before .before .before .u32-at2 .ensures) in
-      omega (arith, k, m .counts, m .within, c .before .before .before .before .before .before .before .before .before .before .loop .inv .1 .0 .short)
+      let k = inside (c .before .before .before .before .before .before .before .before .before .before .before) in
+      omega (arith, k, m .counts, m .within, c .before .before .before .before .before .before .before .before .before .before .loop .inv .1 .0 .stands .short)
 
   pub loop-less : lts.Need-loop-less (skip-children-calls t) (skip-children-at t) skip-children.Post Inv-loop μ-loop
   loop-less c =
@@ -118,7 +122,7 @@ module _ (t : ℕ) where
           (
             l .0 - 1,
             (
-              fuel-next _ _ _ _ _ _ (l .1 .0) (m .past) (o .0) (o .1 .within),
+              fuel-next _ _ _ _ _ _ (l .1 .0) (m .past) (o .0) (o .1 .stands .within),
               turn-on _ _ _ _ _ _ _ _ _ (l .1 .0) _ (l .1 .1) _ (c .before .before .before .before .before .before .before .before .next-child .ensures) _ _ (c .before .before .before .before .before .before .pick .given .1) _ (c .before .before .before .before .skip-value .ensures) _ (c .before .before .s .given .1) (c .if1 .left),
             ),
           ),

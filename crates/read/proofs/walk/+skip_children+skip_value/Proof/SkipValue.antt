@@ -1,15 +1,22 @@
 use Rattle.rules.specs.Block.{nodeAt}
+use Rattle.read.specs.Skim.{standing, nodeOf, skim}
 use Rattle.read.proofs.Steps.{ready-paid}
 use Rattle.read.proofs.Nodes.{skim-none, skim-dear, skim-paid, node-leaf}
 use borrow.Author.Needs.{needs}
 use native.Mathlib.Omega.{arith}
-use Prim.Native.Nat.{ℕ, suc, _+_, _-_, _*_, _≤_, _<_}
-use mathlib.Core.Path.{_≡_, refl, sym, _∙_}
+use Prim.Native.Nat.{ℕ, _+_, _-_}
+use mathlib.Core.Path.{_≡_, refl}
 use Rattle.read.proofs.walk.skip_value.Reads as skip-value
 use Rattle.read.proofs.walk.+skip_children+skip_value.Lts-skip_value as lts
 use Rattle.read.proofs.walk.+skip_children+skip_value.Proof.Setup.{skip-value-at, skip-value-calls}
 
 module _ (t : ℕ) where
+  -- a node that is paid for
+  inside : (c : lts.After-known-told (skip-value-calls t) (skip-value-at t) skip-value.Post) → let s = c .before .before .before .before .before .before .before .before .args in
+      skim (s .block .now) (s .input .now) (s .charge) (s .depth) (s .node) (s .p)
+      ≡ nodeOf (s .block .now) (s .input .now) (skim (s .block .now) (s .input .now) (s .charge) (s .depth - 1)) (s .node) (standing (s .p .at) (c .before .paid .given .0 .0) (s .p .records + 1) (s .p .payload))
+  inside c = skim-paid _ _ _ _ _ (c .before .before .before .before .before .before .before .before .args .p) (c .before .before .before .before .before .if1 .left) _ (c .before .before .before .charge .ensures) _ (c .before .paid .given .1)
+
   pub returns : lts.Need-returns (skip-value-calls t) (skip-value-at t) skip-value.Post
   returns c = rw (skim-none _ _ _ _ _ _ (c .if1 .taken))
 
@@ -47,10 +54,10 @@ module _ (t : ℕ) where
   enum-told-2 c = search needs
 
   pub returns-3 : lts.Need-returns-3 (skip-value-calls t) (skip-value-at t) skip-value.Post
-  returns-3 c = rw (skim-paid _ _ _ _ _ (c .before .before .before .before .before .before .before .before .before .before .before .before .before .before .args .p) (c .before .before .before .before .before .before .before .before .before .before .before .if1 .left) _ (c .before .before .before .before .before .before .before .before .before .charge .ensures) _ (c .before .before .before .before .before .before .before .paid .given .1), node-leaf _ _ _ _ _ (c .before .before .before .if2 .taken), ← c .before .before .skip-leaf .ensures, c .enum-told2 .given .1)
+  returns-3 c = rw (inside (c .before .before .before .before .before .before), node-leaf _ _ _ _ _ (c .before .before .before .if2 .taken), ← c .before .before .skip-leaf .ensures, c .enum-told2 .given .1)
 
   pub returns-4 : lts.Need-returns-4 (skip-value-calls t) (skip-value-at t) skip-value.Post
-  returns-4 c = rw (skim-paid _ _ _ _ _ (c .before .before .before .before .before .before .before .before .before .before .before .before .before .before .before .args .p) (c .before .before .before .before .before .before .before .before .before .before .before .before .if1 .left) _ (c .before .before .before .before .before .before .before .before .before .before .charge .ensures) _ (c .before .before .before .before .before .before .before .before .paid .given .1), node-leaf _ _ _ _ _ (c .before .before .before .before .if2 .taken), ← c .before .before .before .skip-leaf .ensures, c .before .s .given .1)
+  returns-4 c = rw (inside (c .before .before .before .before .before .before .before), node-leaf _ _ _ _ _ (c .before .before .before .before .if2 .taken), ← c .before .before .before .skip-leaf .ensures, c .before .s .given .1)
 
   pub sub-skip-children : lts.Need-sub-skip-children (skip-value-calls t) (skip-value-at t) skip-value.Post
   sub-skip-children c = search needs
@@ -59,7 +66,7 @@ module _ (t : ℕ) where
   unfolding nodeAt
   skip-children-requires c κs =
       let s = c .before .before .before .before .before .before .before .before .before .before .before in
-      (omega (arith, s .pre .0, c .before .before .before .before .before .before .before .before .if1 .left), (s .pre .1 .0, s .pre .1 .1, refl, c .if2 .left, ready-paid _ _ _ _ _ (s .pre .1 .2) (c .before .before .before .before .before .before .charge .ensures) (c .before .before .before .before .paid .given .1)))
+      (omega (arith, s .pre .0, c .before .before .before .before .before .before .before .before .if1 .left), (record { sound = s .pre .1 .0; inside = s .pre .1 .1; is = refl }, c .if2 .left, ready-paid _ _ _ _ _ (s .pre .1 .2) (c .before .before .before .before .before .before .charge .ensures) (c .before .before .before .before .paid .given .1)))
 
   pub enum-known-s-2 : lts.Need-enum-known-s-2 (skip-value-calls t) (skip-value-at t) skip-value.Post
   enum-known-s-2 c = search needs
@@ -68,7 +75,7 @@ module _ (t : ℕ) where
   enum-told-3 c = search needs
 
   pub returns-5 : lts.Need-returns-5 (skip-value-calls t) (skip-value-at t) skip-value.Post
-  returns-5 c = rw (skim-paid _ _ _ _ _ (c .before .before .before .before .before .before .before .before .before .before .before .before .before .before .args .p) (c .before .before .before .before .before .before .before .before .before .before .before .if1 .left) _ (c .before .before .before .before .before .before .before .before .before .charge .ensures) _ (c .before .before .before .before .before .before .before .paid .given .1), ← c .before .before .skip-children .ensures, c .enum-told3 .given .1)
+  returns-5 c = rw (inside (c .before .before .before .before .before .before), ← c .before .before .skip-children .ensures, c .enum-told3 .given .1)
 
   pub returns-6 : lts.Need-returns-6 (skip-value-calls t) (skip-value-at t) skip-value.Post
-  returns-6 c = rw (skim-paid _ _ _ _ _ (c .before .before .before .before .before .before .before .before .before .before .before .before .before .before .before .args .p) (c .before .before .before .before .before .before .before .before .before .before .before .before .if1 .left) _ (c .before .before .before .before .before .before .before .before .before .before .charge .ensures) _ (c .before .before .before .before .before .before .before .before .paid .given .1), ← c .before .before .before .skip-children .ensures, c .before .s2 .given .1)
+  returns-6 c = rw (inside (c .before .before .before .before .before .before .before), ← c .before .before .before .skip-children .ensures, c .before .s2 .given .1)
