@@ -275,19 +275,25 @@ fn skip_children(
     }
 }
 
-// A row's value: the root of its table's block, from a place, with the whole allowance.
+// A row's value: the root of its table's block, from a place, with the whole allowance. The root is no leaf, and the row enters by
+// the children step: so the node step has one caller, is compiled into it, and a leaf costs no call.
 pub fn skip_root(block: &[u8], input: &[u8], at: usize, settings: Settings) -> Skipped
     requires { ⌜ Rooted (now block) (now input) settings at ⌝ }
     ensures { λ r. ⌜ r ≡ skimmed (limits settings) (walk (now (block .entry)) (now (input .entry)) (limits settings) 64 0 (start (limits settings) at)) ⌝ }
 {
+    let charge = settings.node_charge;
     let budget = RowBudget::new(settings.max_blob_bytes, settings.max_row_bytes);
+    let paid = budget.charge(charge, at as u64);
+    let Charged::Left(rest) = paid else {
+        return dear(paid);
+    };
     let p = Pos {
         at,
-        budget,
-        records: 0,
+        budget: rest,
+        records: 1,
         payload: 0,
     };
-    let s = skip_value(block, 0, 64, input, p, settings.node_charge);
+    let s = skip_children(block, block[0], 0, 63, input, p, charge);
     let Skipped::At(q) = s else {
         return s;
     };

@@ -9,7 +9,8 @@ use borrow.Author.Tests.{le-leb, lt-leb}
 use lib.ListN.{length, take, drop}
 use Rattle.rules.specs.Choice.{pick}
 use Rattle.rules.specs.Bytes.{leAt, Bytes}
-use Rattle.rules.specs.Block.{records, block}
+use Rattle.rules.specs.Schema.{Schema, TableRoot}
+use Rattle.rules.specs.Block.{nodeAt, records, block, Denotes, denotes}
 use Rattle.rules.specs.Format.{Format, tables, tableSchema}
 use Rattle.rules.specs.Value.{Value}
 use Rattle.rules.specs.Walk as rule
@@ -44,6 +45,11 @@ schema-any : (table names references registry : List ℕ) (t : ℕ) → tableSch
 unfolding tableSchema
 schema-any table names references registry t = refl
 
+-- the root of a table's schema is a tuple
+root-code : (s store : List ℕ) {t : Schema} → Denotes s store 0 t → TableRoot t → nodeAt s 0 .code ≡ 19
+unfolding TableRoot
+root-code s store (denotes l k m a) r = k ∙ r .0
+
 module _ (table names references registry inp : List ℕ) (lim : Limits) (at t : ℕ) (l : Located) (h : 2 ≤ length inp - at) (is : t ≡ leAt inp at 2) (found : l ≡ tableSchema (slices [] names references registry) t) where
   tagged : skipped at (rowAt (slices table names references registry) inp lim at) ≡ skipped at (rootFrom (slices table names references registry) inp lim at t l (start lim (at + 2)))
   unfolding rowAt numberOf start pick _>>=_
@@ -71,13 +77,17 @@ module _ (table names references registry inp : List ℕ) (lim : Limits) (at t :
       let y : b .count ≡ n = cc in
       let g = b .good in
       let f = rw (x, y) at (g .formed) in
+      let d = rw (x, y) at (b .denotes) in
       record {
         within = rw (x, y) at (g .inside);
-        sound = formed-sound (block table first n) (length names) f;
-        root = omega (arith, f .order .size);
-        settings = ok .settings;
-        short = ok .short;
-        tagged = omega arith;
+        rooted = record {
+          sound = formed-sound (block table first n) (length names) f;
+          root = omega (arith, f .order .size);
+          compound = omega (arith, root-code (block table first n) names d (b .root));
+          accepted = ok .settings;
+          short = ok .short;
+          within = omega arith;
+        };
       }
 
 -- ---- the root's value

@@ -16,7 +16,7 @@ use Rattle.rules.specs.declared.Refusal.the-variants.{Setting}
 use Rattle.rules.specs.declared.Checked.the-variants.{Accepted}
 use Rattle.rules.specs.declared.Read.{Read}
 use Rattle.read.specs.declared.walk.Skipped.{Skipped}
-use Rattle.read.specs.Ready.{Sound, Inside}
+use Rattle.read.specs.Ready.{Rooted}
 
 -- settings and slices inside document 01's bounds
 unfoldable pub boundsOk : Settings → Format → List ℕ → Bool
@@ -28,14 +28,10 @@ pub record Asked (f : Format) (inp : List ℕ) (s : Settings) : Type 0 where
   pub settings : settingsOk s ≡ true
   pub short : length inp < 2 ^ 32
 
--- a block that the walk may go along, and a place after whose table tag it may begin
+-- a block of the table along which a row's value may be walked, and a place that has a whole table tag
 pub record Walkable (table inp : List ℕ) (at first n : ℕ) (s : Settings) : Type 0 where
   pub within : first + n ≤ records table
-  pub sound : Sound (block table first n)
-  pub root : Inside (block table first n) 0
-  pub settings : settingsOk s ≡ true
-  pub short : length inp < 2 ^ 32
-  pub tagged : at + 2 ≤ length inp
+  pub rooted : Rooted (block table first n) inp s (at + 2)
 
 -- a row of table t at a place, from the table's block
 unfoldable pub rowIn : List ℕ → List ℕ → Limits → ℕ → ℕ → ℕ → ℕ → Read

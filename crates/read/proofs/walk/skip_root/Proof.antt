@@ -1,6 +1,12 @@
-use mathlib.Core.Path.{sym, _∙_}
+-- The root is charged here, and then its children are walked: the node step's own two steps.
+-- Assumes nothing.
+use mathlib.Core.Path.{refl, sym, _∙_}
+use native.Mathlib.Omega.{arith}
+use Rattle.rules.specs.Block.{nodeAt}
+use Rattle.read.specs.Skim.{standing}
 use Rattle.read.proofs.Same.{root-same}
-use Rattle.read.proofs.Steps.{ready-root}
+use Rattle.read.proofs.Steps.{ready-root, ready-paid}
+use Rattle.read.proofs.Nodes.{skim-dear, skim-paid}
 use borrow.Author.Needs.{needs}
 use Rattle.read.proofs.walk.skip_root.Statement.{statement}
 use Rattle.read.proofs.walk.skip_root.Tie as tie
@@ -8,23 +14,53 @@ use Rattle.read.proofs.walk.skip_root.Tie as tie
 new-requires : tie.Need-new-requires
 new-requires c κs = search needs
 
-skip-value-requires : tie.Need-skip-value-requires
-skip-value-requires c κs =
-    let s = c .before .before .before in
-    (s .pre .sound, s .pre .root, ready-root _ _ _ _ _ _ (s .pre) (c .new .ensures))
+charge-requires : tie.Need-charge-requires
+charge-requires c κs = search needs
 
-enum-known-s : tie.Need-enum-known-s
-enum-known-s c = search needs
+enum-known-paid : tie.Need-enum-known-paid
+enum-known-paid c = search needs
 
 enum-told : tie.Need-enum-told
 enum-told c = search needs
 
+dear-requires : tie.Need-dear-requires
+dear-requires c κs = search needs
+
 returns : tie.Need-returns
-returns c = c .before .before .skip-value .ensures ∙ root-same _ _ _ _ _ (c .before .before .before .new .ensures)
+returns c = c .dear .ensures _ (c .before .enum-told .given .1) ∙ sym (skim-dear _ _ _ 64 0 (standing (c .before .before .before .before .before .before .before .args .at) (c .before .before .before .before .new .result) 0 0) (λ z. omega arith) _ (c .before .before .before .charge .ensures) _ (c .before .enum-told .given .1)) ∙ root-same _ _ _ _ _ (c .before .before .before .before .new .ensures)
+
+shared-slice-read-skip-children : tie.Need-shared-slice-read-skip-children
+shared-slice-read-skip-children c = search needs
+
+skip-children-requires : tie.Need-skip-children-requires
+unfolding nodeAt
+skip-children-requires c κs = let s = c .before .before .before .before .before .before .before .before in (record { sound = s .pre .sound; inside = s .pre .root; is = refl }, s .pre .compound, ready-paid _ _ (standing (s .args .at) (c .before .before .before .before .before .new .result) 0 0) _ _ (ready-root _ _ _ _ _ _ (s .pre) (c .before .before .before .before .before .new .ensures)) (c .before .before .before .before .charge .ensures) (c .before .before .paid .given .1))
+
+enum-known-s : tie.Need-enum-known-s
+enum-known-s c = search needs
+
+enum-told-2 : tie.Need-enum-told-2
+enum-told-2 c = search needs
 
 returns-2 : tie.Need-returns-2
-returns-2 c = sym (c .before .s .given .1) ∙ c .before .before .before .skip-value .ensures ∙ root-same _ _ _ _ _ (c .before .before .before .before .new .ensures)
+returns-2 c = c .before .before .skip-children .ensures ∙ sym (skim-paid _ _ _ 64 0 (standing (c .before .before .before .before .before .before .before .before .before .before .before .args .at) (c .before .before .before .before .before .before .before .before .new .result) 0 0) (λ z. omega arith) _ (c .before .before .before .before .before .before .before .charge .ensures) _ (c .before .before .before .before .before .paid .given .1)) ∙ root-same _ _ _ _ _ (c .before .before .before .before .before .before .before .before .new .ensures)
+
+returns-3 : tie.Need-returns-3
+returns-3 c = sym (c .before .s .given .1) ∙ c .before .before .before .skip-children .ensures ∙ sym (skim-paid _ _ _ 64 0 (standing (c .before .before .before .before .before .before .before .before .before .before .before .before .args .at) (c .before .before .before .before .before .before .before .before .before .new .result) 0 0) (λ z. omega arith) _ (c .before .before .before .before .before .before .before .before .charge .ensures) _ (c .before .before .before .before .before .before .paid .given .1)) ∙ root-same _ _ _ _ _ (c .before .before .before .before .before .before .before .before .before .new .ensures)
 
 pub skip-root-spec : {M : Type 1} → statement M
 skip-root-spec =
-    tie.close (tie.spec new-requires skip-value-requires enum-known-s enum-told returns returns-2)
+    tie.close
+    (tie.spec
+    new-requires
+    charge-requires
+    enum-known-paid
+    enum-told
+    dear-requires
+    returns
+    shared-slice-read-skip-children
+    skip-children-requires
+    enum-known-s
+    enum-told-2
+    returns-2
+    returns-3)

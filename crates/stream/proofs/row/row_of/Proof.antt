@@ -29,7 +29,7 @@ add-skip-root : tie.Need-add-skip-root
 add-skip-root c = search needs
 
 skip-root-requires : tie.Need-skip-root-requires
-skip-root-requires c κs = let p = c .before .before .before .pre in rw (part-block (c .before .before .before .args .table .now) (c .before .before .before .args .first) (c .before .before .before .args .count)) (p .sound, p .root, p .settings, p .short, p .tagged)
+skip-root-requires c κs = let p = c .before .before .before .pre in rw (part-block (c .before .before .before .args .table .now) (c .before .before .before .args .first) (c .before .before .before .args .count)) (p .rooted)
 
 enum-known-value : tie.Need-enum-known-value
 enum-known-value c = search needs
@@ -44,7 +44,7 @@ returns : tie.Need-returns
 returns c = c .no-value .ensures ∙ value-refused _ _ _ _ _ _ _ _ (rw (part-block (c .before .before .before .before .before .before .before .args .table .now) (c .before .before .before .before .before .before .before .args .first) (c .before .before .before .before .before .before .before .args .count)) at (c .before .before .before .skip-root .ensures)) _ (c .before .enum-told .given .1)
 
 sub-t12 : tie.Need-sub-t12
-sub-t12 c = let h = value-ends _ _ _ _ (c .before .before .before .before .before .before .before .before .args .tag) _ _ _ (rw (part-block (c .before .before .before .before .before .before .before .before .args .table .now) (c .before .before .before .before .before .before .before .before .args .first) (c .before .before .before .before .before .before .before .before .args .count)) at (c .before .before .before .before .skip-root .ensures)) (λ j. omega (arith, c .before .before .before .before .before .before .shared-slice-known2 .given j)) (c .before .before .before .before .before .before .before .before .pre .tagged) _ (c .before .before .value .given .1) in omega (arith, h)
+sub-t12 c = let h = value-ends _ _ _ _ (c .before .before .before .before .before .before .before .before .args .tag) _ _ _ (rw (part-block (c .before .before .before .before .before .before .before .before .args .table .now) (c .before .before .before .before .before .before .before .before .args .first) (c .before .before .before .before .before .before .before .before .args .count)) at (c .before .before .before .before .skip-root .ensures)) (λ j. omega (arith, c .before .before .before .before .before .before .shared-slice-known2 .given j)) (c .before .before .before .before .before .before .before .before .pre .rooted .within) _ (c .before .before .value .given .1) in omega (arith, h)
 
 returns-2 : tie.Need-returns-2
 returns-2 c = value-row _ _ _ _ _ _ _ _ (rw (part-block (c .before .before .before .before .before .before .before .before .args .table .now) (c .before .before .before .before .before .before .before .before .args .first) (c .before .before .before .before .before .before .before .before .args .count)) at (c .before .before .before .before .skip-root .ensures)) _ (c .before .before .value .given .1)
