@@ -1,11 +1,12 @@
 -- Laws of what is written: a number in two halves, a record by its fields, and a copy turn by turn.
 -- Assumes nothing.
 use Prim.Native.Nat.{ℕ, zero, suc, _+_, _-_, _*_, _/_, _%_, _≤_, _<_}
-use mathlib.Core.Path.{_≡_, refl}
+use mathlib.Core.Path.{_≡_, refl, ap, _∙_}
 use mathlib.Core.List.{List, [], _∷_, _++_, append-assoc}
 use native.Mathlib.Omega.{arith}
 use native.Mathlib.Nat.{add-zero, sub-zero}
 use lib.ListN.{length, getD, set, length-append}
+use lib.Seq.{set-comm}
 use Rattle.rules.specs.Bytes.{le, part, over}
 use Rattle.rules.specs.ValueTable.{valueRecord}
 use Rattle.rules.proofs.Over.{over-at}
@@ -64,3 +65,20 @@ module _ (src dst : List ℕ) (from at n : ℕ) where
   pub copy-end : (k : ℕ) → n ≤ k → over dst (at + k) (part src (from + k) (n - k)) ≡ dst
   unfolding over
   copy-end k h = rw (part-end src (from + k) n k h)
+
+-- ---- a front that is written last
+
+-- a store before what is written may as well be made first
+set-over : (xs s : List ℕ) (at i b : ℕ) → i < at → set (over s at xs) i b ≡ over (set s i b) at xs
+unfolding over
+set-over [] s at i b h = refl
+set-over (x ∷ xs) s at i b h =
+    set-over xs (set s at x) (at + 1) i b (omega arith)
+    ∙ ap (λ (l : List ℕ). over l (at + 1) xs) (set-comm s at i x b (λ e. omega arith))
+
+pub over-front : (xs ys s : List ℕ) (at : ℕ) → over (over s (at + length xs) ys) at xs ≡ over s at (xs ++ ys)
+unfolding over
+over-front [] ys s at = rw add-zero
+over-front (x ∷ xs) ys s at =
+    let e : at + suc (length xs) ≡ (at + 1) + length xs = omega arith in
+    rw e (ap (λ (l : List ℕ). over l (at + 1) xs) (set-over ys s ((at + 1) + length xs) at x (omega arith)) ∙ over-front xs ys (set s at x) (at + 1))
