@@ -1,13 +1,13 @@
 -- Blocks as parts of the record table: their length, and what the walks over a block ask of it.
 -- Assumes nothing.
-use Prim.Native.Nat.{ℕ, _+_, _-_, _*_, _/_, _^_, _≤_, _<_}
+use Prim.Native.Nat.{ℕ, _+_, _-_, _*_, _^_, _≤_, _<_}
 use mathlib.Core.Path.{_≡_}
 use mathlib.Core.Bool.{true}
 use mathlib.Core.List.{List}
 use native.Mathlib.Omega.{arith}
 use borrow.Author.Tests.{leb-true}
 use lib.ListN.{length, take, drop, length-take, length-drop}
-use Rattle.rules.specs.Block.{records, block, Closed, Ordered}
+use Rattle.rules.specs.Block.{records, block, Closed}
 use Rattle.rules.specs.Format.{blockFormOk}
 use Rattle.rules.proofs.Tests.{and-both}
 use Rattle.blocks.proofs.Form.{ordered, closed}

@@ -9,7 +9,7 @@ use Rattle.rules.specs.Choice.{pick, _and_}
 use Rattle.rules.specs.Refusals.{_then_}
 use Rattle.rules.specs.Format.{wholeOk, blockFormOk, blockDepthOk, oneBlock}
 use Rattle.rules.specs.declared.Checked.{Checked}
-use Rattle.rules.specs.declared.Checked.the-variants.{Accepted, Refused}
+use Rattle.rules.specs.declared.Checked.the-variants.{Accepted}
 use Rattle.rules.proofs.Tests.{and-both}
 use Rattle.rules.proofs.Checks.{pick-accepted}
 use Rattle.flat.specs.Sound.{Sound}

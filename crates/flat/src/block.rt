@@ -1,6 +1,6 @@
 // The flat form of a schema block (2), and its depth (3).
 ghost use mathlib.Core.Path.{_≡_};
-ghost use Prim.Native.Nat.{ℕ, _+_, _*_, _≤_};
+ghost use Prim.Native.Nat.{_+_, _*_, _≤_};
 ghost use lib.ListN.{length};
 ghost use Rattle.rules.specs.Block.{nodeAt, spanOk, nameOk, childrenOk, recordOk, blockOk, Ordered, depthOf};
 use rules::Node;

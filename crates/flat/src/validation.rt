@@ -1,10 +1,11 @@
 // The schema rules on a block, in the Rust's order (4, 5), and a table's root and names (8, 9, 10).
 ghost use mathlib.Core.Path.{_≡_};
-ghost use Prim.Native.Nat.{ℕ, _+_, _*_, _^_, _≤_, _<_};
+ghost use Prim.Native.Nat.{_+_, _*_, _^_, _≤_, _<_};
 ghost use lib.ListN.{length};
 ghost use Rattle.rules.specs.Wire.{form, maximum};
 ghost use Rattle.rules.specs.Block.{records, Closed};
 ghost use Rattle.rules.specs.SchemaRules.{nodeRule, schemaRule, notTuple, rootRule, nameRule, tableRule};
+use super::block::node_at;
 use rules::Checked;
 use rules::Children;
 use rules::Node;
@@ -54,7 +55,7 @@ pub fn validate(s: &[u8], base: u64, depth: u64, i: u64) -> Checked
     if depth == 0 {
         return Checked::Refused(Refusal::TooDeep);
     }
-    let n = super::block::node_at(s, i);
+    let n = node_at(s, i);
     let own = node_rule(base + i, n);
     let Checked::Accepted = own else {
         return own;
@@ -111,7 +112,7 @@ pub fn check_root(s: &[u8], base: u64, purpose: Purpose) -> Checked
     requires { ⌜ Closed (now s) × (16 ≤ length (now s)) × (base + records (now s) < 2 ^ 64) ⌝ }
     ensures { λ r. ⌜ r ≡ tableRule purpose (now (s .entry)) base ⌝ }
 {
-    let root = super::block::node_at(s, 0);
+    let root = node_at(s, 0);
     let own = root_rule(purpose, base, root);
     let Checked::Accepted = own else {
         return own;
@@ -120,7 +121,7 @@ pub fn check_root(s: &[u8], base: u64, purpose: Purpose) -> Checked
     let children = root.children;
     let mut k = 0;
     while k < children {
-        let n = super::block::node_at(s, first + k);
+        let n = node_at(s, first + k);
         let column = name_rule(base + (first + k), k, n);
         let Checked::Accepted = column else {
             return column;

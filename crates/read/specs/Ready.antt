@@ -46,7 +46,7 @@ pub record Ready (inp : List ℕ) (charge : ℕ) (p : Pos) : Type 0 where
 pub record Rooted (s inp : List ℕ) (settings : Settings) (at : ℕ) : Type 0 where
   pub sound : Sound s
   pub root : Inside s 0
-  pub tuple : nodeAt s 0 .code ≡ 19
+  pub compound : 14 < nodeAt s 0 .code
   pub accepted : settingsOk settings ≡ true
   pub short : length inp < 2 ^ 32
   pub within : at ≤ length inp

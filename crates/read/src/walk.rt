@@ -275,14 +275,14 @@ fn skip_children(
     }
 }
 
-// A row's value: the root of its table's block, from a place, with the whole allowance. The root has children, so that it is
-// charged here and entered by the children step: the node step then has one caller, and the compiler puts it into the loop.
+// A row's value: the root of its table's block, from a place, with the whole allowance. The root is no leaf, and the row enters by
+// the children step: so the node step has one caller, is compiled into it, and a leaf costs no call.
 pub fn skip_root(block: &[u8], input: &[u8], at: usize, settings: Settings) -> Skipped
     requires { ⌜ Rooted (now block) (now input) settings at ⌝ }
     ensures { λ r. ⌜ r ≡ skimmed (limits settings) (walk (now (block .entry)) (now (input .entry)) (limits settings) 64 0 (start (limits settings) at)) ⌝ }
 {
-    let budget = RowBudget::new(settings.max_blob_bytes, settings.max_row_bytes);
     let charge = settings.node_charge;
+    let budget = RowBudget::new(settings.max_blob_bytes, settings.max_row_bytes);
     let paid = budget.charge(charge, at as u64);
     let Charged::Left(rest) = paid else {
         return dear(paid);

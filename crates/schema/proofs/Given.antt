@@ -1,23 +1,22 @@
 -- What the forms of a format give, and its parts over the slices that each looks at.
 -- Assumes nothing.
-use Prim.Native.Nat.{ℕ, zero, suc, _+_, _-_, _≤_, _<_}
-use mathlib.Core.Path.{_≡_, refl, sym, _∙_}
-use mathlib.Core.Bool.{Bool, true, false}
+use Prim.Native.Nat.{ℕ, zero, suc, _+_, _-_, _≤_}
+use mathlib.Core.Path.{_≡_, refl}
+use mathlib.Core.Bool.{Bool, true}
 use mathlib.Core.List.{List, []}
-use mathlib.Core.Logic.{⊎-elim}
 use native.Mathlib.Omega.{arith}
 use borrow.Author.Tests.{leb-true, eq-eqb, ne-eqb}
 use lib.ListN.{length}
 use lib.Dec.{eqb}
 use Rattle.rules.specs.Choice.{pick, _and_, all}
 use Rattle.rules.specs.Bytes.{part, order, isLess}
-use Rattle.rules.specs.Block.{records, spanOk}
-use Rattle.rules.specs.Format.{Format, wholeOk, blockFormOk, blockDepthOk, blockRule, entryAt, referenceAt, entryName, referenceOk, ascending, entryOk, referenceFormOk, formsOk, entryDepthOk, referenceDepthOk, depthsOk, entryRule}
+use Rattle.rules.specs.Block.{records}
+use Rattle.rules.specs.Format.{wholeOk, blockDepthOk, blockRule, entryAt, referenceAt, entryName, referenceOk, ascending, entryOk, referenceFormOk, formsOk, entryDepthOk, referenceDepthOk, depthsOk, entryRule}
 use Rattle.rules.specs.declared.Entry.{Entry}
 use Rattle.rules.specs.declared.Reference.{Reference}
 use Rattle.rules.specs.declared.Order.{Order}
 use Rattle.rules.specs.declared.Checked.{Checked}
-use Rattle.rules.proofs.Tests.{and-both, all-each, pick-either}
+use Rattle.rules.proofs.Tests.{and-both, all-each}
 use Rattle.flat.specs.Sound.{Sound}
 use Rattle.schema.specs.Slices.{slices, entriesOk, referencesOk, entriesShallow, referencesShallow, EntriesSound, InlineSound, EntriesNamed, ReferencesNamed}
 use Rattle.flat.proofs.Parts.{form-sound}

@@ -1,18 +1,17 @@
 -- Where a table's schema stands over a checked format, and the rules of one table.
 -- Assumes nothing.
-use Prim.Native.Nat.{ℕ, zero, suc, _+_, _≤_, _<_}
+use Prim.Native.Nat.{ℕ, _+_, _<_}
 use mathlib.Core.Path.{_≡_, refl, sym, _∙_}
 use mathlib.Core.Bool.{Bool, true, false}
 use mathlib.Core.List.{List, []}
 use native.Mathlib.Omega.{arith}
-use borrow.Author.Tests.{eqb-true, eqb-false, eq-eqb, ne-eqb}
-use lib.ListN.{length}
+use borrow.Author.Tests.{eqb-true}
 use lib.Dec.{eqb}
-use Rattle.rules.specs.Choice.{pick, _and_, all}
+use Rattle.rules.specs.Choice.{pick, _and_}
 use Rattle.rules.specs.Refusals.{_then_, inOrder}
 use Rattle.rules.specs.Bytes.{part}
 use Rattle.rules.specs.Block.{records}
-use Rattle.rules.specs.Format.{Format, referenceAt, entryAt, lookup, resolved, tables, tableSchema, formsOk, inlineRule, rootOf, referenceRule, entryRule, rulesOrder}
+use Rattle.rules.specs.Format.{Format, referenceAt, entryAt, lookup, resolved, tableSchema, formsOk, inlineRule, rootOf, referenceRule, entryRule, rulesOrder}
 use Rattle.rules.specs.declared.Reference.{Reference}
 use Rattle.rules.specs.declared.Refusal.{Refusal}
 use Rattle.rules.specs.declared.Refusal.the-variants.{EmptyTableSchemas}
@@ -21,7 +20,6 @@ use Rattle.rules.specs.declared.Checked.the-variants.{Accepted, Refused}
 use Rattle.rules.specs.declared.Located.{Located}
 use Rattle.rules.specs.declared.Located.the-variants.{Block, NoTable, NoEntry}
 use Rattle.rules.proofs.Tests.{and-both}
-use Rattle.flat.specs.Sound.{Sound}
 use Rattle.schema.specs.Slices.{slices, entriesRule, Forms}
 use Rattle.schema.proofs.Lookups.{lookup-in}
 use Rattle.schema.proofs.Given.{forms-is, entries-sound, entries-named, inline-sound, references-named}

@@ -4,6 +4,8 @@ use std::collections::BTreeMap;
 use std::fmt;
 use std::io;
 
+use plain::answer::number::TRUNCATED;
+
 use crate::case::{Answer, Case};
 use crate::generate::{self, Kind};
 use crate::judge::plain_answer;
@@ -47,6 +49,8 @@ pub struct Tally {
     pub with_original: u64,
     pub kinds: BTreeMap<Kind, u64>,
     pub numbers: BTreeMap<u64, u64>,
+    /// What cut streams were cut in.
+    pub contexts: BTreeMap<u64, u64>,
 }
 
 impl Tally {
@@ -55,6 +59,9 @@ impl Tally {
         self.with_original += u64::from(expected.original.is_some());
         *self.kinds.entry(kind).or_default() += 1;
         *self.numbers.entry(expected.plain.number).or_default() += 1;
+        if expected.plain.number == TRUNCATED {
+            *self.contexts.entry(expected.plain.values[0]).or_default() += 1;
+        }
     }
 }
 
@@ -72,6 +79,12 @@ impl fmt::Display for Tally {
                 number => format!("refusal {number}"),
             };
             write!(formatter, " {name} {count},")?;
+        }
+        if !self.contexts.is_empty() {
+            write!(formatter, " cut in context:")?;
+        }
+        for (context, count) in &self.contexts {
+            write!(formatter, " {context}: {count},")?;
         }
         Ok(())
     }

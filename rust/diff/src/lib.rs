@@ -1,10 +1,13 @@
-//! Differential runs of the format side: cases are made, put to the program under test, and each of
-//! its answers is held against the plain reading and, on its domain, against the original.
+//! Differential runs: cases are made, put to what is under test, and each answer is held against the
+//! plain reading and, on its domain, against the original. The format side goes to a program over a
+//! pipe; the reading calls go to the library itself, in this process.
 
 pub mod bench;
 pub mod case;
 pub mod compare;
 pub mod generate;
+#[cfg(feature = "library")]
+pub mod in_process;
 pub mod judge;
 pub mod original;
 pub mod plan;

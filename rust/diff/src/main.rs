@@ -129,7 +129,7 @@ fn print_case(case: &Case, line: Option<String>) {
     println!("  program:  {}", line.unwrap_or_else(|| "NO ANSWER".to_owned()));
     println!("  plain:    {}", expected.plain);
     match expected.original {
-        Some(said) => println!("  original: number {}, values {:?}", said.number, said.values),
+        Some(said) => println!("  original: {said}"),
         None => println!("  original: outside its domain"),
     }
 }

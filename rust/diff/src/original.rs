@@ -4,7 +4,10 @@
 
 mod rows;
 
+pub use rows::node_charge;
+
 use std::collections::BTreeMap;
+use std::fmt;
 
 use oracle::{CodecError, Encoder, Format, Schema, SchemaError, SchemaRef, WireType};
 use plain::tables::{entries, references, schema_record, Block, Reference, Span};
@@ -63,6 +66,19 @@ impl Said {
             && self.table.is_none_or(|table| table == answer.place)
             && self.values == answer.values
             && self.run == answer.run
+    }
+}
+
+impl fmt::Display for Said {
+    fn fmt(&self, formatter: &mut fmt::Formatter<'_>) -> fmt::Result {
+        write!(formatter, "number {}, values {:?}", self.number, self.values)?;
+        if let Some(table) = self.table {
+            write!(formatter, ", table {table}")?;
+        }
+        if let Some([rows, bytes]) = self.run {
+            write!(formatter, ", after {rows} rows of {bytes} bytes")?;
+        }
+        Ok(())
     }
 }
 
@@ -161,7 +177,7 @@ fn tree(case: &Case, block: Block, index: u64) -> Option<Schema> {
 }
 
 /// The format as the original builds and checks it; none where a name is not UTF-8.
-fn format(case: &Case) -> Option<Result<Format, SchemaError>> {
+pub fn format(case: &Case) -> Option<Result<Format, SchemaError>> {
     let mut tables = Vec::new();
     for reference in references(&case.references) {
         tables.push(if reference.kind == Reference::INLINE {

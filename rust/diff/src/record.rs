@@ -2,14 +2,16 @@
 
 use std::collections::{BTreeMap, BTreeSet};
 
-use crate::case::{op, Case};
+use crate::case::{op, Answer, Case};
 use crate::compare::Expected;
-use crate::generate::{self, edges, Kind};
+use crate::generate::{self, edges, rows, words, Kind};
+use crate::judge::plain_answer;
 use crate::rng::Rng;
+use plain::answer::number::TRUNCATED;
 
 /// So many cases are kept of each kind, operation and answer, and none of them is longer than this.
-const KEPT: usize = 20;
-const LONGEST: usize = 400;
+const KEPT: usize = 8;
+const LONGEST: usize = 320;
 const RANDOM: u64 = 200_000;
 
 /// Both files' contents.
@@ -19,9 +21,17 @@ pub struct Recording {
     pub count: usize,
 }
 
+/// Operation, number, and for a cut stream what it was cut in.
+type Answered = (u32, u64, u64);
+
+fn answered(case: &Case, answer: &Answer) -> Answered {
+    let context = if answer.number == TRUNCATED { answer.values[0] } else { 0 };
+    (case.op, answer.number, context)
+}
+
 #[derive(Default)]
 struct Sample {
-    kept: BTreeMap<(u32, u64, Kind), (usize, Vec<Case>)>,
+    kept: BTreeMap<(Answered, Kind), (usize, Vec<Case>)>,
 }
 
 impl Sample {
@@ -30,8 +40,8 @@ impl Sample {
         if case.bytes() > LONGEST {
             return;
         }
-        let number = Expected::of(&case).plain.number;
-        let (met, kept) = self.kept.entry((case.op, number, kind)).or_default();
+        let answered = answered(&case, &plain_answer(&case));
+        let (met, kept) = self.kept.entry((answered, kind)).or_default();
         *met += 1;
         let place = rng.below(*met);
         if kept.len() < KEPT {
@@ -42,29 +52,40 @@ impl Sample {
     }
 }
 
-/// Every operation with every number it can answer, the caller's slice bound (1) apart.
-fn wanted() -> BTreeSet<(u32, u64)> {
-    let numbers: [(u32, &[u64]); 6] = [
+/// Every operation with every number it can answer, the caller's slice bound (1) apart where that is
+/// all that 1 stands for; and the reading calls with every context.
+fn wanted() -> BTreeSet<Answered> {
+    let reading = &[0, 1, 2, 3, 4, 5, 6, 7, 8, 10, 11, 13, 14, 17];
+    let numbers: [(u32, &[u64]); 8] = [
         (op::PARSE, &[0, 255]),
         (op::FIXED_WIDTH, &[0, 255]),
         (op::VALIDATE, &[0, 2, 3, 4, 5]),
         (op::ENCODER, &[0, 2, 3, 4, 5, 9, 10]),
         (op::FORMAT, &[0, 2, 3, 4, 5, 6, 7, 8, 10]),
         (op::TABLE_SCHEMA, &[0, 2, 3, 4, 5, 6, 7, 8, 10, 11]),
+        (op::SKIP, reading),
+        (op::RUN, reading),
     ];
-    numbers.into_iter().flat_map(|(op, numbers)| numbers.iter().map(move |number| (op, *number))).collect()
+    let plainly = |(op, numbers): (u32, &'static [u64])| numbers.iter().map(move |number| (op, *number, 0));
+    let cut = |op: u32| (1..=17).map(move |context| (op, TRUNCATED, context));
+    numbers.into_iter().flat_map(plainly).chain([op::SKIP, op::RUN].into_iter().flat_map(cut)).collect()
 }
 
 pub fn record(seed: u64) -> Recording {
     let mut rng = Rng::new(seed);
     let mut sample = Sample::default();
     generate::fixed(&mut |kind, case| sample.offer(&mut rng, kind, case));
+    rows::fixed(&mut |kind, case| sample.offer(&mut rng, kind, case));
     for number in 0..RANDOM {
-        let (kind, case) = generate::random(&mut Rng::for_case(seed, number));
-        sample.offer(&mut rng, kind, case);
+        for draw in [generate::random, rows::random] {
+            let (kind, case) = draw(&mut Rng::for_case(seed, number));
+            sample.offer(&mut rng, kind, case);
+        }
     }
     let mut chosen: Vec<Case> = sample.kept.into_values().flat_map(|(_, kept)| kept).collect();
+    words::few(&mut |_, case| chosen.push(case));
     edges::few(&mut |_, case| chosen.push(case));
+    rows::edges::few(&mut |_, case| chosen.push(case));
     write(&chosen)
 }
 
@@ -78,7 +99,7 @@ fn write(chosen: &[Case]) -> Recording {
             "the plain reading and the original differ:\n{}",
             crate::show::describe(case)
         );
-        missing.remove(&(case.op, expected.plain.number));
+        missing.remove(&answered(case, &expected.plain));
         case.write_to(&mut recording.cases);
         recording.answers.push_str(&format!("{}\n", expected.plain));
     }

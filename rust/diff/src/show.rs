@@ -20,6 +20,8 @@ fn call(case: &Case) -> String {
         op::ENCODER => format!("the encoder's check of the block of {b} records from record {a}"),
         op::FORMAT => "the check of a format".to_owned(),
         op::TABLE_SCHEMA => format!("table_schema of table {a}"),
+        op::SKIP => format!("skip the row at {a} of {} bytes", case.input.len()),
+        op::RUN => format!("run over {} bytes", case.input.len()),
         other => format!("unknown operation {other}"),
     }
 }
@@ -102,6 +104,12 @@ pub fn describe(case: &Case) -> String {
         table(&mut out, "registry", &case.registry, &|index| entry_line(case, index));
     }
     writeln!(out, "  name store: {} bytes", case.names.len()).unwrap();
+    if case.reads() {
+        let Case { node_charge, max_blob_bytes, max_row_bytes, .. } = case;
+        let limits = format!("blob limit {max_blob_bytes}, row limit {max_row_bytes}");
+        writeln!(out, "  node charge {node_charge}, {limits}").unwrap();
+        writeln!(out, "  input: {}", hex(&case.input)).unwrap();
+    }
     let mut bytes = Vec::new();
     case.write_to(&mut bytes);
     writeln!(out, "  the case in hex: {}", hex(&bytes)).unwrap();

@@ -4,6 +4,7 @@
 
 mod blocks;
 mod fields;
+mod input;
 
 use crate::case::Case;
 
@@ -17,7 +18,7 @@ fn size(case: &Case) -> Size {
     let all = || case.strings().into_iter().flatten();
     let nonzero = all().filter(|byte| **byte != 0).count();
     let sum = all().map(|byte| u64::from(*byte)).sum();
-    (case.bytes(), nonzero, sum, u128::from(case.a) + u128::from(case.b))
+    (case.bytes(), nonzero, sum, u128::from(case.a) + u128::from(case.b) + input::oddness(case))
 }
 
 /// Smaller cases, the smallest first.
@@ -25,6 +26,10 @@ fn candidates(case: &Case) -> Vec<Case> {
     let mut found = Vec::new();
     blocks::candidates(case, &mut found);
     fields::candidates(case, &mut found);
+    if case.reads() {
+        input::with_fewer_bytes(case, &mut found);
+        input::candidates(case, &mut found);
+    }
     let now = size(case);
     let mut sized: Vec<(Size, Case)> = found.into_iter().map(|case| (size(&case), case)).collect();
     sized.retain(|(size, _)| *size < now);

@@ -7,7 +7,7 @@ use crate::answer::number::{
 };
 use crate::answer::{Checked, Refusal};
 use crate::depth::{depth, MOST_LEVELS};
-use crate::tables::{entries, references, Block, FormatTables, Reference};
+use crate::tables::{entries, record_count, reference, references, Block, FormatTables, Reference};
 use crate::{forms, rules};
 
 /// A lone block's form and depth.
@@ -90,10 +90,14 @@ fn resolve(tables: &FormatTables, reference: &Reference) -> Option<Block> {
 /// `table_schema` with the format's check before it: the table's block, or 11 where there is none.
 pub fn table_schema(tables: &FormatTables, table: u64) -> Result<Block, Refusal> {
     validate_format(tables)?;
-    let references = references(tables.references);
-    let found = usize::try_from(table).ok().and_then(|index| references.get(index));
-    let Some(reference) = found else {
-        return Err(Refusal::at(MISSING_TABLE_SCHEMA, 0, [table, 0, 0]));
-    };
-    Ok(resolve(tables, reference).expect("a checked format resolves every reference"))
+    table_block(tables, table).ok_or(Refusal::at(MISSING_TABLE_SCHEMA, 0, [table, 0, 0]))
+}
+
+/// The block of a table of a checked format, if there is such a table.
+pub fn table_block(tables: &FormatTables, table: u64) -> Option<Block> {
+    if table >= record_count(tables.references) {
+        return None;
+    }
+    let block = resolve(tables, &reference(tables.references, table));
+    Some(block.expect("a checked format resolves every reference"))
 }

@@ -2,7 +2,7 @@
 
 use crate::answer::number::{MISSING_TABLE_SCHEMA, SETTING, TRUNCATED};
 use crate::answer::{context, Refusal};
-use crate::format::{table_schema, validate_format};
+use crate::format::{table_block, validate_format};
 use crate::settings::{numbers_are_good, Settings};
 use crate::tables::FormatTables;
 use crate::walk::Walk;
@@ -46,7 +46,7 @@ fn row(settings: &Settings, tables: &FormatTables, input: &[u8], position: u64) 
         return Err(Refusal::at(TRUNCATED, position, [context::TABLE_TAG, 0, 0]));
     };
     let table = u64::from(u16::from_le_bytes(tag.try_into().expect("two bytes")));
-    let Ok(block) = table_schema(tables, table) else {
+    let Some(block) = table_block(tables, table) else {
         return Err(Refusal::at(MISSING_TABLE_SCHEMA, position, [table, 0, 0]));
     };
     let mut walk = Walk::new(settings, tables.records, block, input, position + 2);

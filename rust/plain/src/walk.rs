@@ -66,7 +66,7 @@ impl<'a> Walk<'a> {
         Ok(())
     }
 
-    /// The next `count` bytes, which are not passed yet.
+    /// `count` bytes from so far behind the walk's place, which does not move.
     fn peek(&self, offset: u64, count: u64, context: u64) -> Result<&'a [u8], Refusal> {
         let start = self.at + offset;
         if count > self.input.len() as u64 - start {

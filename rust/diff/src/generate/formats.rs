@@ -2,7 +2,8 @@
 
 use plain::tables::Block;
 
-use super::trees::{random_name, random_plans, random_size, random_table_plans, widened};
+pub use super::trees::random_name;
+use super::trees::{random_plans, random_size, random_table_plans, widened};
 use crate::case::{op, Case};
 use crate::plan::{inline, lay_out, put_name, words, Plan};
 use crate::rng::Rng;
@@ -50,7 +51,7 @@ fn registry_names(rng: &mut Rng, count: usize, name: &mut dyn FnMut(&mut Rng) ->
 }
 
 /// A format whose names are drawn by `name`. One in `fault` of its parts is against the rules.
-fn format(rng: &mut Rng, fault: usize, name: &mut dyn FnMut(&mut Rng) -> Vec<u8>) -> Case {
+pub fn format(rng: &mut Rng, fault: usize, name: &mut dyn FnMut(&mut Rng) -> Vec<u8>) -> Case {
     let mut pool = Pool::default();
     for _ in 0..rng.between(1, 4) {
         let size = random_size(rng).min(80);

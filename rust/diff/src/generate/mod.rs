@@ -4,6 +4,7 @@ pub mod damage;
 pub mod edges;
 pub mod exhaustive;
 pub mod formats;
+pub mod rows;
 pub mod small_formats;
 pub mod trees;
 pub mod words;

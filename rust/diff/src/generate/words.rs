@@ -50,6 +50,12 @@ pub fn fixed(emit: &mut Emit) {
     emit("fixed width", width(u64::MAX));
 }
 
+/// Each name and each code once, and the first number that is no code.
+pub fn few(emit: &mut Emit) {
+    NAMES.into_iter().for_each(|name| emit("parse", parse(name.as_bytes())));
+    (0..=20).for_each(|code| emit("fixed width", width(code)));
+}
+
 pub fn random_parse(rng: &mut Rng) -> Case {
     let mut name = rng.pick(&NAMES).as_bytes().to_vec();
     match rng.below(4) {

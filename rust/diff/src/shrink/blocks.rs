@@ -48,7 +48,7 @@ pub fn candidates(case: &Case, found: &mut Vec<Case>) {
 }
 
 /// Stretches of `count` things to leave out: all, halves, quarters and so on to single ones.
-fn stretches(count: usize) -> Vec<(usize, usize)> {
+pub fn stretches(count: usize) -> Vec<(usize, usize)> {
     let mut found = Vec::new();
     let mut length = count;
     let places = if count > MANY { FEW_PLACES } else { MOST_PLACES };

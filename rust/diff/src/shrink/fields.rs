@@ -12,6 +12,7 @@ pub fn candidates(case: &Case, found: &mut Vec<Case>) {
         |case: &mut Case| case.names.clear(),
         |case: &mut Case| case.references.clear(),
         |case: &mut Case| case.registry.clear(),
+        |case: &mut Case| case.input.clear(),
         |case: &mut Case| case.names.fill(b'a'),
         unname_all,
     ] {
@@ -89,11 +90,12 @@ fn records(case: &Case, found: &mut Vec<Case>) {
 }
 
 fn single_bytes(case: &Case, found: &mut Vec<Case>) {
-    let parts: [fn(&mut Case) -> &mut Vec<u8>; 4] = [
+    let parts: [fn(&mut Case) -> &mut Vec<u8>; 5] = [
         |case| &mut case.records,
         |case| &mut case.names,
         |case| &mut case.references,
         |case| &mut case.registry,
+        |case| &mut case.input,
     ];
     for part in parts {
         // A ragged tail may be shorter; whole records go elsewhere.

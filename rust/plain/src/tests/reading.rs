@@ -48,8 +48,7 @@ fn schema_a() -> Made {
 
 /// Document 01's B: tuple("v" repeated_variant8(boolean, int8)).
 fn schema_b() -> Made {
-    let rows =
-        [(19, 0, 0, 0, 1, 1), (17, 1, 1, 0, 2, 2), (1, 0, 0, 0, 0, 0), (2, 0, 0, 0, 0, 0)];
+    let rows = [(19, 0, 0, 0, 1, 1), (17, 1, 1, 0, 2, 2), (1, 0, 0, 0, 0, 0), (2, 0, 0, 0, 0, 0)];
     Made::of(&[records(&rows)], b"v")
 }
 

@@ -3,7 +3,7 @@ use borrow.Author.Tests.{eq-eqb, ne-eqb, le-leb, lt-leb, not-true, not-false}
 use native.Mathlib.Omega.{arith}
 use Prim.Native.Nat.{_+_, _-_, _≤_}
 use mathlib.Core.Path.{_≡_, refl, _∙_}
-use mathlib.Core.Bool.{true, false}
+use mathlib.Core.Bool.{true}
 use Rattle.rules.specs.Choice.{_and_, all}
 use Rattle.rules.specs.Block.{earlier, recordAt, blockOk}
 use Rattle.rules.proofs.Tests.{all-false, all-more}

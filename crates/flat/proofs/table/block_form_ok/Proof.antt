@@ -1,5 +1,5 @@
 use borrow.Author.Needs.{needs}
-use mathlib.Core.Path.{sym, ap, _∙_}
+use mathlib.Core.Path.{sym, _∙_}
 use borrow.Author.Tests.{not-true, not-false, leb-true}
 use Rattle.rules.specs.Choice.{_and_}
 use Rattle.rules.specs.Format.{blockFormOk}

@@ -1,5 +1,4 @@
 use mathlib.Core.Path.{refl, sym, _∙_}
-use native.Mathlib.Omega.{arith}
 use Rattle.rules.specs.Block.{nodeAt}
 use Rattle.read.proofs.Root.{root-dear, root-paid, root-ready}
 use borrow.Author.Needs.{needs}
@@ -31,7 +30,7 @@ skip-children-requires : tie.Need-skip-children-requires
 unfolding nodeAt
 skip-children-requires c κs =
     let k = c .before .before .before .before .before .before .before .before .pre in
-    (record { sound = k .sound; inside = k .root; is = refl }, omega (arith, k .tuple), root-ready _ _ _ _ _ (c .before .before .before .before .before .new .ensures) _ (c .before .before .before .before .charge .ensures) _ (c .before .before .paid .given .1) k)
+    (record { sound = k .sound; inside = k .root; is = refl }, k .compound, root-ready _ _ _ _ _ (c .before .before .before .before .before .new .ensures) _ (c .before .before .before .before .charge .ensures) _ (c .before .before .paid .given .1) k)
 
 enum-known-s : tie.Need-enum-known-s
 enum-known-s c = search needs

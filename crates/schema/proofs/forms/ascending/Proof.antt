@@ -1,7 +1,6 @@
 use borrow.Author.Needs.{needs}
 use native.Mathlib.Omega.{arith}
-use mathlib.Core.Path.{_≡_, _∙_, ap}
-use Rattle.rules.specs.Format.{ascending, entryName}
+use Rattle.rules.specs.Format.{ascending}
 use Rattle.schema.proofs.Given.{ascending-suc}
 use Rattle.schema.proofs.forms.ascending.Statement.{statement}
 use Rattle.schema.proofs.forms.ascending.Tie as tie

@@ -1,0 +1,8 @@
+pub mod Agrees
+pub mod Children
+pub mod Codes
+pub mod Going
+pub mod Got
+pub mod Leaves
+pub mod Nexts
+pub mod Writes

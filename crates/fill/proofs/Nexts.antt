@@ -1,0 +1,56 @@
+-- A node's next child, from what the code reads of it.
+-- Assumes nothing.
+use Prim.Native.Nat.{ℕ, _+_, _≤_, _<_}
+use mathlib.Core.Path.{_≡_, sym, ap, _∙_}
+use mathlib.Core.Bool.{Bool, true, false}
+use mathlib.Core.List.{List}
+use borrow.Author.Tests.{lt-ltb, le-ltb}
+use lib.Dec.{eqb}
+use Rattle.rules.specs.Choice.{pick}
+use Rattle.rules.specs.Bytes.{leAt}
+use Rattle.rules.specs.Wire.{choice, series, fields, form, widthOf, endTag}
+use Rattle.fill.specs.declared.Next.the-variants.{Child, End}
+use Rattle.fill.specs.Filling.{nextOf}
+use Rattle.fill.proofs.Codes.{form-choice, form-series, form-fields}
+
+module _ (inp : List ℕ) (first count code i at : ℕ) where
+  -- a tuple has `count` children
+  pub next-field : code ≡ 19 → i < count → Child 0 (first + i) at ≡ nextOf inp first count (form code) i at
+  unfolding nextOf pick
+  next-field e h = rw (form-fields code e, lt-ltb i count h)
+
+  pub no-field : code ≡ 19 → count ≤ i → End at ≡ nextOf inp first count (form code) i at
+  unfolding nextOf pick
+  no-field e h = rw (form-fields code e, le-ltb i count h)
+
+  -- a variant has one
+  pub no-choice : 14 < code → code < 17 → 0 < i → End at ≡ nextOf inp first count (form code) i at
+  unfolding nextOf pick
+  no-choice h l z = rw (form-choice code h l, lt-ltb 0 i z)
+
+  module _ (tag w : ℕ) (is : tag ≡ leAt inp at (widthOf (form code))) (wide : w ≡ widthOf (form code)) where
+    same-tag : tag ≡ leAt inp at w
+    same-tag = is ∙ ap (leAt inp at) (sym wide)
+
+    pub next-choice : 14 < code → code < 17 → i ≤ 0 → Child tag (first + tag) (at + w) ≡ nextOf inp first count (form code) i at
+    unfolding nextOf pick
+    next-choice h l z =
+        let f : form code ≡ choice w = form-choice code h l ∙ ap choice (sym wide) in
+        rw (f, le-ltb 0 i z, same-tag)
+
+    -- a series has one unless the tag is the end
+    module _ (b : Bool) (h : 17 ≤ code) (l : code < 19) (e : b ≡ eqb tag (endTag (widthOf (form code)))) where
+      by-tag : nextOf inp first count (form code) i at ≡ pick b (End (at + w)) (Child tag (first + tag) (at + w))
+      unfolding nextOf
+      by-tag =
+          let f : form code ≡ series w = form-series code h l ∙ ap series (sym wide) in
+          let g : b ≡ eqb tag (endTag w) = e ∙ ap (λ (x : ℕ). eqb tag (endTag x)) (sym wide) in
+          rw (f, g, same-tag)
+
+      pub no-pair : b ≡ true → End (at + w) ≡ nextOf inp first count (form code) i at
+      unfolding pick
+      no-pair q = rw (by-tag, q)
+
+      pub next-pair : b ≡ false → Child tag (first + tag) (at + w) ≡ nextOf inp first count (form code) i at
+      unfolding pick
+      next-pair q = rw (by-tag, q)

@@ -1,0 +1,84 @@
+-- Laws of what is written: a number in two halves, a record by its fields, and a copy turn by turn.
+-- Assumes nothing.
+use Prim.Native.Nat.{ℕ, zero, suc, _+_, _-_, _*_, _/_, _%_, _≤_, _<_}
+use mathlib.Core.Path.{_≡_, refl, ap, _∙_}
+use mathlib.Core.List.{List, [], _∷_, _++_, append-assoc}
+use native.Mathlib.Omega.{arith}
+use native.Mathlib.Nat.{add-zero, sub-zero}
+use lib.ListN.{length, getD, set, length-append}
+use lib.Seq.{set-comm}
+use Rattle.rules.specs.Bytes.{le, part, over}
+use Rattle.rules.specs.ValueTable.{valueRecord}
+use Rattle.rules.proofs.Over.{over-at}
+use Rattle.rows.proofs.Stands.{length-le}
+use Rattle.wire.proofs.Parts.{part-step, part-end}
+
+-- a number in two halves
+pub le-two : (x : ℕ) → le 4 x ≡ le 2 x ++ le 2 (x / 65536)
+unfolding le
+le-two x =
+    let e : x / 256 / 256 ≡ x / 65536 = omega arith in
+    rw e
+
+pub le-four : (x : ℕ) → le 8 x ≡ le 4 x ++ le 4 (x / 4294967296)
+unfolding le
+le-four x =
+    let e : x / 256 / 256 / 256 / 256 ≡ x / 4294967296 = omega arith in
+    rw e
+
+-- two halves, one after the other
+pub halves : (s s′ s″ : List ℕ) (at n : ℕ) (a b all : List ℕ) → all ≡ a ++ b → length a ≡ n → s′ ≡ over s at a → s″ ≡ over s′ (at + n) b → s″ ≡ over s at all
+halves s s′ s″ at n a b all e l p q = rw (q, p, e, ← l) (over-at a b s at (at + length a) refl)
+
+-- a byte and a zero, as a number in two bytes
+byte-zero : (x : ℕ) → x < 256 → le 2 x ≡ x ∷ 0 ∷ []
+unfolding le
+byte-zero x h =
+    let e : x % 256 ≡ x = omega arith in
+    let f : x / 256 ≡ 0 = omega arith in
+    rw (e, f)
+
+-- the fields of a record, one after the other
+pub record-fields : (s : List ℕ) (at kind tag size x : ℕ) → kind < 256 → over (over (over (over s at (le 2 kind)) (at + 2) (le 2 tag)) (at + 4) (le 4 size)) (at + 8) (le 8 x) ≡ over s at (valueRecord kind tag size x)
+unfolding valueRecord
+record-fields s at kind tag size x h =
+    let a : length (le 2 kind) ≡ 2 = length-le 2 kind in
+    let b : length (le 2 kind ++ le 2 tag) ≡ 4 = simp (length-append, length-le) in
+    let c : length ((le 2 kind ++ le 2 tag) ++ le 4 size) ≡ 8 = simp (length-append, length-le) in
+    rw (over-at (le 2 kind) (le 2 tag) s at (at + 2) (omega arith), over-at (le 2 kind ++ le 2 tag) (le 4 size) s at (at + 4) (omega arith), over-at ((le 2 kind ++ le 2 tag) ++ le 4 size) (le 8 x) s at (at + 8) (omega arith), byte-zero kind h) (simp append-assoc)
+
+-- the first of what is written
+over-first : (s : List ℕ) (at x : ℕ) (xs : List ℕ) → over s at (x ∷ xs) ≡ over (set s at x) (at + 1) xs
+unfolding over
+over-first s at x xs = refl
+
+-- ---- a copy: what is left to write, over what is written, is the whole
+module _ (src dst : List ℕ) (from at n : ℕ) where
+  pub copy-none : over dst (at + 0) (part src (from + 0) (n - 0)) ≡ over dst at (part src from n)
+  copy-none = simp (add-zero, sub-zero)
+
+  pub copy-turn : (k : ℕ) → k < n → over dst (at + k) (part src (from + k) (n - k)) ≡ over (set dst (at + k) (getD src (from + k) 0)) (at + (k + 1)) (part src (from + (k + 1)) (n - (k + 1)))
+  copy-turn k h =
+      let e : (at + k) + 1 ≡ at + (k + 1) = omega arith in
+      rw (part-step src from n k h, over-first, e)
+
+  pub copy-end : (k : ℕ) → n ≤ k → over dst (at + k) (part src (from + k) (n - k)) ≡ dst
+  unfolding over
+  copy-end k h = rw (part-end src (from + k) n k h)
+
+-- ---- a front that is written last
+
+-- a store before what is written may as well be made first
+set-over : (xs s : List ℕ) (at i b : ℕ) → i < at → set (over s at xs) i b ≡ over (set s i b) at xs
+unfolding over
+set-over [] s at i b h = refl
+set-over (x ∷ xs) s at i b h =
+    set-over xs (set s at x) (at + 1) i b (omega arith)
+    ∙ ap (λ (l : List ℕ). over l (at + 1) xs) (set-comm s at i x b (λ e. omega arith))
+
+pub over-front : (xs ys s : List ℕ) (at : ℕ) → over (over s (at + length xs) ys) at xs ≡ over s at (xs ++ ys)
+unfolding over
+over-front [] ys s at = rw add-zero
+over-front (x ∷ xs) ys s at =
+    let e : at + suc (length xs) ≡ (at + 1) + length xs = omega arith in
+    rw e (ap (λ (l : List ℕ). over l (at + 1) xs) (set-over ys s ((at + 1) + length xs) at x (omega arith)) ∙ over-front xs ys (set s at x) (at + 1))

@@ -1,0 +1,16 @@
+use native.Mathlib.Omega.{arith}
+use borrow.Author.Tests.{lt-ltb}
+use Rattle.rules.specs.ValueTable.{bit}
+use Rattle.fill.proofs.truth.Statement.{statement}
+use Rattle.fill.proofs.truth.Tie as tie
+
+returns : tie.Need-returns
+unfolding bit
+returns c = rw (c .if1 .taken)
+
+returns-2 : tie.Need-returns-2
+unfolding bit
+returns-2 c = rw (lt-ltb 0 (c .before .args .x) (omega (arith, c .if1 .left)))
+
+pub truth-spec : {M : Type 1} → statement M
+truth-spec = tie.close (tie.spec returns returns-2)

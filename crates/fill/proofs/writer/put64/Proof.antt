@@ -1,0 +1,25 @@
+use borrow.Author.Needs.{needs}
+use Rattle.fill.proofs.Writes.{le-four, halves}
+use Rattle.rows.proofs.Stands.{length-le}
+use Rattle.fill.proofs.writer.put64.Statement.{statement}
+use Rattle.fill.proofs.writer.put64.Tie as tie
+
+put32-requires : tie.Need-put32-requires
+put32-requires c κs = search needs
+
+add-put32 : tie.Need-add-put32
+add-put32 c = search needs
+
+put32-requires-2 : tie.Need-put32-requires-2
+put32-requires-2 c κs = search needs
+
+same-length : tie.Need-same-length
+same-length c = search needs
+
+returns : tie.Need-returns
+returns c =
+    let first = c .before .before .before .before .before .before in
+    halves _ _ _ _ _ _ _ _ (le-four _) (length-le _ _) (first .put32 .ensures) (c .before .before .put322 .ensures)
+
+pub put64-spec : {M : Type 1} → statement M
+put64-spec = tie.close (tie.spec put32-requires add-put32 put32-requires-2 same-length returns)

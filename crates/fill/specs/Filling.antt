@@ -1,0 +1,72 @@
+-- What filling leaves: the records and the payload bytes of the value that was read, over what stood there.
+-- Assumes nothing: these are definitions.
+use Prim.Native.Nat.{ℕ, zero, suc, _+_, _*_, _≤_}
+use mathlib.Core.Path.{_≡_}
+use mathlib.Core.List.{List}
+use lib.ListN.{length}
+use lib.Dec.{ltb, eqb}
+use Rattle.rules.specs.Choice.{pick}
+use Rattle.rules.specs.Bytes.{leAt, over}
+use Rattle.rules.specs.Wire.{Form, empty, truth, fixed, raw, sized, choice, series, fields, unknown, endTag}
+use Rattle.rules.specs.Value.{Value, recordsOf, payloadOf}
+use Rattle.rules.specs.ValueTable.{bit, pays, flat}
+use Rattle.fill.specs.Plain.{Reading, IsGot, valueOf, endOf}
+use Rattle.fill.specs.declared.Spot.{Spot}
+use Rattle.fill.specs.declared.Next.{Next}
+use Rattle.fill.specs.declared.Next.the-variants.{Child, End}
+
+-- a value was read, and n bytes have room for its records and m for its payload, from a spot on
+pub record Room (x : Reading Value) (s : Spot) (n m : ℕ) : Type 0 where
+  pub is : IsGot x
+  pub records : (s .records + recordsOf (valueOf x)) * 16 ≤ n
+  pub payload : s .payload + payloadOf (valueOf x) ≤ m
+
+-- a place of the input, and the starts of both slices
+abbrev pub start : ℕ → Spot
+start at = record { at = at; records = 0; payload = 0 }
+
+-- where the value leaves off
+unfoldable pub past : Reading Value → Spot → Spot
+past x s = record { at = endOf x; records = s .records + recordsOf (valueOf x); payload = s .payload + payloadOf (valueOf x) }
+
+-- the value's table stands from a spot on, under the tag by which its parent chose it, over what stood there; q is past it
+pub record Filled (x : Reading Value) (tag : ℕ) (s q : Spot) (rs rs′ ps ps′ : List ℕ) : Type 0 where
+  pub spot : q ≡ past x s
+  pub records : rs′ ≡ over rs (s .records * 16) (flat (valueOf x) tag (s .payload))
+  pub payload : ps′ ≡ over ps (s .payload) (pays (valueOf x))
+
+-- ---- steps
+
+-- what a record holds of a scalar of w bytes: these, and of a boolean 0 or 1 whatever nonzero byte stood there
+unfoldable pub scalarOf : List ℕ → ℕ → ℕ → ℕ → ℕ
+scalarOf inp code w at = pick (eqb code 1) (bit (ltb 0 (leAt inp at w))) (leAt inp at w)
+
+-- how many bytes the tag of the child after i others has
+unfoldable pub tagBytes : Form → ℕ → ℕ
+tagBytes (choice w) zero = w
+tagBytes (choice w) (suc i) = 0
+tagBytes (series w) i = w
+tagBytes empty i = 0
+tagBytes truth i = 0
+tagBytes (fixed w) i = 0
+tagBytes (raw w) i = 0
+tagBytes sized i = 0
+tagBytes fields i = 0
+tagBytes unknown i = 0
+
+module _ (inp : List ℕ) (first count : ℕ) where
+  -- the child that the tag of w bytes names
+  abbrev pub tagged : ℕ → ℕ → Next
+  tagged w at = Child (leAt inp at w) (first + leAt inp at w) (at + w)
+
+  -- the child after i others
+  unfoldable pub nextOf : Form → ℕ → ℕ → Next
+  nextOf (choice w) i at = pick (ltb 0 i) (End at) (tagged w at)
+  nextOf (series w) i at = pick (eqb (leAt inp at w) (endTag w)) (End (at + w)) (tagged w at)
+  nextOf fields i at = pick (ltb i count) (Child 0 (first + i) at) (End at)
+  nextOf empty i at = End at
+  nextOf truth i at = End at
+  nextOf (fixed w) i at = End at
+  nextOf (raw w) i at = End at
+  nextOf sized i at = End at
+  nextOf unknown i at = End at

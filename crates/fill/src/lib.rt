@@ -1,0 +1,303 @@
+// The filling walk of decode: a row that was judged and accepted before is written as value records and payload bytes into
+// two lent slices. It cannot refuse, so it tests nothing but wire codes, end tags and counts: that every byte is there and
+// that there is room for it is what each function requires.
+ghost use mathlib.Core.Path.{_≡_};
+ghost use Prim.Native.Nat.{_+_, _-_, _*_, _^_, _≤_, _<_};
+ghost use lib.ListN.{length};
+ghost use lib.Dec.{ltb, eqb};
+ghost use Rattle.rules.specs.Bytes.{leAt, part, over};
+ghost use Rattle.rules.specs.Wire.{form, widthOf, endTag};
+ghost use Rattle.rules.specs.Block.{nodeAt, Closed};
+ghost use Rattle.rules.specs.ValueTable.{valueRecord, bit, pays, flat};
+ghost use Rattle.rules.specs.Writing.{kindFor};
+ghost use Rattle.fill.specs.Plain.{valueOf, leafAt, readAt};
+ghost use Rattle.fill.specs.Filling.{Room, Filled, start, scalarOf, tagBytes, nextOf};
+use self::writer::copy;
+use self::writer::put_record;
+use wire::field;
+use wire::u16_at;
+use wire::u32_at;
+use wire::wide;
+
+pub mod writer;
+
+// Where the walk stands: the next byte of the input, the next record, the next payload byte.
+pub struct Spot {
+    pub at: usize,
+    pub records: usize,
+    pub payload: usize,
+}
+
+// A node's next child, by the tag that it bears, its node and its first byte; or where the children end.
+pub enum Next {
+    Child(u64, usize, usize),
+    End(usize),
+}
+
+// ---- nodes without children
+
+// How many bytes a value has. An arm for every code, nothing's too: from that the compiler makes a jump table, and the
+// place of the next node does not wait for a load.
+fn fixed_width(code: u8) -> usize
+    requires { ⌜ code < 13 ⌝ }
+    ensures { λ r. ⌜ (r ≡ widthOf (form code)) × (r ≤ 32) ⌝ }
+{
+    match code {
+        0 => 0,
+        1 => 1,
+        2 => 1,
+        3 => 2,
+        4 => 4,
+        5 => 8,
+        6 => 16,
+        7 => 32,
+        8 => 1,
+        9 => 2,
+        10 => 4,
+        11 => 8,
+        12 => 8,
+        _ => 0,
+    }
+}
+
+fn truth(x: u64) -> u64
+    ensures { λ r. ⌜ r ≡ bit (ltb 0 x) ⌝ }
+{
+    if x == 0 { 0 } else { 1 }
+}
+
+// The wire bytes of a scalar as a number, and 1 for every boolean that is not 0.
+fn scalar_at(code: u8, input: &[u8], at: usize, width: usize) -> u64
+    requires { ⌜ (width ≤ 8) × (width ≤ length (now input) - at) ⌝ }
+    ensures { λ r. ⌜ r ≡ scalarOf (now (input .entry)) code width at ⌝ }
+{
+    // nothing may stand where the input ends
+    if width == 0 {
+        return 0;
+    }
+    let x = field(input, at, width);
+    if code == 1 {
+        return truth(x);
+    }
+    x
+}
+
+// A value whose n bytes from place `from` on are payload: they go straight from one slice into the other.
+fn fill_bytes(
+    code: u8,
+    input: &[u8],
+    from: usize,
+    n: usize,
+    tag: u64,
+    s: Spot,
+    records: &mut [u8],
+    payload: &mut [u8],
+) -> Spot
+    requires { ⌜ (from + n ≤ length (now input)) × ((s .records + 1) * 16 ≤ length (now records)) × (s .payload + n ≤ length (now payload)) ⌝ }
+    ensures spot { λ r. ⌜ r ≡ record { at = from + n; records = s .records + 1; payload = s .payload + n } ⌝ }
+    ensures records { λ _. ⌜ now (records .exit) ≡ over (now (records .entry)) (s .records * 16) (valueRecord code tag n (s .payload)) ⌝ }
+    ensures payload { λ _. ⌜ now (payload .exit) ≡ over (now (payload .entry)) (s .payload) (part (now (input .entry)) from n) ⌝ }
+{
+    let i = s.records;
+    let to = s.payload;
+    put_record(records, i, code, tag, n as u64, to as u64);
+    copy(input, from, n, payload, to);
+    Spot {
+        at: from + n,
+        records: i + 1,
+        payload: to + n,
+    }
+}
+
+fn fill_leaf(
+    code: u8,
+    input: &[u8],
+    tag: u64,
+    s: Spot,
+    records: &mut [u8],
+    payload: &mut [u8],
+) -> Spot
+    requires { ⌜ (code < 15) × Room (leafAt (now input) code (form code) (s .at)) s (length (now records)) (length (now payload)) ⌝ }
+    ensures { λ r. ⌜ Filled (leafAt (now (input .entry)) code (form code) (s .at)) tag s r (now (records .entry)) (now (records .exit)) (now (payload .entry)) (now (payload .exit)) ⌝ }
+{
+    let at = s.at;
+    if 12 < code {
+        let n = u32_at(input, at);
+        return fill_bytes(code, input, at + 4, n as usize, tag, s, records, payload);
+    }
+    let width = fixed_width(code);
+    if 8 < width {
+        return fill_bytes(code, input, at, width, tag, s, records, payload);
+    }
+    let i = s.records;
+    put_record(records, i, code, tag, 0, scalar_at(code, input, at, width));
+    Spot {
+        at: at + width,
+        records: i + 1,
+        payload: s.payload,
+    }
+}
+
+// ---- nodes with children
+
+// The codes of the types with a tag of one byte are odd.
+fn tag_width(code: u8) -> usize
+    requires { ⌜ (14 < code) × (code < 19) ⌝ }
+    ensures { λ r. ⌜ r ≡ widthOf (form code) ⌝ }
+{
+    if code % 2 == 1 { 1 } else { 2 }
+}
+
+fn tag_at(code: u8, input: &[u8], at: usize) -> u64
+    requires { ⌜ (14 < code) × (code < 19) × (at + widthOf (form code) ≤ length (now input)) ⌝ }
+    ensures { λ r. ⌜ (r ≡ leAt (now (input .entry)) at (widthOf (form code))) × (r < 65536) ⌝ }
+{
+    if code % 2 == 1 {
+        return wide(input[at]);
+    }
+    u16_at(input, at)
+}
+
+// Whether a tag ends the children: the largest one of its width does, in the repeated types.
+fn ends(code: u8, tag: u64) -> bool
+    requires { ⌜ (16 < code) × (code < 19) ⌝ }
+    ensures { λ r. ⌜ r ≡ eqb tag (endTag (widthOf (form code))) ⌝ }
+{
+    if code == 17 {
+        return tag == 255;
+    }
+    tag == 65535
+}
+
+// The child after i others. A variant has one child, a tuple `count`, and the repeated types have children up to the end tag.
+fn next_child(code: u8, first: usize, count: usize, input: &[u8], i: usize, at: usize) -> Next
+    requires { ⌜ (14 < code) × (code < 20) × ((first + count) * 16 < 2 ^ 64) × (tagBytes (form code) i ≤ length (now input) - at) ⌝ }
+    ensures { λ r. ⌜ r ≡ nextOf (now (input .entry)) first count (form code) i at ⌝ }
+{
+    if code == 19 {
+        if i < count {
+            return Next::Child(0, first + i, at);
+        }
+        return Next::End(at);
+    }
+    if code < 17 {
+        if 0 < i {
+            return Next::End(at);
+        }
+        let tag = tag_at(code, input, at);
+        return Next::Child(tag, first + tag as usize, at + tag_width(code));
+    }
+    let tag = tag_at(code, input, at);
+    let next = at + tag_width(code);
+    if ends(code, tag) {
+        return Next::End(next);
+    }
+    Next::Child(tag, first + tag as usize, next)
+}
+
+// The kind of a value record, from the wire code.
+fn kind_of(code: u8) -> u8
+    requires { ⌜ (14 < code) × (code < 20) ⌝ }
+    ensures { λ r. ⌜ r ≡ kindFor code (form code) ⌝ }
+{
+    if code < 17 {
+        return 15;
+    }
+    if code < 19 {
+        return 16;
+    }
+    17
+}
+
+// The children of a node, and then the node's own record: it stands before theirs, and has their count.
+fn fill_children(
+    block: &[u8],
+    node: usize,
+    depth: usize,
+    input: &[u8],
+    tag: u64,
+    s: Spot,
+    records: &mut [u8],
+    payload: &mut [u8],
+) -> Spot
+    requires { ⌜ Closed (now block) × (node * 16 + 16 ≤ length (now block)) × (14 < nodeAt (now block) node .code) × Room (readAt (now block) (now input) depth node (s .at)) s (length (now records)) (length (now payload)) ⌝ }
+    ensures { λ r. ⌜ Filled (readAt (now (block .entry)) (now (input .entry)) depth node (s .at)) tag s r (now (records .entry)) (now (records .exit)) (now (payload .entry)) (now (payload .exit)) ⌝ }
+{
+    let code = block[node * 16];
+    let first = u32_at(block, node * 16 + 8) as usize;
+    let count = u32_at(block, node * 16 + 12) as usize;
+    let own = s.records;
+    let mut at = s.at;
+    let mut filled = own + 1;
+    let mut paid = s.payload;
+    let mut n = 0;
+    loop {
+        let next = next_child(code, first, count, input, n, at);
+        match next {
+            Next::Child(bears, child, start) => {
+                let from = Spot {
+                    at: start,
+                    records: filled,
+                    payload: paid,
+                };
+                let q = fill_value(
+                    block,
+                    child,
+                    depth - 1,
+                    input,
+                    bears,
+                    from,
+                    records,
+                    payload,
+                );
+                at = q.at;
+                filled = q.records;
+                paid = q.payload;
+                n += 1;
+            }
+            Next::End(end) => {
+                put_record(records, own, kind_of(code), tag, n as u64, 0);
+                return Spot {
+                    at: end,
+                    records: filled,
+                    payload: paid,
+                };
+            }
+        }
+    }
+}
+
+// A node and all below it, as the child that its parent chose by `tag`.
+pub fn fill_value(
+    block: &[u8],
+    node: usize,
+    depth: usize,
+    input: &[u8],
+    tag: u64,
+    s: Spot,
+    records: &mut [u8],
+    payload: &mut [u8],
+) -> Spot
+    requires { ⌜ Closed (now block) × (node * 16 + 16 ≤ length (now block)) × Room (readAt (now block) (now input) depth node (s .at)) s (length (now records)) (length (now payload)) ⌝ }
+    ensures { λ r. ⌜ Filled (readAt (now (block .entry)) (now (input .entry)) depth node (s .at)) tag s r (now (records .entry)) (now (records .exit)) (now (payload .entry)) (now (payload .exit)) ⌝ }
+{
+    let code = block[node * 16];
+    if code < 15 {
+        return fill_leaf(code, input, tag, s, records, payload);
+    }
+    fill_children(block, node, depth, input, tag, s, records, payload)
+}
+
+// A row's root, from place `at` on, where both slices start: what decode leaves.
+pub fn fill_row(block: &[u8], input: &[u8], at: usize, records: &mut [u8], payload: &mut [u8])
+    requires { ⌜ Closed (now block) × (16 ≤ length (now block)) × Room (readAt (now block) (now input) 64 0 at) (start at) (length (now records)) (length (now payload)) ⌝ }
+    ensures records { λ _. ⌜ now (records .exit) ≡ over (now (records .entry)) 0 (flat (valueOf (readAt (now (block .entry)) (now (input .entry)) 64 0 at)) 0 0) ⌝ }
+    ensures payload { λ _. ⌜ now (payload .exit) ≡ over (now (payload .entry)) 0 (pays (valueOf (readAt (now (block .entry)) (now (input .entry)) 64 0 at))) ⌝ }
+{
+    let s = Spot {
+        at,
+        records: 0,
+        payload: 0,
+    };
+    fill_value(block, 0, 64, input, 0, s, records, payload);
+}

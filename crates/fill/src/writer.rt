@@ -1,0 +1,61 @@
+// The one writer of value records, and the copying of payload bytes.
+ghost use mathlib.Core.Path.{_≡_};
+ghost use Prim.Native.Nat.{_+_, _*_, _≤_};
+ghost use lib.ListN.{length};
+ghost use Rattle.rules.specs.Bytes.{le, part, over};
+ghost use Rattle.rules.specs.ValueTable.{valueRecord};
+use wire::wide;
+
+// The bytes of a value record. Room is counted in it.
+pub const RECORD: usize = 16;
+
+// Byte by byte, little-endian: a compiler makes one store of it, and of each wider one.
+fn put16(s: &mut [u8], at: usize, x: u64)
+    requires { ⌜ at + 2 ≤ length (now s) ⌝ }
+    ensures { λ _. ⌜ now (s .exit) ≡ over (now (s .entry)) at (le 2 x) ⌝ }
+{
+    let high = x / 256;
+    s[at] = (x % 256) as u8;
+    s[at + 1] = (high % 256) as u8;
+}
+
+fn put32(s: &mut [u8], at: usize, x: u64)
+    requires { ⌜ at + 4 ≤ length (now s) ⌝ }
+    ensures { λ _. ⌜ now (s .exit) ≡ over (now (s .entry)) at (le 4 x) ⌝ }
+{
+    put16(s, at, x);
+    put16(s, at + 2, x / 65536);
+}
+
+fn put64(s: &mut [u8], at: usize, x: u64)
+    requires { ⌜ at + 8 ≤ length (now s) ⌝ }
+    ensures { λ _. ⌜ now (s .exit) ≡ over (now (s .entry)) at (le 8 x) ⌝ }
+{
+    put32(s, at, x);
+    put32(s, at + 4, x / 4294967296);
+}
+
+// Record i. `size` is a child count or a payload length, `data` a payload's start or a scalar's wire bytes.
+pub fn put_record(records: &mut [u8], i: usize, kind: u8, tag: u64, size: u64, data: u64)
+    requires { ⌜ i * 16 + 16 ≤ length (now records) ⌝ }
+    ensures { λ _. ⌜ now (records .exit) ≡ over (now (records .entry)) (i * 16) (valueRecord kind tag size «data») ⌝ }
+{
+    let at = i * RECORD;
+    // the kind, and the zero above it
+    put16(records, at, wide(kind));
+    put16(records, at + 2, tag);
+    put32(records, at + 4, size);
+    put64(records, at + 8, data);
+}
+
+// n bytes of the input from place `from` on, into the payload store from place `to` on.
+pub fn copy(input: &[u8], from: usize, n: usize, payload: &mut [u8], to: usize)
+    requires { ⌜ (from + n ≤ length (now input)) × (to + n ≤ length (now payload)) ⌝ }
+    ensures { λ _. ⌜ now (payload .exit) ≡ over (now (payload .entry)) to (part (now (input .entry)) from n) ⌝ }
+{
+    let mut k = 0;
+    while k < n {
+        payload[to + k] = input[from + k];
+        k += 1;
+    }
+}

@@ -1,0 +1,137 @@
+-- A row of a checked format, step by step.
+-- Assumes nothing.
+use Prim.Native.Nat.{ℕ, _+_, _-_, _*_, _/_, _^_, _≤_, _<_}
+use mathlib.Core.Path.{_≡_, refl, sym, _∙_, ap}
+use mathlib.Core.Bool.{Bool, true, false}
+use mathlib.Core.List.{List, []}
+use native.Mathlib.Omega.{arith}
+use borrow.Author.Tests.{le-leb, lt-leb}
+use lib.ListN.{length, take, drop}
+use Rattle.rules.specs.Choice.{pick}
+use Rattle.rules.specs.Bytes.{leAt, Bytes}
+use Rattle.rules.specs.Schema.{Schema, TableRoot}
+use Rattle.rules.specs.Block.{nodeAt, records, block, Denotes, denotes}
+use Rattle.rules.specs.Format.{Format, tables, tableSchema}
+use Rattle.rules.specs.Value.{Value}
+use Rattle.rules.specs.Walk as rule
+use Rattle.rules.specs.Walk.{Limits, Answer, Got, numberOf, walk, after, _>>=_}
+use Rattle.rules.specs.Reading.{limits, start, rootFrom, rowAt, extent, skipped}
+use Rattle.rules.specs.declared.Settings.{Settings}
+use Rattle.rules.specs.declared.Refusal.{Refusal}
+use Rattle.rules.specs.declared.Refusal.the-variants.{Truncated, MissingTableSchema, UnknownRegistryReference}
+use Rattle.rules.specs.declared.Located.{Located}
+use Rattle.rules.specs.declared.Located.the-variants.{Block, NoTable, NoEntry}
+use Rattle.rules.specs.declared.Extent.{Extent}
+use Rattle.rules.specs.declared.Read.{Read}
+use Rattle.rules.specs.declared.Read.the-variants.{Row}
+use Rattle.blocks.proofs.Tables.{TableSchema, table-schema}
+use Rattle.rows.proofs.TableRows.{located}
+use Rattle.rows.proofs.Sound.{sound}
+use Rattle.schema.specs.Slices.{slices}
+use Rattle.read.specs.declared.walk.Pos.{Pos}
+use Rattle.read.specs.declared.walk.Skipped.{Skipped}
+use Rattle.read.specs.declared.walk.Skipped.the-variants.{At, Refused}
+use Rattle.read.specs.Skim.{placed, skimmed}
+use Rattle.read.proofs.Nodes.{formed-sound}
+use Rattle.stream.specs.Rows.{Asked, Walkable, rowIn, noValue}
+
+-- the stream ends in the table tag
+pub row-cut : (f : Format) (inp : List ℕ) (lim : Limits) (at : ℕ) → length inp - at < 2 → Read.Refused (Truncated 17 at) ≡ skipped at (rowAt f inp lim at)
+unfolding rowAt numberOf start pick _>>=_ skipped
+row-cut f inp lim at h = rw (lt-leb 2 (length inp - at) h)
+
+-- where a table's schema stands does not depend on the record table
+schema-any : (table names references registry : List ℕ) (t : ℕ) → tableSchema (slices [] names references registry) t ≡ tableSchema (slices table names references registry) t
+unfolding tableSchema
+schema-any table names references registry t = refl
+
+-- the root of a table's schema is a tuple
+root-code : (s store : List ℕ) {t : Schema} → Denotes s store 0 t → TableRoot t → nodeAt s 0 .code ≡ 19
+unfolding TableRoot
+root-code s store (denotes l k m a) r = k ∙ r .0
+
+module _ (table names references registry inp : List ℕ) (lim : Limits) (at t : ℕ) (l : Located) (h : 2 ≤ length inp - at) (is : t ≡ leAt inp at 2) (found : l ≡ tableSchema (slices [] names references registry) t) where
+  tagged : skipped at (rowAt (slices table names references registry) inp lim at) ≡ skipped at (rootFrom (slices table names references registry) inp lim at t l (start lim (at + 2)))
+  unfolding rowAt numberOf start pick _>>=_
+  tagged = rw (le-leb 2 (length inp - at) h, ← is, ← schema-any table names references registry t, found)
+
+  pub row-block : (first n : ℕ) → l ≡ Block first n → rowIn table inp lim at t first n ≡ skipped at (rowAt (slices table names references registry) inp lim at)
+  unfolding rootFrom rowIn
+  row-block first n e = sym (tagged ∙ rw e)
+
+  pub row-missing : l ≡ NoTable → Read.Refused (MissingTableSchema t at) ≡ skipped at (rowAt (slices table names references registry) inp lim at)
+  unfolding rootFrom skipped
+  row-missing e = sym (tagged ∙ rw e)
+
+  pub row-unknown : l ≡ NoEntry → Read.Refused (UnknownRegistryReference t) ≡ skipped at (rowAt (slices table names references registry) inp lim at)
+  unfolding rootFrom skipped
+  row-unknown e = sym (tagged ∙ rw e)
+
+  -- the block that is found can be walked along
+  pub walkable : (s : Settings) → Asked (slices table names references registry) inp s → (first n : ℕ) → l ≡ Block first n → Walkable table inp at first n s
+  walkable s ok first n e =
+      let w : tableSchema (slices table names references registry) t ≡ Block first n = sym (schema-any table names references registry t) ∙ sym found ∙ e in
+      let b = table-schema (slices table names references registry) (ok .accepted) t (located (slices table names references registry) t first n w) in
+      let v = sym (b .stands) ∙ w in
+      let x : b .first ≡ first = cc in
+      let y : b .count ≡ n = cc in
+      let g = b .good in
+      let f = rw (x, y) at (g .formed) in
+      let d = rw (x, y) at (b .denotes) in
+      record {
+        within = rw (x, y) at (g .inside);
+        rooted = record {
+          sound = formed-sound (block table first n) (length names) f;
+          root = omega (arith, f .order .size);
+          compound = omega (arith, root-code (block table first n) names d (b .root));
+          accepted = ok .settings;
+          short = ok .short;
+          within = omega arith;
+        };
+      }
+
+-- ---- the root's value
+pub part-block : (table : List ℕ) (first n : ℕ) → take (first * 16 + n * 16 - first * 16) (drop (first * 16) table) ≡ block table first n
+unfolding block
+part-block table first n =
+    let e : first * 16 + n * 16 - first * 16 ≡ n * 16 = omega arith in
+    rw e
+
+module _ (table inp : List ℕ) (lim : Limits) (at t first n : ℕ) (s : Skipped) (is : s ≡ skimmed lim (walk (block table first n) inp lim 64 0 (start lim (at + 2)))) where
+  pub value-refused : (r : Refusal) → s ≡ Refused r → noValue s ≡ rowIn table inp lim at t first n
+  unfolding noValue rowIn skimmed skipped _>>=_
+  value-refused r e = by (walk (block table first n) inp lim 64 0 (start lim (at + 2))) (sym is ∙ e)
+    where
+      by : (a : Answer Value) → skimmed lim a ≡ Refused r → noValue s ≡ skipped at (a >>= λ z. Got (t, z .0) (z .1))
+      by (Got v q) x = absurd (omega (arith, differ x))
+        where
+          differ : At (placed lim q) ≡ Refused r → _≡_ {A = ℕ} 0 1
+          differ x = cc
+      by (rule.Refused y) x = let z : r ≡ y = cc in rw (e, z)
+
+  pub value-row : (p : Pos) → s ≡ At p → Row (record { table = t; bytes = p .at - at; records = p .records; payload = p .payload }) ≡ rowIn table inp lim at t first n
+  unfolding rowIn skimmed skipped _>>=_ extent placed
+  value-row p e = by (walk (block table first n) inp lim 64 0 (start lim (at + 2))) (sym is ∙ e)
+    where
+      by : (a : Answer Value) → skimmed lim a ≡ At p → Row (record { table = t; bytes = p .at - at; records = p .records; payload = p .payload }) ≡ skipped at (a >>= λ z. Got (t, z .0) (z .1))
+      by (Got v q) x = let z : p ≡ placed lim q = cc in rw z
+      by (rule.Refused y) x = absurd (omega (arith, differ x))
+        where
+          differ : Refused y ≡ At p → _≡_ {A = ℕ} 0 1
+          differ x = cc
+
+  -- it ends past the table tag, in the input
+  pub value-ends : Bytes inp → at + 2 ≤ length inp → (p : Pos) → s ≡ At p → at + 2 ≤ p .at
+  unfolding skimmed placed start after
+  value-ends bs h p e = by (walk (block table first n) inp lim 64 0 (start lim (at + 2))) refl (sym is ∙ e)
+    where
+      by : (a : Answer Value) → walk (block table first n) inp lim 64 0 (start lim (at + 2)) ≡ a → skimmed lim a ≡ At p → at + 2 ≤ p .at
+      by (Got v q) w x =
+          let z : p ≡ placed lim q = cc in
+          let d = sound inp lim bs (block table first n) [] 64 0 (start lim (at + 2)) q v h w in
+          let y : q .at ≡ (at + 2) + length (d .bytes) = ap (λ (g : rule.Pos). g .at) (d .ends) in
+          rw z (omega arith)
+      by (rule.Refused y) w x = absurd (omega (arith, differ x))
+        where
+          differ : Refused y ≡ At p → _≡_ {A = ℕ} 0 1
+          differ x = cc

@@ -1,0 +1,108 @@
+//! bench: what skiff_run costs beside a driver over the original's skip_row, on the same bytes; and what
+//! the check of a format costs by its records.
+
+mod schemas;
+mod timing;
+
+use std::process::ExitCode;
+
+use schemas::ALL;
+use timing::{best_of, check_library, check_original, original, run_library, run_original};
+
+const USAGE: &str = "\
+usage: bench [rows|growth|format] [--runs N] [--rows N]
+  rows    each schema, 1,000,000 rows of A and N (300,000) of the others
+  growth  10,000 to 1,000,000 rows of schema A
+  format  the check of formats of 1,024 to 131,072 records
+  all three without a word. Times are the best of N (15) runs, in processor time";
+
+const CLIENT_ROWS: u64 = 1_000_000;
+
+struct Options {
+    words: Vec<String>,
+    runs: u32,
+    rows: u64,
+}
+
+fn options() -> Option<Options> {
+    let mut options = Options { words: Vec::new(), runs: 15, rows: 300_000 };
+    let mut given = std::env::args().skip(1);
+    while let Some(word) = given.next() {
+        match word.as_str() {
+            "--runs" => options.runs = given.next()?.parse().ok()?,
+            "--rows" => options.rows = given.next()?.parse().ok()?,
+            "rows" | "growth" | "format" => options.words.push(word),
+            _ => return None,
+        }
+    }
+    Some(options)
+}
+
+fn main() -> ExitCode {
+    let Some(options) = options() else {
+        eprintln!("{USAGE}");
+        return ExitCode::from(2);
+    };
+    if cfg!(feature = "double") {
+        println!("THIS IS A TEST DOUBLE: its times say nothing of the library");
+    }
+    let wants = |word: &str| options.words.is_empty() || options.words.iter().any(|given| given == word);
+    println!("best of {} runs, processor time", options.runs);
+    if wants("rows") {
+        rows(&options);
+    }
+    if wants("growth") {
+        growth(&options);
+    }
+    if wants("format") {
+        format(&options);
+    }
+    ExitCode::SUCCESS
+}
+
+/// Nanoseconds a row of both sides over one stream.
+fn per_row(options: &Options, schema: usize, rows: u64) -> (f64, f64, usize) {
+    let case = ALL[schema].stream(rows);
+    let format = original(&case);
+    let original = || run_original(&case, &format, rows);
+    let best = best_of(options.runs, original, || run_library(&case, rows));
+    (best.original / rows as f64, best.library / rows as f64, case.input.len())
+}
+
+fn rows(options: &Options) {
+    println!("\n{:46} {:>8} {:>9} {:>9} {:>6}", "ns/row", "bytes", "original", "library", "ratio");
+    for (index, schema) in ALL.iter().enumerate() {
+        let rows = if index == 0 { CLIENT_ROWS } else { options.rows };
+        let (original, library, bytes) = per_row(options, index, rows);
+        let (name, length, ratio) = (schema.name, bytes as f64 / rows as f64, library / original);
+        println!("{name:46} {length:8.1} {original:9.1} {library:9.1} {ratio:6.2}");
+    }
+}
+
+fn growth(options: &Options) {
+    println!("\n{:46} {:>8} {:>9} {:>9} {:>6}", "schema A, ns/row", "rows", "original", "library", "ratio");
+    for rows in [10_000, 100_000, 1_000_000] {
+        let (original, library, _) = per_row(options, 0, rows);
+        println!("{:46} {rows:8} {original:9.1} {library:9.1} {:6.2}", "", library / original);
+    }
+}
+
+/// The growth is the time a record takes here, over what it took in the smallest block.
+fn format(options: &Options) {
+    println!(
+        "\n{:>8} {:>12} {:>10} {:>7} {:>22}",
+        "records", "check, us", "ns/record", "growth", "original, ns/record"
+    );
+    let mut smallest = None;
+    for records in diff::bench::RECORDS {
+        let case = diff::bench::case(records);
+        let format = original(&case);
+        let repetitions = (131_072 / records) as u32;
+        let original = || check_original(&format, repetitions);
+        let best = best_of(options.runs, original, || check_library(&case, repetitions));
+        let (library, tree) = (best.library / records as f64, best.original / records as f64);
+        let growth = library / *smallest.get_or_insert(library);
+        println!("{records:8} {:12.1} {library:10.2} {growth:7.2} {tree:22.2}", best.library / 1_000.0);
+    }
+    println!("(the original checks trees that stand already; the library checks the flat tables themselves)");
+}

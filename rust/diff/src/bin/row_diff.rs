@@ -1,0 +1,98 @@
+//! row-diff: the library's reading calls against the plain reading and the original, in one process.
+
+use std::process::ExitCode;
+use std::{env, fs};
+
+use diff::case::Case;
+use diff::in_process::{huge, run, Asked, Stop, Verdict};
+use diff::show::describe;
+use diff::shrink::shrink;
+
+const USAGE: &str = "\
+usage: row-diff [--count N] [--seed N] [--save FILE]
+  puts N cases (5,000,000 by default) to skiff_skip and skiff_run, and compares the number returned and
+  every byte of the answer slice. --save writes the smallest differing case found, for schema-diff show";
+
+struct Options {
+    count: u64,
+    seed: u64,
+    save: Option<String>,
+}
+
+fn options() -> Result<Options, String> {
+    let mut options = Options { count: 5_000_000, seed: 1, save: None };
+    let mut given = env::args().skip(1);
+    while let Some(word) = given.next() {
+        let value = given.next().ok_or(USAGE)?;
+        let number = || value.parse::<u64>().map_err(|_| format!("{word} wants a number, not {value}"));
+        match word.as_str() {
+            "--count" => options.count = number()?,
+            "--seed" => options.seed = number()?,
+            "--save" => options.save = Some(value),
+            _ => return Err(USAGE.to_owned()),
+        }
+    }
+    Ok(options)
+}
+
+fn main() -> ExitCode {
+    options().and_then(|options| compare(&options)).unwrap_or_else(|message| {
+        eprintln!("row-diff: {message}");
+        ExitCode::from(2)
+    })
+}
+
+fn compare(options: &Options) -> Result<ExitCode, String> {
+    if cfg!(feature = "double") {
+        println!("THIS IS A TEST DOUBLE: nothing is said of the library");
+    }
+    println!("seed {}, node charge of the original {}", options.seed, diff::original::node_charge());
+    let tally = match run(options.seed, options.count) {
+        Ok(tally) => tally,
+        Err(Stop::Unmet(unmet)) => {
+            return Err(format!("all answers were right, but never met: {}", unmet.join(", ")));
+        }
+        Err(Stop::Difference(asked)) => {
+            report(options, *asked)?;
+            return Ok(ExitCode::from(1));
+        }
+    };
+    match huge::check() {
+        None => println!("SLICES OVER 4,294,967,295 BYTES WERE NOT TRIED: there is no room for one"),
+        Some(Ok(calls)) => println!("{calls} calls with slices of 4,294,967,295 bytes and one more: right"),
+        Some(Err(message)) => {
+            println!("DIFFERENCE: {message}");
+            return Ok(ExitCode::from(1));
+        }
+    }
+    println!("{tally} 0 differences");
+    Ok(ExitCode::SUCCESS)
+}
+
+/// Shrinks a differing case, prints it, and keeps it where that was asked for.
+fn report(options: &Options, asked: Asked) -> Result<(), String> {
+    let Asked { case, answer_bytes } = asked;
+    println!("DIFFERENCE in a case of {} bytes; looking for a smaller one", case.bytes());
+    let differs = |case: &Case| !Verdict::of(&Asked { case: case.clone(), answer_bytes }).is_good();
+    if !differs(&case) {
+        println!("it is answered rightly when asked again, so the library keeps something between calls");
+    }
+    let smallest = shrink(case, &mut |cases| cases.iter().map(differs).collect());
+    println!("smallest case found: {} bytes, answer slice of {answer_bytes}", smallest.bytes());
+    let asked = Asked { case: smallest, answer_bytes };
+    let verdict = Verdict::of(&asked);
+    println!("{}", describe(&asked.case));
+    println!("  library:  {}", verdict.got.in_words());
+    println!("  plain:    {}", verdict.wanted.in_words());
+    match verdict.expected.original {
+        Some(said) => println!("  original: {said}"),
+        None => println!("  original: outside its domain"),
+    }
+    if let Some(file) = &options.save {
+        let mut bytes = Vec::new();
+        asked.case.write_to(&mut bytes);
+        fs::write(file, bytes).map_err(|error| format!("{file}: {error}"))?;
+        println!("  saved as {file}");
+    }
+    Ok(())
+}

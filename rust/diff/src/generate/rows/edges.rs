@@ -1,0 +1,268 @@
+//! Document 01's rows, and both sides of every bound that a row can meet: wide tags, deep schemas, many
+//! tables, long blobs, settings and positions.
+
+use plain::settings::{Settings, MOST};
+
+use super::usual;
+use crate::case::{op, Case};
+use crate::generate::{Emit, Kind};
+use crate::plan::{chain, fan, inline, lay_out, put_name, table_of, words, Plan};
+
+const KIND: Kind = "reading edge";
+
+/// A format of inline tables.
+fn format(tables: &[Vec<Plan>]) -> Case {
+    let mut case = Case::default().with_settings(usual());
+    for plans in tables {
+        let block = lay_out(plans, &mut case.records, &mut case.names);
+        case.references.extend(inline(block));
+    }
+    case
+}
+
+/// tuple("page" uint8, "name" variant8(nothing, string32)).
+pub fn schema_a() -> Vec<Plan> {
+    let columns = [Plan::named(8, 0, b"page"), Plan::named(15, 2, b"name")];
+    [&[Plan::new(19, 2)], &columns[..], &[Plan::new(0, 0), Plan::new(13, 0)]].concat()
+}
+
+/// tuple("v" repeated_variant8(boolean, int8)).
+pub fn schema_b() -> Vec<Plan> {
+    vec![Plan::new(19, 1), Plan::named(17, 2, b"v"), Plan::new(1, 0), Plan::new(2, 0)]
+}
+
+/// Both calls, at each of some positions.
+fn read(format: &Case, input: &[u8], emit: &mut Emit) {
+    for a in [0, input.len() as u64, input.len() as u64 + 1] {
+        emit(KIND, Case { op: op::SKIP, a, input: input.to_vec(), ..format.clone() });
+    }
+    emit(KIND, Case { op: op::RUN, input: input.to_vec(), ..format.clone() });
+}
+
+/// The row of schema A that has everything.
+const FULL: [u8; 10] = [0, 0, 0x25, 1, 2, 0, 0, 0, 0xD1, 0xC5];
+
+fn document_rows(emit: &mut Emit) {
+    let a = format(&[schema_a()]);
+    let rows: [&[u8]; 6] = [&[], &[0], &[1, 0], &[0, 0], &[0, 0, 0x25, 0], &[0, 0, 0x25, 2]];
+    rows.into_iter().for_each(|row| read(&a, row, emit));
+    for length in 0..=FULL.len() {
+        read(&a, &FULL[..length], emit);
+        read(&a, &[&FULL[..], &FULL[..length]].concat(), emit);
+    }
+    for (max_blob_bytes, max_row_bytes) in [(2, 194), (2, 193), (1, 192), (1, 191), (0, 47), (0, 0)] {
+        read(&a.clone().with_settings(limits(max_blob_bytes, max_row_bytes)), &FULL, emit);
+    }
+    read(&a.clone().with_settings(limits(0, 0)), &[1, 0], emit);
+    let b = format(&[schema_b()]);
+    let rows: [&[u8]; 3] = [&[0, 0, 0, 7, 1, 0xFE, 0xFF], &[0, 0, 0xFF], &[0, 0, 2]];
+    rows.into_iter().for_each(|row| read(&b, row, emit));
+}
+
+fn limits(max_blob_bytes: u64, max_row_bytes: u64) -> Settings {
+    Settings { max_blob_bytes, max_row_bytes, ..usual() }
+}
+
+fn settings_and_positions(emit: &mut Emit) {
+    let a = format(&[schema_a()]);
+    for max_row_bytes in [0, 47, 48, 95, 96, 143, 144, 191, 192, 193, 194, 195] {
+        for max_blob_bytes in [0, 1, 2, 3] {
+            let case = a.clone().with_settings(limits(max_blob_bytes, max_row_bytes));
+            [&FULL[..], &FULL[..9], &[1, 0]].into_iter().for_each(|input| read(&case, input, emit));
+        }
+    }
+    let charges = [0, 1, 48, 4_095, 4_096, 4_097, (1 << 32) + 48, u64::MAX];
+    let bounds = [0, 1, 2, 194, 4_294_967_294, MOST, MOST + 1, u64::MAX];
+    for node_charge in charges {
+        for max_blob_bytes in bounds {
+            for max_row_bytes in bounds {
+                let settings = Settings { node_charge, max_blob_bytes, max_row_bytes };
+                read(&a.clone().with_settings(settings), &FULL, emit);
+            }
+        }
+    }
+    // A bad format, or none at all, beside a bad position, a bad setting and an end of stream.
+    let mut bad = a.clone();
+    bad.records[0] = 20;
+    let none = Case { references: Vec::new(), ..a.clone() };
+    for case in [&a, &bad, &none] {
+        for position in 0..=12 {
+            emit(KIND, Case { op: op::SKIP, a: position, input: FULL.to_vec(), ..case.clone() });
+        }
+        for position in [1 << 32, (1 << 32) + 10, u64::MAX] {
+            emit(KIND, Case { op: op::SKIP, a: position, input: FULL.to_vec(), ..case.clone() });
+        }
+        read(case, &[], emit);
+        read(&case.clone().with_settings(Settings { node_charge: 0, ..usual() }), &[], emit);
+    }
+}
+
+/// Length fields at the limits, with as many bytes behind them or not.
+fn blobs(emit: &mut Emit) {
+    for code in [13, 14] {
+        let column = format(&[table_of(&[Plan::new(code, 0)])]);
+        let lengths = [0, 1, 255, 256, 65_535, 65_536, 134_217_728, 134_217_729, u32::MAX - 1, u32::MAX];
+        for length in lengths {
+            let cost = 96 + u64::from(length);
+            let rows = [cost - 1, cost, cost + 1, 268_435_456, MOST];
+            for max_row_bytes in rows.into_iter().filter(|limit| *limit <= MOST) {
+                for blob in [u64::from(length).saturating_sub(1), u64::from(length), 134_217_728, MOST] {
+                    let case = column.clone().with_settings(limits(blob, max_row_bytes));
+                    let mut input = vec![0, 0];
+                    input.extend(length.to_le_bytes());
+                    read(&case, &input, emit);
+                    if length <= 65_536 {
+                        input.resize(6 + length as usize, 0x40);
+                        read(&case, &input[..input.len() - usize::from(length > 0)], emit);
+                        read(&case, &input, emit);
+                        input.push(0);
+                        read(&case, &input, emit);
+                    }
+                }
+            }
+        }
+    }
+}
+
+/// The largest tags, the end tags, and tags just past the children.
+fn tags(emit: &mut Emit) {
+    for (code, count) in [(15, 255), (15, 256), (17, 254), (17, 255)] {
+        let column = format(&[table_of(&fan(code, count, 8))]);
+        for tag in 252..=255 {
+            for end in [&[][..], &[7], &[7, 255], &[7, 255, 0, 0]] {
+                read(&column, &[&[0, 0, tag], end].concat(), emit);
+            }
+        }
+    }
+    for (code, count) in [(16, 65_535), (16, 65_536), (18, 65_534), (18, 65_535)] {
+        let column = format(&[table_of(&fan(code, count, 8))]);
+        for tag in [0, 255, 256, 65_533, 65_534, 65_535_u16] {
+            let [low, high] = tag.to_le_bytes();
+            read(&column, &[0, 0, low, high, 7, 255, 255], emit);
+        }
+    }
+    // Small ones again, in which a tag of two bytes is not its first byte.
+    for code in [16, 18] {
+        let column = format(&[table_of(&fan(code, 2, 8))]);
+        for tag in [0, 1, 2, 255, 256, 257, 0xFF00, 0xFFFE, 0xFFFF_u16] {
+            let [low, high] = tag.to_le_bytes();
+            read(&column, &[0, 0, low, high, 7, 255, 255], emit);
+        }
+    }
+}
+
+/// A chain of nodes of one type: tuples that cost nothing on the wire, variants, or lists of lists.
+fn deep(levels: usize, code: u8, emit: &mut Emit) {
+    let column = format(&[table_of(&chain(levels, code, 8))]);
+    let mut input = vec![0, 0];
+    input.extend(vec![0; (levels - 1) * [1, 2, 1, 2, 0][code as usize - 15] + 1]);
+    read(&column, &input, emit);
+    read(&column, &input[..input.len() - 1], emit);
+    input.extend([255; 140]);
+    read(&column, &input, emit);
+    for nodes in [levels, levels + 1, levels + 2] {
+        let max_row_bytes = nodes as u64 * usual().node_charge;
+        read(&column.clone().with_settings(Settings { max_row_bytes, ..usual() }), &input, emit);
+    }
+}
+
+fn depths(emit: &mut Emit) {
+    for code in [15, 16, 17, 18, 19] {
+        [62, 63, 64].into_iter().for_each(|levels| deep(levels, code, emit));
+    }
+}
+
+/// Tags of tables that are there, just not there, and far from it; and tables by name.
+fn many_tables(emit: &mut Emit) {
+    let one = format(&[vec![Plan::new(19, 0)], schema_b()]);
+    for tables in [1, 2, 255, 256, 257, 65_535, 65_536, 65_537] {
+        let mut case = one.clone();
+        case.references = one.references[..16].repeat(tables - 1);
+        case.references.extend(&one.references[16..]);
+        let last = tables as u64 - 1;
+        for tag in [0, last.saturating_sub(1), last, last + 1, 65_535] {
+            let Ok(tag) = u16::try_from(tag) else { continue };
+            read(&case, &[&tag.to_le_bytes()[..], &[0, 7, 255]].concat(), emit);
+        }
+    }
+    let mut case = format(&[vec![Plan::new(19, 0)]]);
+    let block = lay_out(&schema_a(), &mut case.records, &mut case.names);
+    let other = lay_out(&schema_b(), &mut case.records, &mut case.names);
+    for (name, block) in [(&b"apart"[..], other), (b"page", block)] {
+        let start = put_name(&mut case.names, name);
+        let length = name.len() as u32;
+        case.registry.extend(words([start, length, block.first as u32, block.count as u32]));
+        case.references.extend(words([1, start, length, 0]));
+    }
+    let rows: [&[u8]; 4] = [&[0, 0], &[1, 0, 0, 7, 255], &[2, 0, 0x25, 0], &[3, 0]];
+    rows.into_iter().for_each(|row| read(&case, row, emit));
+    read(&case, &rows.concat(), emit);
+}
+
+/// Rows of the wide and narrow scalars, cut at every byte.
+fn scalars(emit: &mut Emit) {
+    for code in 0..13 {
+        let column = format(&[table_of(&[Plan::new(code, 0)])]);
+        (0..=40).for_each(|length| read(&column, &vec![0; length], emit));
+        for charge in [1, usual().node_charge, 4_096] {
+            for limit in [charge - 1, charge, 2 * charge - 1, 2 * charge] {
+                let settings = Settings { node_charge: charge, max_row_bytes: limit, ..usual() };
+                read(&column.clone().with_settings(settings), &[0; 40], emit);
+            }
+        }
+    }
+}
+
+/// Counts that pass 16 bits, and a cost that passes 32: many rows, many nodes, much payload.
+fn large(emit: &mut Emit) {
+    let empty = format(&[vec![Plan::new(19, 0)]]);
+    let mut rows = vec![0; 2 * 70_000];
+    read(&empty, &rows, emit);
+    rows.push(0);
+    read(&empty, &rows, emit);
+    let a = format(&[schema_a()]);
+    read(&a, &FULL.repeat(3_000), emit);
+    read(&a, &[&FULL.repeat(3_000)[..], &FULL[..7]].concat(), emit);
+    let list = |items: usize| [&[0, 0][..], &vec![0; items], &[255]].concat();
+    let nothings = format(&[table_of(&fan(17, 1, 0))]);
+    read(&nothings, &list(70_000), emit);
+    read(&nothings, &[list(70_000), list(3), list(0)].concat(), emit);
+    // Root, list and elements at 4,096 each: 1,048,575 of them are just within the largest limit.
+    let dear = Settings { node_charge: 4_096, max_blob_bytes: MOST, max_row_bytes: MOST };
+    for nodes in [1_048_574, 1_048_575, 1_048_576, 1_048_577] {
+        read(&nothings.clone().with_settings(dear), &list(nodes - 2), emit);
+    }
+    let wide = format(&[table_of(&fan(17, 1, 7))]);
+    let elements = [&[0][..], &[0x77; 32]].concat().repeat(3_000);
+    read(&wide, &[&[0, 0][..], &elements, &[255]].concat(), emit);
+}
+
+/// Formats that are refused for what they are, and their neighbours that are not: a level or a child
+/// more than there may be.
+fn format_bounds(emit: &mut Emit) {
+    for levels in [63, 64] {
+        read(&format(&[table_of(&chain(levels, 19, 8))]), &[0, 0, 7], emit);
+    }
+    for (code, count) in [(15, 256), (15, 257), (17, 255), (17, 256)] {
+        read(&format(&[table_of(&fan(code, count, 2))]), &[0, 0, 254, 7, 255], emit);
+    }
+}
+
+pub fn fixed(emit: &mut Emit) {
+    document_rows(emit);
+    format_bounds(emit);
+    settings_and_positions(emit);
+    blobs(emit);
+    tags(emit);
+    depths(emit);
+    many_tables(emit);
+    large(emit);
+    scalars(emit);
+}
+
+/// What a sample has to have, whatever else is in it: document 01's rows, and the bounds of a schema.
+pub fn few(emit: &mut Emit) {
+    document_rows(emit);
+    format_bounds(emit);
+    deep(63, 17, emit);
+}

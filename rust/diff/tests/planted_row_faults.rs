@@ -1,0 +1,86 @@
+//! row-diff against its test double: a right library passes, and each planted fault is found and made
+//! small. Runs with `--features double`.
+
+#![cfg(feature = "double")]
+
+use std::process::Command;
+
+/// The exit code and what was printed.
+fn run(fault: &str, count: &str) -> (Option<i32>, String) {
+    let output = Command::new(env!("CARGO_BIN_EXE_row-diff"))
+        .args(["--count", count, "--seed", "7"])
+        .env("DOUBLE_FAULT", fault)
+        .output()
+        .expect("row-diff runs");
+    (output.status.code(), String::from_utf8_lossy(&output.stdout).into_owned())
+}
+
+#[test]
+fn a_right_library_passes_and_all_is_met() {
+    let (code, text) = run("", "800000");
+    assert_eq!(code, Some(0), "{text}");
+    assert!(text.trim_end().ends_with("0 differences"), "{text}");
+}
+
+/// The fault, the most bytes that its smallest case may have, and what its report says.
+fn found(fault: &str, most_bytes: usize, says: &[&str]) {
+    let (code, text) = run(fault, "1000000");
+    assert_eq!(code, Some(1), "{fault}: {text}");
+    let (_, rest) = text.split_once("smallest case found: ").expect(&text);
+    let bytes: usize = rest.split(' ').next().unwrap().parse().expect(&text);
+    assert!(bytes <= most_bytes, "{fault}: {text}");
+    for part in says {
+        assert!(text.contains(part), "{fault}, wanted {part:?}: {text}");
+    }
+}
+
+/// One table of one column, its reference, and the name of one letter.
+const ONE_COLUMN: usize = 2 * 16 + 16 + 1;
+
+#[test]
+fn a_blob_as_long_as_its_limit() {
+    found("blob_limit_excludes_equality", ONE_COLUMN + 40, &["library:  returned 14", "original: number 12"]);
+}
+
+#[test]
+fn a_row_that_costs_one_more() {
+    found("row_limit_one_more", ONE_COLUMN + 40, &["plain:    returned 13", "original: number 13"]);
+}
+
+#[test]
+fn an_end_before_a_bad_format() {
+    found("end_before_the_format", 16, &["library:  returned 0: what 1"]);
+}
+
+#[test]
+fn places_from_the_row() {
+    found("place_counts_from_the_row", ONE_COLUMN, &["plain:    returned 1"]);
+}
+
+#[test]
+fn a_charge_before_the_table() {
+    found("row_limit_0_before_the_table", 34, &["row limit 0", "plain:    returned 11"]);
+}
+
+#[test]
+fn a_refused_row_that_counts() {
+    found("counts_the_refused_row", 0, &["rows 1", "plain:    returned 6"]);
+}
+
+#[test]
+fn payload_of_int256() {
+    found("int256_is_no_payload", ONE_COLUMN + 38, &["payload 32", "original: number 0"]);
+}
+
+#[test]
+fn a_position_that_is_cut() {
+    found("position_is_cut_to_32_bits", 50, &["plain:    returned 1: what 2, refusal 1"]);
+}
+
+#[test]
+fn answer_slices() {
+    found("writes_past_the_report", 50, &["plain:    returned"]);
+    found("writes_into_a_short_answer", 50, &["answer slice of 87"]);
+    found("short_answer_is_nothing", 50, &["library:  returned 0, answer slice"]);
+    found("returns_0_from_a_refused_run", 50, &["library:  returned 0: what 2"]);
+}

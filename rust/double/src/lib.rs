@@ -1,0 +1,78 @@
+//! A TEST DOUBLE, not the library: the two C functions with the plain reading behind them, and with a
+//! planted fault where DOUBLE_FAULT names one. The front end and row-diff can be built over it where
+//! there is no archive, and row-diff's own tests show with it that a wrong library is found out.
+//!
+//! Nothing that is said of the library may rest on a run over this.
+
+mod fault;
+
+use std::slice;
+
+use plain::reading::{run, skip};
+use plain::report::Report;
+use plain::settings::Settings;
+use plain::tables::FormatTables;
+
+/// All that a reading call is given but for its answer slice. A run's position is 0.
+#[derive(Clone, Copy)]
+struct Call<'a> {
+    settings: Settings,
+    tables: FormatTables<'a>,
+    input: &'a [u8],
+    position: u64,
+    is_run: bool,
+}
+
+impl Call<'_> {
+    fn report(&self) -> Report {
+        if self.is_run {
+            Report::of_run(&run(&self.settings, &self.tables, self.input))
+        } else {
+            Report::of_skip(&skip(&self.settings, &self.tables, self.input, self.position))
+        }
+    }
+}
+
+macro_rules! reading_call {
+    ($name:ident, $is_run:literal, $position:expr, $($extra:ident: $type:ty)?) => {
+        /// # Safety
+        /// Each pointer leads to as many bytes as the length after it says.
+        #[no_mangle]
+        pub unsafe extern "C" fn $name(
+            node_charge: u64,
+            max_blob_bytes: u64,
+            max_row_bytes: u64,
+            records: *const u8,
+            records_len: usize,
+            names: *const u8,
+            names_len: usize,
+            references: *const u8,
+            references_len: usize,
+            registry: *const u8,
+            registry_len: usize,
+            input: *const u8,
+            input_len: usize,
+            $($extra: $type,)?
+            answer: *mut u8,
+            answer_len: usize,
+        ) -> u32 {
+            let tables = FormatTables {
+                records: slice::from_raw_parts(records, records_len),
+                names: slice::from_raw_parts(names, names_len),
+                references: slice::from_raw_parts(references, references_len),
+                registry: slice::from_raw_parts(registry, registry_len),
+            };
+            let call = Call {
+                settings: Settings { node_charge, max_blob_bytes, max_row_bytes },
+                tables,
+                input: slice::from_raw_parts(input, input_len),
+                position: $position,
+                is_run: $is_run,
+            };
+            fault::answer(call, slice::from_raw_parts_mut(answer, answer_len))
+        }
+    };
+}
+
+reading_call!(skiff_skip, false, position, position: u64);
+reading_call!(skiff_run, true, 0,);

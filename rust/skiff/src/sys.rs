@@ -1,0 +1,107 @@
+//! The library's C functions, as include/skiff.h has them, behind signatures that can't be misused.
+//!
+//! Nothing checks the declarations below against the library's source; row-diff runs both functions on
+//! millions of inputs for that reason among others. Their contracts ask nothing of a caller but that
+//! each pointer leads to as many bytes as its length says, which a slice guarantees.
+
+use crate::{Format, Settings};
+
+#[cfg(feature = "double")]
+extern crate double as _;
+
+/// A shorter answer slice is left as it is, and the call returns 1.
+pub const ANSWER_BYTES: usize = 88;
+
+extern "C" {
+    fn skiff_skip(
+        node_charge: u64,
+        max_blob_bytes: u64,
+        max_row_bytes: u64,
+        records: *const u8,
+        records_len: usize,
+        names: *const u8,
+        names_len: usize,
+        references: *const u8,
+        references_len: usize,
+        registry: *const u8,
+        registry_len: usize,
+        input: *const u8,
+        input_len: usize,
+        position: u64,
+        answer: *mut u8,
+        answer_len: usize,
+    ) -> u32;
+
+    fn skiff_run(
+        node_charge: u64,
+        max_blob_bytes: u64,
+        max_row_bytes: u64,
+        records: *const u8,
+        records_len: usize,
+        names: *const u8,
+        names_len: usize,
+        references: *const u8,
+        references_len: usize,
+        registry: *const u8,
+        registry_len: usize,
+        input: *const u8,
+        input_len: usize,
+        answer: *mut u8,
+        answer_len: usize,
+    ) -> u32;
+}
+
+/// The three settings as numbers, unchecked: the library checks them.
+#[derive(Debug, Clone, Copy, PartialEq, Eq)]
+pub struct Numbers {
+    pub node_charge: u64,
+    pub max_blob_bytes: u64,
+    pub max_row_bytes: u64,
+}
+
+impl From<&Settings> for Numbers {
+    fn from(settings: &Settings) -> Self {
+        Self {
+            node_charge: settings.node_charge(),
+            max_blob_bytes: settings.max_blob_bytes(),
+            max_row_bytes: settings.max_row_bytes(),
+        }
+    }
+}
+
+/// The call of a C function, with each slice as pointer and length.
+macro_rules! lend {
+    ($function:ident, $numbers:ident, $format:ident, $input:ident; $($position:ident)?; $answer:ident) => {
+        $function(
+            $numbers.node_charge,
+            $numbers.max_blob_bytes,
+            $numbers.max_row_bytes,
+            $format.records.as_ptr(),
+            $format.records.len(),
+            $format.names.as_ptr(),
+            $format.names.len(),
+            $format.references.as_ptr(),
+            $format.references.len(),
+            $format.registry.as_ptr(),
+            $format.registry.len(),
+            $input.as_ptr(),
+            $input.len(),
+            $($position,)?
+            $answer.as_mut_ptr(),
+            $answer.len(),
+        )
+    };
+}
+
+/// `skiff_skip`: the refusal's number, 0 where there is none.
+pub fn skip(numbers: Numbers, format: &Format, input: &[u8], position: u64, answer: &mut [u8]) -> u32 {
+    // SAFETY: each pointer and length are those of a slice that is borrowed for the call, and the
+    // answer slice, the only one that is written, is borrowed by nobody else.
+    unsafe { lend!(skiff_skip, numbers, format, input; position; answer) }
+}
+
+/// `skiff_run`: the refusal's number, 0 where the run came to the end.
+pub fn run(numbers: Numbers, format: &Format, input: &[u8], answer: &mut [u8]) -> u32 {
+    // SAFETY: as in `skip`.
+    unsafe { lend!(skiff_run, numbers, format, input;; answer) }
+}

@@ -1,0 +1,156 @@
+//! The front end through the library: document 01's rows, and what the types make of the answers.
+
+use skiff::{
+    Context, FormatBuilder, FormatTables, Refusal, Row, Run, Schema, Settings, Skipped, Stop, WireType,
+};
+
+/// tuple("page" uint8, "name" variant8(nothing, string32)).
+fn schema_a() -> Schema {
+    let name = Schema::leaf(WireType::String32).named("name").optional();
+    Schema::tuple([Schema::leaf(WireType::Uint8).named("page"), name])
+}
+
+/// tuple("v" repeated_variant8(boolean, int8)).
+fn schema_b() -> Schema {
+    let items = [Schema::leaf(WireType::Boolean), Schema::leaf(WireType::Int8)];
+    Schema::tuple([Schema::node(WireType::RepeatedVariant8, items).named("v")])
+}
+
+fn one_table(schema: Schema) -> FormatTables {
+    FormatBuilder::new().table(schema).build().expect("short names")
+}
+
+fn limits(max_blob_bytes: u64, max_row_bytes: u64) -> Settings {
+    Settings::new(48, max_blob_bytes, max_row_bytes).expect("good limits")
+}
+
+fn row(bytes: usize, records: u64, payload: u64) -> Result<Skipped, Refusal> {
+    Ok(Skipped::Row(Row { table: 0, bytes, records, payload }))
+}
+
+const FULL: [u8; 10] = [0, 0, 0x25, 1, 2, 0, 0, 0, 0xD1, 0xC5];
+
+#[test]
+fn the_table_of_rows() {
+    let (a, b) = (one_table(schema_a()), one_table(schema_b()));
+    let skip = |tables: &FormatTables, settings: Settings, input: &[u8]| {
+        tables.format().skip_row(&settings, input, 0)
+    };
+    let usual = Settings::default();
+    let cut = |context, place| Err(Refusal::Truncated { context, place });
+    assert_eq!(skip(&a, usual, &[]), Ok(Skipped::End));
+    assert_eq!(skip(&a, usual, &[0]), cut(Context::TableTag, 0));
+    assert_eq!(skip(&a, usual, &[1, 0]), Err(Refusal::MissingTableSchema { index: 1, place: 0 }));
+    assert_eq!(skip(&a, usual, &[0, 0]), cut(Context::Fixed(WireType::Uint8), 2));
+    assert_eq!(skip(&a, limits(0, 47), &[0, 0]), Err(Refusal::RowTooLarge { limit: 47, place: 2 }));
+    assert_eq!(skip(&a, usual, &[0, 0, 0x25, 0]), row(4, 4, 0));
+    assert_eq!(skip(&a, usual, &FULL), row(10, 4, 2));
+    assert_eq!(skip(&a, limits(2, 194), &FULL), row(10, 4, 2));
+    assert_eq!(skip(&a, limits(2, 193), &FULL), Err(Refusal::RowTooLarge { limit: 193, place: 4 }));
+    let too_long = Refusal::BlobTooLarge { wire_type: WireType::String32, length: 2, limit: 1, place: 4 };
+    assert_eq!(skip(&a, limits(1, 192), &FULL), Err(too_long));
+    assert_eq!(skip(&a, usual, &FULL[..9]), cut(Context::BlobPayload, 8));
+    let bad_tag = Refusal::InvalidVariantTag { wire_type: WireType::Variant8, tag: 2, children: 2, place: 3 };
+    assert_eq!(skip(&a, usual, &[0, 0, 0x25, 2]), Err(bad_tag));
+    assert_eq!(skip(&b, usual, &[0, 0, 0, 7, 1, 0xFE, 0xFF]), row(7, 4, 0));
+    assert_eq!(skip(&b, usual, &[0, 0, 0xFF]), row(3, 2, 0));
+}
+
+#[test]
+fn a_row_is_where_the_one_before_it_ends() {
+    let tables = FormatBuilder::new()
+        .table(schema_a())
+        .table_from_registry("numbers")
+        .register("numbers", schema_b())
+        .register("a name before", schema_a())
+        .build()
+        .expect("short names");
+    let format = tables.format();
+    let usual = Settings::default();
+    let stream = [&FULL[..], &[1, 0, 0, 7, 0xFF], &[0, 0, 0x25, 0]].concat();
+    let mut position = 0;
+    let mut found = Vec::new();
+    while let Skipped::Row(row) = format.skip_row(&usual, &stream, position).expect("good rows") {
+        found.push((row.table, row.bytes, row.records, row.payload));
+        position += row.bytes;
+    }
+    assert_eq!(found, [(0, 10, 4, 2), (1, 5, 3, 0), (0, 4, 4, 0)]);
+    let run = format.run(&usual, &stream);
+    assert_eq!(run, Run { rows: 3, bytes: 19, stop: Stop::End });
+    assert_eq!(run.to_end(), Ok((3, 19)));
+    let cut = format.run(&usual, &stream[..18]);
+    let refusal = Refusal::Truncated { context: Context::Variant8Tag, place: 18 };
+    assert_eq!(cut, Run { rows: 2, bytes: 15, stop: Stop::Refused(refusal) });
+    assert_eq!(cut.to_end(), Err(refusal));
+    assert_eq!(format.skip_row(&usual, &stream, 20), Err(Refusal::Setting));
+}
+
+#[test]
+fn bad_formats_are_refused_with_their_reasons() {
+    let run = |builder: FormatBuilder| {
+        let tables = builder.build().expect("short names");
+        tables.format().run(&Settings::default(), &[]).to_end()
+    };
+    assert_eq!(run(FormatBuilder::new()), Err(Refusal::EmptyTableSchemas));
+    let unnamed = Schema::tuple([Schema::leaf(WireType::Int8)]);
+    let refusal = Refusal::TableSchemaChildMissingName { index: 0, place: 1 };
+    assert_eq!(run(FormatBuilder::new().table(unnamed)), Err(refusal));
+    let refusal = Refusal::TableSchemaRootMustBeTuple { found: WireType::Double, place: 0 };
+    assert_eq!(run(FormatBuilder::new().table(Schema::leaf(WireType::Double))), Err(refusal));
+    let refusal = Refusal::UnknownRegistryReference { table: 0, place: 0 };
+    assert_eq!(run(FormatBuilder::new().table_from_registry("x")), Err(refusal));
+    let parent = Schema::node(WireType::Int16, [Schema::leaf(WireType::Nothing)]).named("c");
+    let refusal = Refusal::UnexpectedChildren { wire_type: WireType::Int16, count: 1, place: 1 };
+    assert_eq!(run(FormatBuilder::new().table(Schema::tuple([parent]))), Err(refusal));
+    let wide = Schema::node(WireType::RepeatedVariant8, vec![Schema::leaf(WireType::Int8); 256]).named("c");
+    let wire_type = WireType::RepeatedVariant8;
+    let refusal = Refusal::TooManyChildren { wire_type, count: 256, maximum: 255, place: 1 };
+    assert_eq!(run(FormatBuilder::new().table(Schema::tuple([wide]))), Err(refusal));
+    let mut deep = Schema::tuple([]);
+    for _ in 0..64 {
+        deep = Schema::tuple([deep.named("c")]);
+    }
+    assert_eq!(run(FormatBuilder::new().table(deep)), Err(Refusal::TooDeep));
+    let mut tables = one_table(schema_a());
+    tables.records.pop();
+    assert_eq!(tables.format().run(&Settings::default(), &[]).to_end(), Err(Refusal::BadSchemaTable));
+}
+
+#[test]
+fn settings_are_bounded() {
+    let most = Settings::MOST_BYTES;
+    assert!(Settings::new(1, 0, 0).is_ok());
+    assert!(Settings::new(4_096, most, most).is_ok());
+    for (charge, blob, row) in [(0, 0, 0), (4_097, 0, 0), (1, most + 1, 0), (1, 0, most + 1)] {
+        assert_eq!(Settings::new(charge, blob, row), Err(Refusal::Setting));
+    }
+    let usual = Settings::new(48, 134_217_728, 268_435_456);
+    assert_eq!(usual, Ok(Settings::default()));
+}
+
+#[test]
+fn a_name_has_at_most_65535_bytes() {
+    let named = |length| Schema::tuple([Schema::leaf(WireType::Int8).named(vec![b'x'; length])]);
+    let tables = one_table(named(65_535));
+    assert_eq!(tables.format().run(&Settings::default(), &[]).to_end(), Ok((0, 0)));
+    assert!(FormatBuilder::new().table(named(65_536)).build().is_err());
+}
+
+#[test]
+fn a_refusal_is_an_error_with_a_message() {
+    let error: Box<dyn std::error::Error> = Box::new(Refusal::RowTooLarge { limit: 193, place: 4 });
+    assert_eq!(error.to_string(), "byte 4: the row costs more than its limit of 193");
+}
+
+/// The delivery that stands in examples/, and that the builder writes the same format.
+#[test]
+fn the_delivery() {
+    let folder = concat!(env!("CARGO_MANIFEST_DIR"), "/../../examples/");
+    let read = |name: &str| std::fs::read(format!("{folder}{name}")).expect("it is there");
+    let (records, names) = (read("schema.rec"), read("schema.nam"));
+    let (references, registry) = (read("tables.ref"), read("registry.reg"));
+    let tables = FormatTables { records, names, references, registry };
+    assert_eq!(tables, one_table(schema_a()));
+    let rows = read("rows.skf");
+    assert_eq!(tables.format().run(&Settings::default(), &rows).to_end(), Ok((5, rows.len())));
+}
