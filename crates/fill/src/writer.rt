@@ -27,7 +27,7 @@ fn put32(s: &mut [u8], at: usize, x: u64)
     put16(s, at + 2, x / 65536);
 }
 
-fn put64(s: &mut [u8], at: usize, x: u64)
+pub fn put64(s: &mut [u8], at: usize, x: u64)
     requires { ⌜ at + 8 ≤ length (now s) ⌝ }
     ensures { λ _. ⌜ now (s .exit) ≡ over (now (s .entry)) at (le 8 x) ⌝ }
 {

@@ -1,0 +1,111 @@
+-- Laws of the answer slice: numbers one after another, and refusal numbers, which are small.
+-- Assumes nothing.
+use Prim.Native.Nat.{ℕ, zero, suc, _+_, _*_, _≤_, _<_}
+use mathlib.Core.Path.{_≡_, refl, sym, _∙_}
+use mathlib.Core.Bool.{true, false}
+use mathlib.Core.List.{List, [], _∷_, _++_, append-assoc, append-nil}
+use native.Mathlib.Omega.{arith}
+use borrow.Author.Tests.{le-leb, lt-leb}
+use lib.ListN.{length, length-append}
+use lib.Dec.{leb}
+use Rattle.rules.specs.Choice.{pick}
+use Rattle.rules.specs.Bytes.{le, over}
+use Rattle.rules.specs.Refusals.{said, reportOf}
+use Rattle.rules.specs.declared.Refusal.{Refusal}
+use Rattle.rules.specs.declared.Refusal.the-variants.{Setting, BadSchemaTable, TooDeep, UnexpectedChildren, TooManyChildren, EmptyTableSchemas, UnknownRegistryReference, TableSchemaRootMustBeTuple, TableSchemaMustBeTuple, TableSchemaChildMissingName, MissingTableSchema, Truncated, RowTooLarge, BlobTooLarge, ValueDoesNotMatchSchema, TupleLength, InvalidVariantTag, BadValueTable, NoNodeRoom, NoPayloadRoom, NoOutputRoom}
+use Rattle.rules.specs.declared.Read.{Read}
+use Rattle.rules.specs.declared.Read.the-variants.{Row, End, Refused}
+use Rattle.rules.proofs.Over.{over-at}
+use Rattle.rows.proofs.Stands.{length-le}
+use Rattle.skiff.specs.declared.Answer.{Answer}
+use Rattle.skiff.specs.Answers.{words, layout, leaves, returned}
+
+pub number-small : (r : Refusal) → reportOf r .number < 22
+unfolding reportOf said
+number-small Setting = omega arith
+number-small BadSchemaTable = omega arith
+number-small TooDeep = omega arith
+number-small (UnexpectedChildren type count place) = omega arith
+number-small (TooManyChildren type count maximum place) = omega arith
+number-small EmptyTableSchemas = omega arith
+number-small (UnknownRegistryReference table) = omega arith
+number-small (TableSchemaRootMustBeTuple found place) = omega arith
+number-small (TableSchemaMustBeTuple found place) = omega arith
+number-small (TableSchemaChildMissingName index place) = omega arith
+number-small (MissingTableSchema index place) = omega arith
+number-small (Truncated context place) = omega arith
+number-small (RowTooLarge limit place) = omega arith
+number-small (BlobTooLarge type length limit place) = omega arith
+number-small (ValueDoesNotMatchSchema type kind place) = omega arith
+number-small (TupleLength expected actual place) = omega arith
+number-small (InvalidVariantTag type tag children place) = omega arith
+number-small BadValueTable = omega arith
+number-small (NoNodeRoom needed place) = omega arith
+number-small (NoPayloadRoom needed place) = omega arith
+number-small (NoOutputRoom needed place) = omega arith
+
+-- ---- numbers, one after another
+
+words-one : (x : ℕ) → words (x ∷ []) ≡ le 8 x
+unfolding words
+words-one x = append-nil (le 8 x)
+
+words-append : (xs ys : List ℕ) → words (xs ++ ys) ≡ words xs ++ words ys
+unfolding words
+words-append [] ys = refl
+words-append (x ∷ xs) ys = rw (words-append xs ys) (sym (append-assoc (le 8 x) (words xs) (words ys)))
+
+length-words : (xs : List ℕ) → length (words xs) ≡ length xs * 8
+unfolding words
+length-words [] = refl
+length-words (x ∷ xs) =
+    let l : length (le 8 x) ≡ 8 = length-le 8 x in
+    let m : length (words xs) ≡ length xs * 8 = length-words xs in
+    length-append (le 8 x) (words xs) ∙ omega arith
+
+-- a number, and those after it
+first-word : (s s′ : List ℕ) (at next x : ℕ) (xs : List ℕ) → next ≡ at + 8 → s′ ≡ over s at (le 8 x) → over s′ next (words xs) ≡ over s at (words (x ∷ xs))
+unfolding words
+first-word s s′ at next x xs e p =
+    let l : length (le 8 x) ≡ 8 = length-le 8 x in
+    rw p (over-at (le 8 x) (words xs) s at next (omega arith))
+
+pub five : (s s₁ s₂ s₃ s₄ s₅ : List ℕ) (at a b c d e : ℕ) → s₁ ≡ over s at (le 8 a) → s₂ ≡ over s₁ (at + 8) (le 8 b) → s₃ ≡ over s₂ (at + 16) (le 8 c) → s₄ ≡ over s₃ (at + 24) (le 8 d) → s₅ ≡ over s₄ (at + 32) (le 8 e) → s₅ ≡ over s at (words (a ∷ b ∷ c ∷ d ∷ e ∷ []))
+five s s₁ s₂ s₃ s₄ s₅ at a b c d e p₁ p₂ p₃ p₄ p₅ =
+    p₅
+    ∙ rw (← words-one e) (first-word s₃ s₄ (at + 24) (at + 32) d (e ∷ []) (omega arith) p₄)
+    ∙ first-word s₂ s₃ (at + 16) (at + 24) c (d ∷ e ∷ []) (omega arith) p₃
+    ∙ first-word s₁ s₂ (at + 8) (at + 16) b (c ∷ d ∷ e ∷ []) (omega arith) p₂
+    ∙ first-word s s₁ at (at + 8) a (b ∷ c ∷ d ∷ e ∷ []) refl p₁
+
+-- one number, five, and five more
+pub eleven : (s s₁ s₂ s₃ : List ℕ) (x : ℕ) (xs ys : List ℕ) → length xs ≡ 5 → s₁ ≡ over s 0 (le 8 x) → s₂ ≡ over s₁ 8 (words xs) → s₃ ≡ over s₂ 48 (words ys) → s₃ ≡ over s 0 (words (x ∷ xs ++ ys))
+eleven s s₁ s₂ s₃ x xs ys l p₁ p₂ p₃ =
+    let m : length (words xs) ≡ length xs * 8 = length-words xs in
+    rw (p₃, p₂, over-at (words xs) (words ys) s₁ 8 48 (omega arith), ← words-append xs ys) (first-word s s₁ 0 8 x (xs ++ ys) refl p₁)
+
+-- ---- a slice by its length
+
+pub leaves-room : (s : List ℕ) (a : Answer) → 88 ≤ length s → leaves s a ≡ over s 0 (layout a)
+unfolding leaves pick
+leaves-room s a h = rw (le-leb 88 (length s) h)
+
+pub leaves-short : (s : List ℕ) (a : Answer) → length s < 88 → leaves s a ≡ s
+unfolding leaves pick
+leaves-short s a h = rw (lt-leb 88 (length s) h)
+
+pub returned-room : (s : List ℕ) (a : Answer) → 88 ≤ length s → returned s a ≡ a .why .number
+unfolding returned pick
+returned-room s a h = rw (le-leb 88 (length s) h)
+
+pub returned-short : (s : List ℕ) (a : Answer) → length s < 88 → returned s a ≡ 1
+unfolding returned pick
+returned-short s a h = rw (lt-leb 88 (length s) h)
+
+-- ---- what a call gives
+
+pub short-given : (s : List ℕ) (a : Answer) → length s < 88 → (1 ≡ returned s a) × (s ≡ leaves s a)
+short-given s a h = (sym (returned-short s a h), sym (leaves-short s a h))
+
+pub room-given : {A : Type 0} (f : A → Answer) (x y : A) (a : Answer) (s s′ : List ℕ) (n : ℕ) → 88 ≤ length s → a ≡ f x → x ≡ y → (n ≡ a .why .number) × (s′ ≡ over s 0 (layout a)) → (n ≡ returned s (f y)) × (s′ ≡ leaves s (f y))
+room-given f x y a s s′ n h p q g = rw (← q, ← p) (g .0 ∙ sym (returned-room s a h), g .1 ∙ sym (leaves-room s a h))

@@ -1,0 +1,41 @@
+-- An answer in numbers, by what was read or why a run stopped; and that its number is small.
+-- Assumes nothing.
+use Prim.Native.Nat.{ℕ, _<_}
+use mathlib.Core.Path.{_≡_, refl}
+use native.Mathlib.Omega.{arith}
+use Rattle.rules.specs.Refusals.{reportOf}
+use Rattle.rules.specs.declared.Report.{Report}
+use Rattle.rules.specs.declared.Extent.{Extent}
+use Rattle.rules.specs.declared.Refusal.{Refusal}
+use Rattle.rules.specs.declared.Read.{Read}
+use Rattle.rules.specs.declared.Read.the-variants as read
+use Rattle.rules.specs.declared.Stop.{Stop}
+use Rattle.rules.specs.declared.Stop.the-variants as stop
+use Rattle.skiff.specs.declared.Answer.{Answer}
+use Rattle.skiff.specs.Answers.{fine, none, ofRead, ofRan, whatOf, whyOf}
+use Rattle.skiff.proofs.Laws.{number-small}
+
+-- an answer, and that its number is small
+abbrev Told : Answer → Answer → Type 0
+Told given asked = (given ≡ asked) × (given .why .number < 22)
+
+pub told-row : (w : Report) (x : Read) (e : Extent) → x ≡ read.Row e → w ≡ fine → Told (record { what = 0; why = w; rows = 1; row = e }) (ofRead x)
+unfolding ofRead
+told-row w x e p q = (rw (p, q), rw q (omega arith))
+
+module _ (w : Report) (n : Extent) where
+  pub told-end : (x : Read) → x ≡ read.End → w ≡ fine → n ≡ none 0 → Told (record { what = 1; why = w; rows = 0; row = n }) (ofRead x)
+  unfolding ofRead
+  told-end x p q m = (rw (p, q, m), rw q (omega arith))
+
+  pub told-refused : (x : Read) (r : Refusal) → x ≡ read.Refused r → w ≡ reportOf r → n ≡ none 0 → Told (record { what = 2; why = w; rows = 0; row = n }) (ofRead x)
+  unfolding ofRead
+  told-refused x r p q m = (rw (p, q, m), rw q (number-small r))
+
+  pub ran-end : (x : Stop) (rows bytes : ℕ) → x ≡ stop.End → w ≡ fine → n ≡ none bytes → Told (record { what = 1; why = w; rows = rows; row = n }) (ofRan (record { rows = rows; bytes = bytes; stop = x }))
+  unfolding ofRan whatOf whyOf
+  ran-end x rows bytes p q m = (rw (p, q, m), rw q (omega arith))
+
+  pub ran-refused : (x : Stop) (rows bytes : ℕ) (r : Refusal) → x ≡ stop.Refused r → w ≡ reportOf r → n ≡ none bytes → Told (record { what = 2; why = w; rows = rows; row = n }) (ofRan (record { rows = rows; bytes = bytes; stop = x }))
+  unfolding ofRan whatOf whyOf
+  ran-refused x rows bytes r p q m = (rw (p, q, m), rw q (number-small r))
