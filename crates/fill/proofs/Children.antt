@@ -18,13 +18,15 @@ use Rattle.rules.specs.Value.{Value, nothing, boolean, number, wide, blob, vari
 use Rattle.rules.specs.ValueTable.{valueRecord, pays, paysI, paysV, flat, flatI, flatV}
 use Rattle.rules.specs.Writing.{kindFor}
 use Rattle.rules.specs.declared.Node.{Node}
+use Rattle.rules.specs.declared.Known.{Known}
 use Rattle.rules.proofs.Tests.{all-each}
+use Rattle.wire.proofs.Codes.{type-out}
 use Rattle.values.proofs.Codes.{plain}
 use Rattle.fill.specs.declared.Next.{Next}
 use Rattle.fill.specs.declared.Next.the-variants.{Child, End}
 use Rattle.fill.specs.Plain.{Reading, Got, Not, _>>=_, IsGot, numberAt, Reader, childAt, pairsAt, fieldsAt, leafAt, byForm, readAt, valueOf, endOf}
 use Rattle.fill.specs.Filling.{tagBytes, nextOf}
-use Rattle.fill.proofs.Codes.{form-choice, form-series, form-fields, form-unknown}
+use Rattle.read.proofs.Codes.{form-choice, form-series, form-fields}
 use Rattle.fill.proofs.Got.{not-got, got-from, got-is, read-step, Step, step, number-step, child-step}
 
 -- ---- the children of a value, each with the tag that it bears
@@ -111,6 +113,11 @@ leaf-reads : (inp : List ℕ) (rec : Reader) (n : Node) (at : ℕ) → n .code <
 unfolding plain all _and_ wireTypes typeIn typeOf written writtenIf form
 leaf-reads inp rec n at h = plain-reads inp rec n (form (n .code)) at (all-each (λ i. plain (form i)) 15 (n .code) refl h)
 
+-- the codes end at 19
+form-unknown : (code : ℕ) → 20 ≤ code → form code ≡ unknown
+unfolding wireTypes typeOf form writtenIf
+form-unknown code h = ap (λ (k : Known). writtenIf k) (sym (type-out wireTypes code h))
+
 module _ (inp : List ℕ) (rec : Reader) (n : Node) where
   -- what is left after i of them
   unfoldable pub left : Form → ℕ → ℕ → ℕ → Reading Items
@@ -175,7 +182,7 @@ module _ (inp : List ℕ) (rec : Reader) (n : Node) where
       by : (a b c : Bool) → ltb (n .code) 17 ≡ a → ltb (n .code) 19 ≡ b → ltb (n .code) 20 ≡ c → (n .code < 20) × Start (form (n .code)) at v z
       by true b c p q r = let l = ltb-true _ _ p in let f = form-choice (n .code) h l in (omega (arith, l), rw f (choice-start _ at z v (rw f at e)))
       by false true c p q r = let l = ltb-true _ _ q in let f = form-series (n .code) (ltb-false _ _ p) l in (omega (arith, l), rw f (series-start _ at z v (rw f at e)))
-      by false false true p q r = let f = form-fields (n .code) (omega (arith, ltb-false (n .code) 19 q, ltb-true (n .code) 20 r)) in (ltb-true _ _ r, rw f (fields-start at z v (rw f at e)))
+      by false false true p q r = let f = form-fields (n .code) (ltb-false _ _ q) (omega (arith, ltb-true (n .code) 20 r)) in (ltb-true _ _ r, rw f (fields-start at z v (rw f at e)))
       by false false false p q r = let f = form-unknown (n .code) (ltb-false _ _ r) in absurd (not-got (Got v z) (sym (rw f at e)) (got-from (Got v z) v z refl))
 
   -- the tag of the next one is there
@@ -308,9 +315,14 @@ module _ (inp : List ℕ) (rec : Reader) (n : Node) where
 pub leaf-read : (sch inp : List ℕ) (d i at : ℕ) → nodeAt sch i .code < 15 → IsGot (readAt sch inp d i at) → readAt sch inp d i at ≡ leafAt inp (nodeAt sch i .code) (form (nodeAt sch i .code)) at
 leaf-read sch inp d i at h g = read-step sch inp d i at g .1 ∙ leaf-reads inp (readAt sch inp (d - 1)) (nodeAt sch i) at h
 
--- a node with children that was read: its level, its code, and all of them left
-pub opened : (sch inp : List ℕ) (d i at : ℕ) → 14 < nodeAt sch i .code → IsGot (readAt sch inp d i at) →
-    (0 < d) × ((nodeAt sch i .code < 20) × Start inp (readAt sch inp (d - 1)) (nodeAt sch i) (form (nodeAt sch i .code)) at (valueOf (readAt sch inp d i at)) (endOf (readAt sch inp d i at)))
+-- a node with children that was read: it has a level and a wire type, and all of them are left
+pub record Opened (sch inp : List ℕ) (d i at : ℕ) : Type 0 where
+  pub deep : 0 < d
+  pub known : nodeAt sch i .code < 20
+  pub begins : Start inp (readAt sch inp (d - 1)) (nodeAt sch i) (form (nodeAt sch i .code)) at (valueOf (readAt sch inp d i at)) (endOf (readAt sch inp d i at))
+
+pub opened : (sch inp : List ℕ) (d i at : ℕ) → 14 < nodeAt sch i .code → IsGot (readAt sch inp d i at) → Opened sch inp d i at
 opened sch inp d i at h g =
     let a = read-step sch inp d i at g in
-    (a .0, start inp (readAt sch inp (d - 1)) (nodeAt sch i) at _ _ h (sym (a .1) ∙ got-is (readAt sch inp d i at) g))
+    let b = start inp (readAt sch inp (d - 1)) (nodeAt sch i) at _ _ h (sym (a .1) ∙ got-is (readAt sch inp d i at) g) in
+    record { deep = a .0; known = b .0; begins = b .1 }

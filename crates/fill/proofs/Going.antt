@@ -73,8 +73,11 @@ module _ {inp : List ℕ} {rec : Reader} {n : Node} {f : Form} {all : Items} {z 
       unfolding past valueOf endOf
       at-end = w .spot ∙ rw (t .reads)
 
-      pub fills-more : (filled < s .records) × (s .records ≡ filled + recordsOf (t .value))
-      fills-more = rw at-end (omega (arith, one-record (t .value)), refl)
+      pub fills-more : (m k : ℕ) → Room (rec c q) (spot q filled paid) m k → (filled < s .records) × (s .records * 16 ≤ m)
+      unfolding valueOf
+      fills-more m k r =
+          let h = rw (t .reads) at (r .records) in
+          rw at-end (omega (arith, one-record (t .value)), h)
 
       pub going-next : Going inp rec n f all z own paid₀ rs₀ ps₀ rs′ ps′ (s .at) (s .records) (s .payload) (i + 1)
       unfolding valueOf flat pays

@@ -20,7 +20,7 @@ use Rattle.wire.proofs.Parts.{part-length}
 use Rattle.fill.specs.declared.Spot.{Spot}
 use Rattle.fill.specs.Plain.{Reading, Got, Not, _>>=_, IsGot, valueOf, endOf, numberAt, bytesAt, leafAt}
 use Rattle.fill.specs.Filling.{Room, past, Filled, scalarOf}
-use Rattle.fill.proofs.Codes.{form-sized}
+use Rattle.read.proofs.Codes.{form-sized}
 use Rattle.fill.proofs.Got.{number-got, bytes-got}
 
 -- ---- scalars

@@ -1,6 +1,5 @@
 pub mod Agrees
 pub mod Children
-pub mod Codes
 pub mod Going
 pub mod Got
 pub mod Leaves

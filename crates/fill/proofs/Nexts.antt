@@ -4,24 +4,42 @@ use Prim.Native.Nat.{ℕ, _+_, _≤_, _<_}
 use mathlib.Core.Path.{_≡_, sym, ap, _∙_}
 use mathlib.Core.Bool.{Bool, true, false}
 use mathlib.Core.List.{List}
+use native.Mathlib.Omega.{arith}
 use borrow.Author.Tests.{lt-ltb, le-ltb}
 use lib.Dec.{eqb}
 use Rattle.rules.specs.Choice.{pick}
 use Rattle.rules.specs.Bytes.{leAt}
 use Rattle.rules.specs.Wire.{choice, series, fields, form, widthOf, endTag}
 use Rattle.fill.specs.declared.Next.the-variants.{Child, End}
-use Rattle.fill.specs.Filling.{nextOf}
-use Rattle.fill.proofs.Codes.{form-choice, form-series, form-fields}
+use Rattle.read.specs.Children.{shapeOf, endsAt}
+use Rattle.fill.specs.Filling.{tagBytes, nextOf}
+use Rattle.read.proofs.Codes.{form-choice, form-series, form-fields, shape-repeated}
+
+-- ---- tags
+
+-- a variant's only child has a tag
+pub tag-choice : (code i : ℕ) → 14 < code → code < 17 → i ≤ 0 → tagBytes (form code) i ≡ widthOf (form code)
+unfolding tagBytes widthOf
+tag-choice code i h l z =
+    let e : i ≡ 0 = omega arith in
+    rw (form-choice code h l, e)
+
+-- in a series each child has one, and the end
+pub tag-series : (code i : ℕ) → 17 ≤ code → code < 19 → tagBytes (form code) i ≡ widthOf (form code)
+unfolding tagBytes widthOf
+tag-series code i h l = rw (form-series code h l)
+
+-- ---- children
 
 module _ (inp : List ℕ) (first count code i at : ℕ) where
   -- a tuple has `count` children
   pub next-field : code ≡ 19 → i < count → Child 0 (first + i) at ≡ nextOf inp first count (form code) i at
   unfolding nextOf pick
-  next-field e h = rw (form-fields code e, lt-ltb i count h)
+  next-field e h = rw (form-fields code (omega arith) (omega arith), lt-ltb i count h)
 
   pub no-field : code ≡ 19 → count ≤ i → End at ≡ nextOf inp first count (form code) i at
   unfolding nextOf pick
-  no-field e h = rw (form-fields code e, le-ltb i count h)
+  no-field e h = rw (form-fields code (omega arith) (omega arith), le-ltb i count h)
 
   -- a variant has one
   pub no-choice : 14 < code → code < 17 → 0 < i → End at ≡ nextOf inp first count (form code) i at
@@ -39,12 +57,12 @@ module _ (inp : List ℕ) (first count code i at : ℕ) where
         rw (f, le-ltb 0 i z, same-tag)
 
     -- a series has one unless the tag is the end
-    module _ (b : Bool) (h : 17 ≤ code) (l : code < 19) (e : b ≡ eqb tag (endTag (widthOf (form code)))) where
+    module _ (b : Bool) (h : 17 ≤ code) (l : code < 19) (e : b ≡ endsAt (shapeOf code) tag) where
       by-tag : nextOf inp first count (form code) i at ≡ pick b (End (at + w)) (Child tag (first + tag) (at + w))
-      unfolding nextOf
+      unfolding nextOf endsAt
       by-tag =
           let f : form code ≡ series w = form-series code h l ∙ ap series (sym wide) in
-          let g : b ≡ eqb tag (endTag w) = e ∙ ap (λ (x : ℕ). eqb tag (endTag x)) (sym wide) in
+          let g : b ≡ eqb tag (endTag w) = rw wide (rw (shape-repeated code h l) at e) in
           rw (f, g, same-tag)
 
       pub no-pair : b ≡ true → End (at + w) ≡ nextOf inp first count (form code) i at

@@ -1,6 +1,6 @@
 -- What filling leaves: the records and the payload bytes of the value that was read, over what stood there.
 -- Assumes nothing: these are definitions.
-use Prim.Native.Nat.{ℕ, zero, suc, _+_, _*_, _≤_}
+use Prim.Native.Nat.{ℕ, zero, suc, _+_, _*_, _≤_, _<_}
 use mathlib.Core.Path.{_≡_}
 use mathlib.Core.List.{List}
 use lib.ListN.{length}
@@ -8,9 +8,10 @@ use lib.Dec.{ltb, eqb}
 use Rattle.rules.specs.Choice.{pick}
 use Rattle.rules.specs.Bytes.{leAt, over}
 use Rattle.rules.specs.Wire.{Form, empty, truth, fixed, raw, sized, choice, series, fields, unknown, endTag}
+use Rattle.rules.specs.Block.{nodeAt, Closed}
 use Rattle.rules.specs.Value.{Value, recordsOf, payloadOf}
 use Rattle.rules.specs.ValueTable.{bit, pays, flat}
-use Rattle.fill.specs.Plain.{Reading, IsGot, valueOf, endOf}
+use Rattle.fill.specs.Plain.{Reading, IsGot, valueOf, endOf, readAt}
 use Rattle.fill.specs.declared.Spot.{Spot}
 use Rattle.fill.specs.declared.Next.{Next}
 use Rattle.fill.specs.declared.Next.the-variants.{Child, End}
@@ -34,6 +35,19 @@ pub record Filled (x : Reading Value) (tag : ℕ) (s q : Spot) (rs rs′ ps ps�
   pub spot : q ≡ past x s
   pub records : rs′ ≡ over rs (s .records * 16) (flat (valueOf x) tag (s .payload))
   pub payload : ps′ ≡ over ps (s .payload) (pays (valueOf x))
+
+-- ---- a row
+
+-- the value of a table's root from a place on
+abbrev pub rowValue : List ℕ → List ℕ → ℕ → Value
+rowValue sch inp at = valueOf (readAt sch inp 64 0 at)
+
+-- the root has children, all of them in the block, and it was read, and there is room
+pub record Fillable (sch inp : List ℕ) (at n m : ℕ) : Type 0 where
+  pub closed : Closed sch
+  pub root : 16 ≤ length sch
+  pub compound : 14 < nodeAt sch 0 .code
+  pub room : Room (readAt sch inp 64 0 at) (start at) n m
 
 -- ---- steps
 

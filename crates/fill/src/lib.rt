@@ -4,16 +4,18 @@
 ghost use mathlib.Core.Path.{_≡_};
 ghost use Prim.Native.Nat.{_+_, _-_, _*_, _^_, _≤_, _<_};
 ghost use lib.ListN.{length};
-ghost use lib.Dec.{ltb, eqb};
+ghost use lib.Dec.{ltb};
 ghost use Rattle.rules.specs.Bytes.{leAt, part, over};
-ghost use Rattle.rules.specs.Wire.{form, widthOf, endTag};
+ghost use Rattle.rules.specs.Wire.{form, widthOf};
 ghost use Rattle.rules.specs.Block.{nodeAt, Closed};
 ghost use Rattle.rules.specs.ValueTable.{valueRecord, bit, pays, flat};
 ghost use Rattle.rules.specs.Writing.{kindFor};
-ghost use Rattle.fill.specs.Plain.{valueOf, leafAt, readAt};
-ghost use Rattle.fill.specs.Filling.{Room, Filled, start, scalarOf, tagBytes, nextOf};
+ghost use Rattle.fill.specs.Plain.{leafAt, readAt};
+ghost use Rattle.fill.specs.Filling.{Room, Filled, Fillable, rowValue, scalarOf, tagBytes, nextOf};
 use self::writer::copy;
 use self::writer::put_record;
+use read::fields::ends;
+use read::fields::fixed_width;
 use wire::field;
 use wire::u16_at;
 use wire::u32_at;
@@ -35,30 +37,6 @@ pub enum Next {
 }
 
 // ---- nodes without children
-
-// How many bytes a value has. An arm for every code, nothing's too: from that the compiler makes a jump table, and the
-// place of the next node does not wait for a load.
-fn fixed_width(code: u8) -> usize
-    requires { ⌜ code < 13 ⌝ }
-    ensures { λ r. ⌜ (r ≡ widthOf (form code)) × (r ≤ 32) ⌝ }
-{
-    match code {
-        0 => 0,
-        1 => 1,
-        2 => 1,
-        3 => 2,
-        4 => 4,
-        5 => 8,
-        6 => 16,
-        7 => 32,
-        8 => 1,
-        9 => 2,
-        10 => 4,
-        11 => 8,
-        12 => 8,
-        _ => 0,
-    }
-}
 
 fn truth(x: u64) -> u64
     ensures { λ r. ⌜ r ≡ bit (ltb 0 x) ⌝ }
@@ -158,17 +136,6 @@ fn tag_at(code: u8, input: &[u8], at: usize) -> u64
     u16_at(input, at)
 }
 
-// Whether a tag ends the children: the largest one of its width does, in the repeated types.
-fn ends(code: u8, tag: u64) -> bool
-    requires { ⌜ (16 < code) × (code < 19) ⌝ }
-    ensures { λ r. ⌜ r ≡ eqb tag (endTag (widthOf (form code))) ⌝ }
-{
-    if code == 17 {
-        return tag == 255;
-    }
-    tag == 65535
-}
-
 // The child after i others. A variant has one child, a tuple `count`, and the repeated types have children up to the end tag.
 fn next_child(code: u8, first: usize, count: usize, input: &[u8], i: usize, at: usize) -> Next
     requires { ⌜ (14 < code) × (code < 20) × ((first + count) * 16 < 2 ^ 64) × (tagBytes (form code) i ≤ length (now input) - at) ⌝ }
@@ -193,6 +160,16 @@ fn next_child(code: u8, first: usize, count: usize, input: &[u8], i: usize, at: 
         return Next::End(next);
     }
     Next::Child(tag, first + tag as usize, next)
+}
+
+fn moved(s: Spot, at: usize) -> Spot
+    ensures { λ r. ⌜ r ≡ record { at = at; records = s .records; payload = s .payload } ⌝ }
+{
+    Spot {
+        at,
+        records: s.records,
+        payload: s.payload,
+    }
 }
 
 // The kind of a value record, from the wire code.
@@ -227,41 +204,24 @@ fn fill_children(
     let first = u32_at(block, node * 16 + 8) as usize;
     let count = u32_at(block, node * 16 + 12) as usize;
     let own = s.records;
-    let mut at = s.at;
-    let mut filled = own + 1;
-    let mut paid = s.payload;
+    let mut q = Spot {
+        at: s.at,
+        records: own + 1,
+        payload: s.payload,
+    };
     let mut n = 0;
     loop {
+        let at = q.at;
         let next = next_child(code, first, count, input, n, at);
         match next {
             Next::Child(bears, child, start) => {
-                let from = Spot {
-                    at: start,
-                    records: filled,
-                    payload: paid,
-                };
-                let q = fill_value(
-                    block,
-                    child,
-                    depth - 1,
-                    input,
-                    bears,
-                    from,
-                    records,
-                    payload,
-                );
-                at = q.at;
-                filled = q.records;
-                paid = q.payload;
+                let p = moved(q, start);
+                q = fill_value(block, child, depth - 1, input, bears, p, records, payload);
                 n += 1;
             }
             Next::End(end) => {
                 put_record(records, own, kind_of(code), tag, n as u64, 0);
-                return Spot {
-                    at: end,
-                    records: filled,
-                    payload: paid,
-                };
+                return moved(q, end);
             }
         }
     }
@@ -288,16 +248,17 @@ pub fn fill_value(
     fill_children(block, node, depth, input, tag, s, records, payload)
 }
 
-// A row's root, from place `at` on, where both slices start: what decode leaves.
+// A row's root, from place `at` on, into the starts of both slices: what decode leaves. The root has children, and so the
+// row enters by the children step: the node step then has one caller, and the compiler makes one function of the two.
 pub fn fill_row(block: &[u8], input: &[u8], at: usize, records: &mut [u8], payload: &mut [u8])
-    requires { ⌜ Closed (now block) × (16 ≤ length (now block)) × Room (readAt (now block) (now input) 64 0 at) (start at) (length (now records)) (length (now payload)) ⌝ }
-    ensures records { λ _. ⌜ now (records .exit) ≡ over (now (records .entry)) 0 (flat (valueOf (readAt (now (block .entry)) (now (input .entry)) 64 0 at)) 0 0) ⌝ }
-    ensures payload { λ _. ⌜ now (payload .exit) ≡ over (now (payload .entry)) 0 (pays (valueOf (readAt (now (block .entry)) (now (input .entry)) 64 0 at))) ⌝ }
+    requires { ⌜ Fillable (now block) (now input) at (length (now records)) (length (now payload)) ⌝ }
+    ensures records { λ _. ⌜ now (records .exit) ≡ over (now (records .entry)) 0 (flat (rowValue (now (block .entry)) (now (input .entry)) at) 0 0) ⌝ }
+    ensures payload { λ _. ⌜ now (payload .exit) ≡ over (now (payload .entry)) 0 (pays (rowValue (now (block .entry)) (now (input .entry)) at)) ⌝ }
 {
     let s = Spot {
         at,
         records: 0,
         payload: 0,
     };
-    fill_value(block, 0, 64, input, 0, s, records, payload);
+    fill_children(block, 0, 64, input, 0, s, records, payload);
 }

@@ -1,6 +1,6 @@
 use native.Mathlib.Omega.{arith}
 use Rattle.rules.specs.Writing.{kindFor}
-use Rattle.fill.proofs.Codes.{form-choice, form-series, form-fields}
+use Rattle.read.proofs.Codes.{form-choice, form-series, form-fields}
 use Rattle.fill.proofs.kind_of.Statement.{statement}
 use Rattle.fill.proofs.kind_of.Tie as tie
 
@@ -14,7 +14,7 @@ returns-2 c = rw (form-series _ (c .before .if1 .left) (c .if2 .taken))
 
 returns-3 : tie.Need-returns-3
 unfolding kindFor
-returns-3 c = rw (form-fields (c .before .before .args .code) (omega (arith, c .before .before .pre, c .if2 .left)))
+returns-3 c = rw (form-fields _ (c .if2 .left) (omega (arith, c .before .before .pre)))
 
 pub kind-of-spec : {M : Type 1} → statement M
 kind-of-spec = tie.close (tie.spec returns returns-2 returns-3)

@@ -2,7 +2,7 @@ use borrow.Author.Needs.{needs}
 use native.Mathlib.Omega.{arith}
 use Rattle.rules.specs.Bytes.{leAt}
 use Rattle.wire.proofs.Fields.{le-within}
-use Rattle.fill.proofs.Codes.{tag-one, tag-two}
+use Rattle.read.proofs.Codes.{tag-one, tag-two}
 use Rattle.fill.proofs.tag_at.Statement.{statement}
 use Rattle.fill.proofs.tag_at.Tie as tie
 

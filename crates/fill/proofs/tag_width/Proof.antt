@@ -1,5 +1,5 @@
 use mathlib.Core.Path.{sym}
-use Rattle.fill.proofs.Codes.{tag-one, tag-two}
+use Rattle.read.proofs.Codes.{tag-one, tag-two}
 use Rattle.fill.proofs.tag_width.Statement.{statement}
 use Rattle.fill.proofs.tag_width.Tie as tie
 

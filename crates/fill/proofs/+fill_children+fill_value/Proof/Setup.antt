@@ -9,6 +9,7 @@ use Rattle.fill.proofs.fill_value.Kinds as fill-value-kinds
 use Rattle.fill.proofs.+fill_children+fill_value.Lts-fill_value as fill-value-lts
 use Rattle.fill.proofs.fill_leaf.Reads as fill-leaf-reads
 use Rattle.fill.proofs.kind_of.Reads as kind-of-reads
+use Rattle.fill.proofs.moved.Reads as moved-reads
 use Rattle.fill.proofs.next_child.Reads as next-child-reads
 use Rattle.fill.proofs.writer.put_record.Reads as put-record-reads
 use Rattle.wire.proofs.u32_at.Reads as u32-at-reads
@@ -32,7 +33,7 @@ abbrev pub fill-value-below : ℕ → In 4 fill-value-kinds.ps
 fill-value-below t = and 4 fill-value-kinds.ps (falls 4 fill-value-kinds.ps _<_ μ-fill-value t) fill-value.Pre
 
 abbrev pub fill-children-calls : ℕ → fill-children-lts.Claims
-fill-children-calls t = (u32-at-reads.Asked, u32-at-reads.Learnt, next-child-reads.Asked, next-child-reads.Learnt, fill-value-below t, fill-value.Post, kind-of-reads.Asked, kind-of-reads.Learnt, put-record-reads.Asked, put-record-reads.Learnt)
+fill-children-calls t = (u32-at-reads.Asked, u32-at-reads.Learnt, next-child-reads.Asked, next-child-reads.Learnt, moved-reads.Asked, moved-reads.Learnt, fill-value-below t, fill-value.Post, kind-of-reads.Asked, kind-of-reads.Learnt, put-record-reads.Asked, put-record-reads.Learnt)
 
 abbrev pub fill-value-calls : ℕ → fill-value-lts.Claims
 fill-value-calls t = (fill-leaf-reads.Asked, fill-leaf-reads.Learnt, fill-children-below t, fill-children.Post)
