@@ -2,13 +2,17 @@
 use rules::Checked;
 use rules::Known;
 use rules::Located;
+use rules::Read;
 use rules::Refusal;
 use rules::Report;
+use rules::Settings;
+use rules::Stop;
 use rules::Width;
 use schema::check_encoder_schema;
 use schema::check_format;
 use schema::check_schema;
 use schema::format::table_schema;
+use stream::skip_row;
 use wire::code_of;
 use wire::fixed_width;
 use wire::from_code;
@@ -78,12 +82,37 @@ fn located(records: &[u8], names: &[u8], references: &[u8], registry: &[u8], t: 
     }
 }
 
+// A row is its table, bytes, records and payload bytes. The end is all zeros, which no row is: a row has bytes.
+fn read(r: Read) -> Report {
+    match r {
+        Read::Row(row) => Report {
+            number: 0,
+            place: row.table,
+            a: row.bytes,
+            b: row.records,
+            c: row.payload,
+        },
+        Read::End => accepted(0, 0),
+        Read::Refused(why) => why.in_numbers(),
+    }
+}
+
+// Why a run stopped.
+pub fn stopped(stop: Stop) -> Report {
+    match stop {
+        Stop::End => accepted(0, 0),
+        Stop::Refused(why) => why.in_numbers(),
+    }
+}
+
 pub fn answer(
     op: u64,
+    settings: Settings,
     records: &[u8],
     names: &[u8],
     references: &[u8],
     registry: &[u8],
+    input: &[u8],
     a: u64,
     b: u64,
 ) -> Report {
@@ -94,6 +123,7 @@ pub fn answer(
         4 => checked(check_encoder_schema(records, names, a, b)),
         5 => checked(check_format(records, names, references, registry)),
         6 => located(records, names, references, registry, a),
+        7 => read(skip_row(settings, records, names, references, registry, input, a)),
         _ => nothing(),
     }
 }

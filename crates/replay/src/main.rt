@@ -3,17 +3,21 @@
 //
 // A case is a header of 64 bytes and five byte strings. The header, little-endian: u32 op; u32 lengths of records, names, references,
 // registry and input; u64 a; u64 b; u64 node charge; u64 largest blob; u64 largest row. A line: refusal number (0 if none), place, and
-// up to three values.
+// three values; for a run (op 8) also the rows and bytes that it accepted.
 mod answers;
 
 use answers::answer;
+use answers::stopped;
+use rules::Ran;
 use rules::Report;
+use rules::Settings;
+use stream::run;
 use wire::field;
 ghost use Prim.Native.Nat.{_+_, _≤_};
 ghost use lib.ListN.{length};
 ghost use mathlib.Core.Path.{_≡_};
 
-// The longest four byte strings of a case, together.
+// The longest five byte strings of a case, together.
 const SPACE: u64 = 4194304;
 
 // Reads as much as there is, or as the slice holds; true if it is full.
@@ -21,7 +25,7 @@ fn fill(s: &mut [u8]) -> bool {
     io::read_full(0, s) == s.len()
 }
 
-fn write_line(r: Report) {
+fn write_report(r: Report) {
     io::print_decimal(1, r.number);
     io::write_all(1, b" ");
     io::print_decimal(1, r.place);
@@ -31,6 +35,20 @@ fn write_line(r: Report) {
     io::print_decimal(1, r.b);
     io::write_all(1, b" ");
     io::print_decimal(1, r.c);
+}
+
+fn write_line(r: Report) {
+    write_report(r);
+    io::write_all(1, b"\n");
+}
+
+fn write_ran(ran: Ran) {
+    let stop = ran.stop;
+    write_report(stopped(stop));
+    io::write_all(1, b" ");
+    io::print_decimal(1, ran.rows);
+    io::write_all(1, b" ");
+    io::print_decimal(1, ran.bytes);
     io::write_all(1, b"\n");
 }
 
@@ -46,11 +64,50 @@ fn size_at(head: &[u8; 64], at: usize) -> usize
     size as usize
 }
 
-// Answers the case whose byte strings end in `body` at x, y, z, w and its end.
-fn answer_body(op: u64, body: &[u8], x: usize, y: usize, z: usize, w: usize, a: u64, b: u64)
+fn settings_of(head: &[u8; 64]) -> Settings {
+    Settings {
+        node_charge: field(head, 40, 8),
+        max_blob_bytes: field(head, 48, 8),
+        max_row_bytes: field(head, 56, 8),
+    }
+}
+
+// Answers the case whose byte strings end in `body` at x, y, z, w and its end. A run's line is longer than the others.
+fn answer_body(
+    op: u64,
+    settings: Settings,
+    body: &[u8],
+    x: usize,
+    y: usize,
+    z: usize,
+    w: usize,
+    a: u64,
+    b: u64,
+)
     requires { ⌜ (x ≤ y) × (y ≤ z) × (z ≤ w) × (w ≤ length (now body)) ⌝ }
 {
-    write_line(answer(op, &body[0..x], &body[x..y], &body[y..z], &body[z..w], a, b));
+    if op == 8 {
+        write_ran(run(
+            settings,
+            &body[0..x],
+            &body[x..y],
+            &body[y..z],
+            &body[z..w],
+            &body[w..],
+        ));
+        return;
+    }
+    write_line(answer(
+        op,
+        settings,
+        &body[0..x],
+        &body[x..y],
+        &body[y..z],
+        &body[z..w],
+        &body[w..],
+        a,
+        b,
+    ));
 }
 
 // Answers the next case; false where there is none, or it is cut, or too long for the space.
@@ -73,7 +130,8 @@ fn answer_next(space: &mut [u8]) -> bool {
     let op = field(&head, 0, 4);
     let a = field(&head, 24, 8);
     let b = field(&head, 32, 8);
-    answer_body(op, &space[0..end], x, y, z, w, a, b);
+    let settings = settings_of(&head);
+    answer_body(op, settings, &space[0..end], x, y, z, w, a, b);
     true
 }
 

@@ -152,7 +152,7 @@ fn write_record(options: &Options, cases: &str, answers: &str) -> Result<ExitCod
     let recording = record::record(options.seed);
     write(cases, &recording.cases)?;
     write(answers, recording.answers.as_bytes())?;
-    println!("{} cases, {} bytes", recording.count, recording.cases.len());
+    println!("{} {} and {} bytes", recording.tally, recording.cases.len(), recording.answers.len());
     Ok(ExitCode::SUCCESS)
 }
 

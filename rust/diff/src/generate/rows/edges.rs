@@ -1,7 +1,7 @@
 //! Document 01's rows, and both sides of every bound that a row can meet: wide tags, deep schemas, many
 //! tables, long blobs, settings and positions.
 
-use plain::settings::{Settings, MOST};
+use plain::settings::{Settings, MOST, MOST_NODE_CHARGE};
 
 use super::usual;
 use crate::case::{op, Case};
@@ -94,6 +94,22 @@ fn settings_and_positions(emit: &mut Emit) {
         }
         read(case, &[], emit);
         read(&case.clone().with_settings(Settings { node_charge: 0, ..usual() }), &[], emit);
+    }
+}
+
+/// Each setting at its bounds and one past them while the others are usual, over a row and over the tag of
+/// a table that is not there.
+fn bounds(emit: &mut Emit) {
+    let a = format(&[schema_a()]);
+    let charges = [0, 1, MOST_NODE_CHARGE, MOST_NODE_CHARGE + 1];
+    let charges = charges.map(|node_charge| Settings { node_charge, ..usual() });
+    let bounds = [0, MOST, MOST + 1];
+    let blobs = bounds.map(|max_blob_bytes| Settings { max_blob_bytes, ..usual() });
+    let rows = bounds.map(|max_row_bytes| Settings { max_row_bytes, ..usual() });
+    for settings in [usual()].into_iter().chain(charges).chain(blobs).chain(rows) {
+        let case = a.clone().with_settings(settings);
+        read(&case, &FULL, emit);
+        read(&case, &[1, 0], emit);
     }
 }
 
@@ -263,6 +279,7 @@ pub fn fixed(emit: &mut Emit) {
 /// What a sample has to have, whatever else is in it: document 01's rows, and the bounds of a schema.
 pub fn few(emit: &mut Emit) {
     document_rows(emit);
+    bounds(emit);
     format_bounds(emit);
     deep(63, 17, emit);
 }
