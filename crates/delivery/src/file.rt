@@ -46,7 +46,7 @@ pub fn load(argument: usize, file: &[u8], space: &mut [u8], from: usize) -> usiz
         blame(b"cannot read ", file, path);
     } else {
         blame(
-            b"no room (4194304 bytes for all files together) for ",
+            b"more than 4194304 bytes with the files before it: ",
             file,
             path,
         );
