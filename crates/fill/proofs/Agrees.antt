@@ -8,10 +8,10 @@ use native.Mathlib.Omega.{arith}
 use lib.ListN.{length}
 use lib.Dec.{leb}
 use Rattle.rules.specs.Choice.{pick}
-use Rattle.rules.specs.Bytes.{Bytes, leAt, part}
-use Rattle.rules.specs.Wire.{Form, empty, truth, fixed, raw, sized, choice, series, fields, unknown, form, endTag}
+use Rattle.rules.specs.Bytes.{Bytes}
+use Rattle.rules.specs.Wire.{Form, empty, truth, fixed, raw, sized, choice, series, fields, unknown, form}
 use Rattle.rules.specs.Block.{nodeAt}
-use Rattle.rules.specs.Value.{Value, blob, Items, Values, recordsOf, payloadOf}
+use Rattle.rules.specs.Value.{Value, blob, recordsOf, payloadOf}
 use Rattle.rules.specs.Walk as rule
 use Rattle.rules.specs.Walk.{Limits, Pos, Answer, Refused, Walker, numberOf, bytesOf, charged, blobOf, childOf, pairsOf, fieldsOf, walk, after}
 use Rattle.rules.specs.declared.Node.{Node}

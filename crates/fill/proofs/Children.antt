@@ -1,13 +1,12 @@
 -- Nodes with children: what is left to read after i of them, and what a turn of the loop takes from it.
 -- Assumes nothing.
-use Prim.Native.Nat.{ℕ, zero, suc, _+_, _-_, _*_, _≤_, _<_}
+use Prim.Native.Nat.{ℕ, zero, suc, _+_, _-_, _≤_, _<_}
 use mathlib.Core.Path.{_≡_, refl, sym, ap, _∙_}
 use mathlib.Core.Bool.{Bool, true, false}
 use mathlib.Core.List.{List, _++_, append-nil}
 use native.Mathlib.Omega.{arith}
 use native.Mathlib.Nat.{add-zero, sub-zero}
-use native.Mathlib.Numerals.{add-one}
-use borrow.Author.Tests.{ltb-true, ltb-false, lt-ltb, le-ltb}
+use borrow.Author.Tests.{ltb-true, ltb-false, lt-ltb}
 use lib.Dec.{ltb, eqb}
 use lib.ListN.{length}
 use Rattle.rules.specs.Choice.{pick, _and_, all}
@@ -27,7 +26,7 @@ use Rattle.fill.specs.declared.Next.the-variants.{Child, End}
 use Rattle.fill.specs.Plain.{Reading, Got, Not, _>>=_, IsGot, numberAt, Reader, childAt, pairsAt, fieldsAt, leafAt, byForm, readAt, valueOf, endOf}
 use Rattle.fill.specs.Filling.{tagBytes, nextOf}
 use Rattle.read.proofs.Codes.{form-choice, form-series, form-fields}
-use Rattle.fill.proofs.Got.{not-got, got-from, got-is, read-step, Step, step, number-step, child-step}
+use Rattle.fill.proofs.Got.{not-got, got-from, got-is, read-step, step, number-step, child-step}
 
 -- ---- the children of a value, each with the tag that it bears
 

@@ -1,16 +1,14 @@
 -- The loop over a node's children: what is left to write, over what is written, is the whole.
 -- Assumes nothing.
 use Prim.Native.Nat.{ℕ, suc, _+_, _-_, _*_, _≤_, _<_}
-use mathlib.Core.Path.{_≡_, refl, sym, ap, _∙_}
-use mathlib.Core.List.{List, _++_}
+use mathlib.Core.Path.{_≡_, refl, sym, _∙_}
+use mathlib.Core.List.{List}
 use native.Mathlib.Omega.{arith}
-use native.Mathlib.Nat.{add-assoc}
 use lib.ListN.{length}
 use Rattle.rules.specs.Bytes.{over}
-use Rattle.rules.specs.Wire.{Form, form}
-use Rattle.rules.specs.Value.{Value, Items, done, item, items, tally, tallyI, recordsOf, payloadOf}
+use Rattle.rules.specs.Wire.{Form}
+use Rattle.rules.specs.Value.{Value, Items, done, items, tally, tallyI, recordsOf, payloadOf}
 use Rattle.rules.specs.ValueTable.{valueRecord, pays, paysI, flat, flatI}
-use Rattle.rules.specs.Writing.{kindFor}
 use Rattle.rules.specs.declared.Node.{Node}
 use Rattle.rules.proofs.Over.{length-over, over-none, over-at}
 use Rattle.values.proofs.Records.{length-record}
@@ -18,7 +16,7 @@ use Rattle.values.proofs.Sizes.{length-flat, length-pays, one-record, items-wit
 use Rattle.fill.specs.declared.Spot.{Spot}
 use Rattle.fill.specs.declared.Next.{Next}
 use Rattle.fill.specs.declared.Next.the-variants.{Child, End}
-use Rattle.fill.specs.Plain.{Reading, Got, IsGot, valueOf, endOf, Reader}
+use Rattle.fill.specs.Plain.{Reading, Got, valueOf, endOf, Reader}
 use Rattle.fill.specs.Filling.{Room, past, Filled, nextOf}
 use Rattle.fill.proofs.Got.{got-from}
 use Rattle.fill.proofs.Children.{left, Parent, children, Turn, Follows, child, ends, turn}

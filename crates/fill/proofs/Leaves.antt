@@ -1,7 +1,7 @@
 -- Nodes without children: what was read is there, and its record and its payload are what the code writes.
 -- Assumes nothing.
-use Prim.Native.Nat.{ℕ, zero, suc, _+_, _-_, _*_, _≤_, _<_}
-use mathlib.Core.Path.{_≡_, refl, sym, ap, _∙_}
+use Prim.Native.Nat.{ℕ, _+_, _-_, _*_, _≤_, _<_}
+use mathlib.Core.Path.{_≡_, refl, sym}
 use mathlib.Core.Bool.{Bool, true, false}
 use mathlib.Core.List.{List, []}
 use native.Mathlib.Omega.{arith}
@@ -12,13 +12,13 @@ use lib.ListN.{length}
 use Rattle.rules.specs.Choice.{pick, _and_, all}
 use Rattle.rules.specs.Bytes.{leAt, part, over}
 use Rattle.rules.specs.Wire.{Form, empty, truth, fixed, raw, sized, choice, series, fields, unknown, form, widthOf, wireTypes, typeIn, typeOf, written, writtenIf}
-use Rattle.rules.specs.Value.{Value, nothing, boolean, number, wide, blob, tally, recordsOf, payloadOf}
+use Rattle.rules.specs.Value.{tally, recordsOf, payloadOf}
 use Rattle.rules.specs.ValueTable.{valueRecord, bit, pays, flat}
 use Rattle.rules.proofs.Tests.{all-each, and-both}
 use Rattle.rules.proofs.Over.{over-none}
 use Rattle.wire.proofs.Parts.{part-length}
 use Rattle.fill.specs.declared.Spot.{Spot}
-use Rattle.fill.specs.Plain.{Reading, Got, Not, _>>=_, IsGot, valueOf, endOf, numberAt, bytesAt, leafAt}
+use Rattle.fill.specs.Plain.{IsGot, valueOf, endOf, leafAt}
 use Rattle.fill.specs.Filling.{Room, past, Filled, scalarOf}
 use Rattle.read.proofs.Codes.{form-sized}
 use Rattle.fill.proofs.Got.{number-got, bytes-got}

@@ -9,7 +9,7 @@ use borrow.Author.Tests.{lt-ltb, le-ltb}
 use lib.Dec.{eqb}
 use Rattle.rules.specs.Choice.{pick}
 use Rattle.rules.specs.Bytes.{leAt}
-use Rattle.rules.specs.Wire.{choice, series, fields, form, widthOf, endTag}
+use Rattle.rules.specs.Wire.{choice, series, form, widthOf, endTag}
 use Rattle.fill.specs.declared.Next.the-variants.{Child, End}
 use Rattle.read.specs.Children.{shapeOf, endsAt}
 use Rattle.fill.specs.Filling.{tagBytes, nextOf}

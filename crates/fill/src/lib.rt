@@ -38,6 +38,7 @@ pub enum Next {
 
 // ---- nodes without children
 
+// A boolean's byte as it is stored.
 fn truth(x: u64) -> u64
     ensures { λ r. ⌜ r ≡ bit (ltb 0 x) ⌝ }
 {
@@ -49,7 +50,7 @@ fn scalar_at(code: u8, input: &[u8], at: usize, width: usize) -> u64
     requires { ⌜ (width ≤ 8) × (width ≤ length (now input) - at) ⌝ }
     ensures { λ r. ⌜ r ≡ scalarOf (now (input .entry)) code width at ⌝ }
 {
-    // nothing may stand where the input ends
+    // A value without bytes may stand where the input ends.
     if width == 0 {
         return 0;
     }
@@ -87,6 +88,7 @@ fn fill_bytes(
     }
 }
 
+// A blob has its length before it, int128 and int256 have more bytes than a record holds, and all else is in the record.
 fn fill_leaf(
     code: u8,
     input: &[u8],
@@ -162,6 +164,7 @@ fn next_child(code: u8, first: usize, count: usize, input: &[u8], i: usize, at: 
     Next::Child(tag, first + tag as usize, next)
 }
 
+// The same records and payload, at another place of the input.
 fn moved(s: Spot, at: usize) -> Spot
     ensures { λ r. ⌜ r ≡ record { at = at; records = s .records; payload = s .payload } ⌝ }
 {

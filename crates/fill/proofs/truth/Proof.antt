@@ -1,12 +1,12 @@
 use native.Mathlib.Omega.{arith}
-use borrow.Author.Tests.{lt-ltb}
+use borrow.Author.Tests.{lt-ltb, le-ltb}
 use Rattle.rules.specs.ValueTable.{bit}
 use Rattle.fill.proofs.truth.Statement.{statement}
 use Rattle.fill.proofs.truth.Tie as tie
 
 returns : tie.Need-returns
 unfolding bit
-returns c = rw (c .if1 .taken)
+returns c = rw (le-ltb 0 (c .before .args .x) (omega (arith, c .if1 .taken)))
 
 returns-2 : tie.Need-returns-2
 unfolding bit

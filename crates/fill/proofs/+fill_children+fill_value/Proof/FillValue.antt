@@ -1,7 +1,6 @@
 use borrow.Author.Needs.{needs}
 use native.Mathlib.Omega.{arith}
-use Prim.Native.Nat.{ℕ, suc, _+_, _-_, _*_, _≤_, _<_}
-use mathlib.Core.Path.{_≡_, refl, sym, _∙_}
+use Prim.Native.Nat.{ℕ}
 use Rattle.rules.specs.Block.{nodeAt}
 use Rattle.fill.proofs.Children.{leaf-read}
 use Rattle.fill.proofs.fill_value.Reads as fill-value
