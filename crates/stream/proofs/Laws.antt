@@ -41,12 +41,12 @@ unfolding rowAt numberOf start pick _>>=_ skipped
 row-cut f inp lim at h = rw (lt-leb 2 (length inp - at) h)
 
 -- where a table's schema stands does not depend on the record table
-schema-any : (table names references registry : List ℕ) (t : ℕ) → tableSchema (slices [] names references registry) t ≡ tableSchema (slices table names references registry) t
+pub schema-any : (table names references registry : List ℕ) (t : ℕ) → tableSchema (slices [] names references registry) t ≡ tableSchema (slices table names references registry) t
 unfolding tableSchema
 schema-any table names references registry t = refl
 
 -- the root of a table's schema is a tuple
-root-code : (s store : List ℕ) {t : Schema} → Denotes s store 0 t → TableRoot t → nodeAt s 0 .code ≡ 19
+pub root-code : (s store : List ℕ) {t : Schema} → Denotes s store 0 t → TableRoot t → nodeAt s 0 .code ≡ 19
 unfolding TableRoot
 root-code s store (denotes l k m a) r = k ∙ r .0
 

@@ -21,7 +21,7 @@ use schema::format_rules;
 const LONGEST: usize = 4294967295;
 
 // Settings and slices are inside document 01's bounds.
-fn within_bounds(
+pub fn within_bounds(
     settings: Settings,
     table: &[u8],
     names: &[u8],
@@ -49,7 +49,8 @@ fn within_bounds(
     input.len() <= LONGEST
 }
 
-fn bad_format(checked: Checked) -> Read
+// A format that is refused, as the answer of a call.
+pub fn bad_format(checked: Checked) -> Read
     ensures { λ r. ⌜ r ≡ whenAccepted Read.Refused checked (Read.Refused Refusal.Setting) ⌝ }
 {
     match checked {

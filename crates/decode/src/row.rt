@@ -1,0 +1,113 @@
+// A row of a checked format: judged by stream's `row_at`, given room, filled in. Each step has a contract of its own, so
+// that a caller may put a test between them.
+ghost use mathlib.Core.Path.{_≡_};
+ghost use Prim.Native.Nat.{_≤_, min};
+ghost use lib.ListN.{length};
+ghost use Rattle.rules.specs.Bytes.{over};
+ghost use Rattle.rules.specs.ValueTable.{flat, pays};
+ghost use Rattle.rules.specs.Reading.{limits, rowAt, filled};
+ghost use Rattle.schema.specs.Slices.{slices};
+ghost use Rattle.stream.specs.Rows.{Asked};
+ghost use Rattle.decode.specs.Steps.{valueAt, Granted, roomFor};
+use fill::fill_row;
+use rules::Extent;
+use rules::Located;
+use rules::Read;
+use rules::Refusal;
+use rules::Settings;
+use schema::format::table_schema;
+use stream::row::row_at;
+
+// Of a slice to be written only so many bytes count.
+const LONGEST: usize = 4294967295;
+
+fn room_in(len: usize) -> u64
+    ensures { λ r. ⌜ r ≡ min len 4294967295 ⌝ }
+{
+    if LONGEST < len {
+        return LONGEST as u64;
+    }
+    len as u64
+}
+
+// Room for a judged row's records, then for its payload bytes, in slices of these lengths; each refusal has the whole row's need.
+pub fn room_for(row: Extent, at: usize, records: usize, payload: usize) -> Read
+    ensures { λ r. ⌜ r ≡ roomFor at (min records 4294967295) (min payload 4294967295) row ⌝ }
+{
+    if room_in(records) / 16 < row.records {
+        return Read::Refused(Refusal::NoNodeRoom {
+            needed: row.records,
+            place: at as u64,
+        });
+    }
+    if room_in(payload) < row.payload {
+        return Read::Refused(Refusal::NoPayloadRoom {
+            needed: row.payload,
+            place: at as u64,
+        });
+    }
+    Read::Row(row)
+}
+
+// A row of table `tag` that was judged and has room: its root's value, from the start of each slice.
+pub fn fill_at(
+    table: &[u8],
+    names: &[u8],
+    references: &[u8],
+    registry: &[u8],
+    input: &[u8],
+    at: usize,
+    tag: u64,
+    records: &mut [u8],
+    payload: &mut [u8],
+)
+    requires { ⌜ Granted (slices (now table) (now names) (now references) (now registry)) (now input) at tag (length (now records)) (length (now payload)) ⌝ }
+    ensures records { λ _. ⌜ now (records .exit) ≡ over (now (records .entry)) 0 (flat (valueAt (slices (now (table .entry)) (now (names .entry)) (now (references .entry)) (now (registry .entry))) (now (input .entry)) at tag) 0 0) ⌝ }
+    ensures payload { λ _. ⌜ now (payload .exit) ≡ over (now (payload .entry)) 0 (pays (valueAt (slices (now (table .entry)) (now (names .entry)) (now (references .entry)) (now (registry .entry))) (now (input .entry)) at tag)) ⌝ }
+{
+    let found = table_schema(names, references, registry, tag);
+    let Located::Block(first, count) = found else {
+        return;
+    };
+    let start = first as usize * 16;
+    let end = start + count as usize * 16;
+    fill_row(&table[start..end], input, at + 2, records, payload);
+}
+
+// The row at a place, judged, given room, filled in.
+pub fn decode_row(
+    table: &[u8],
+    names: &[u8],
+    references: &[u8],
+    registry: &[u8],
+    input: &[u8],
+    at: usize,
+    settings: Settings,
+    records: &mut [u8],
+    payload: &mut [u8],
+) -> Read
+    requires { ⌜ Asked (slices (now table) (now names) (now references) (now registry)) (now input) settings × (at ≤ length (now input)) ⌝ }
+    ensures { λ r. ⌜ record { answer = r; records = now (records .exit); payload = now (payload .exit) } ≡ filled at (rowAt (slices (now (table .entry)) (now (names .entry)) (now (references .entry)) (now (registry .entry))) (now (input .entry)) (limits settings) at) (now (records .entry)) (now (payload .entry)) ⌝ }
+{
+    let read = row_at(table, names, references, registry, input, at, settings);
+    let Read::Row(row) = read else {
+        return read;
+    };
+    let fits = room_for(row, at, records.len(), payload.len());
+    let Read::Row(_) = fits else {
+        return fits;
+    };
+    let tag = row.table;
+    fill_at(
+        table,
+        names,
+        references,
+        registry,
+        input,
+        at,
+        tag,
+        records,
+        payload,
+    );
+    Read::Row(row)
+}
