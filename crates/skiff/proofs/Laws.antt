@@ -2,7 +2,6 @@
 -- Assumes nothing.
 use Prim.Native.Nat.{ℕ, zero, suc, _+_, _*_, _≤_, _<_}
 use mathlib.Core.Path.{_≡_, refl, sym, _∙_}
-use mathlib.Core.Bool.{true, false}
 use mathlib.Core.List.{List, [], _∷_, _++_, append-assoc, append-nil}
 use native.Mathlib.Omega.{arith}
 use borrow.Author.Tests.{le-leb, lt-leb}
@@ -11,14 +10,14 @@ use lib.Dec.{leb}
 use Rattle.rules.specs.Choice.{pick}
 use Rattle.rules.specs.Bytes.{le, over}
 use Rattle.rules.specs.Refusals.{said, reportOf}
+use Rattle.rules.specs.Reading.{Decoded}
 use Rattle.rules.specs.declared.Refusal.{Refusal}
 use Rattle.rules.specs.declared.Refusal.the-variants.{Setting, BadSchemaTable, TooDeep, UnexpectedChildren, TooManyChildren, EmptyTableSchemas, UnknownRegistryReference, TableSchemaRootMustBeTuple, TableSchemaMustBeTuple, TableSchemaChildMissingName, MissingTableSchema, Truncated, RowTooLarge, BlobTooLarge, ValueDoesNotMatchSchema, TupleLength, InvalidVariantTag, BadValueTable, NoNodeRoom, NoPayloadRoom, NoOutputRoom}
 use Rattle.rules.specs.declared.Read.{Read}
-use Rattle.rules.specs.declared.Read.the-variants.{Row, End, Refused}
 use Rattle.rules.proofs.Over.{over-at}
 use Rattle.rows.proofs.Stands.{length-le}
 use Rattle.skiff.specs.declared.Answer.{Answer}
-use Rattle.skiff.specs.Answers.{words, layout, leaves, returned}
+use Rattle.skiff.specs.Answers.{words, layout, ofRead, leaves, returned, kept}
 
 pub number-small : (r : Refusal) → reportOf r .number < 22
 unfolding reportOf said
@@ -109,3 +108,21 @@ short-given s a h = (sym (returned-short s a h), sym (leaves-short s a h))
 
 pub room-given : {A : Type 0} (f : A → Answer) (x y : A) (a : Answer) (s s′ : List ℕ) (n : ℕ) → 88 ≤ length s → a ≡ f x → x ≡ y → (n ≡ a .why .number) × (s′ ≡ over s 0 (layout a)) → (n ≡ returned s (f y)) × (s′ ≡ leaves s (f y))
 room-given f x y a s s′ n h p q g = rw (← q, ← p) (g .0 ∙ sym (returned-room s a h), g .1 ∙ sym (leaves-room s a h))
+
+-- ---- what decode gives: the two slices too
+
+kept-room : (s made was : List ℕ) → 88 ≤ length s → kept s made was ≡ made
+unfolding kept pick
+kept-room s made was h = rw (le-leb 88 (length s) h)
+
+kept-short : (s made was : List ℕ) → length s < 88 → kept s made was ≡ was
+unfolding kept pick
+kept-short s made was h = rw (lt-leb 88 (length s) h)
+
+pub short-kept : (s : List ℕ) (a : Answer) (rs rs′ ps ps′ : List ℕ) → length s < 88 → (1 ≡ returned s a) × ((s ≡ leaves s a) × ((rs ≡ kept s rs′ rs) × (ps ≡ kept s ps′ ps)))
+short-kept s a rs rs′ ps ps′ h = (sym (returned-short s a h), (sym (leaves-short s a h), (sym (kept-short s rs′ rs h), sym (kept-short s ps′ ps h))))
+
+pub room-kept : (x : Read) (d : Decoded) (a : Answer) (s s′ rs rs′ ps ps′ : List ℕ) (n : ℕ) → 88 ≤ length s → a ≡ ofRead x → (x ≡ d .answer) × ((rs′ ≡ d .records) × (ps′ ≡ d .payload)) → (n ≡ a .why .number) × (s′ ≡ over s 0 (layout a)) → (n ≡ returned s (ofRead (d .answer))) × ((s′ ≡ leaves s (ofRead (d .answer))) × ((rs′ ≡ kept s (d .records) rs) × (ps′ ≡ kept s (d .payload) ps)))
+room-kept x d a s s′ rs rs′ ps ps′ n h p q g =
+    let o = room-given ofRead x (d .answer) a s s′ n h p (q .0) g in
+    (o .0, (o .1, (q .1 .0 ∙ sym (kept-room s (d .records) rs h), q .1 .1 ∙ sym (kept-room s (d .payload) ps h))))

@@ -7,7 +7,7 @@ use mathlib.Core.List.{List}
 use Rattle.rules.specs.Wire.{typeOf, codeOf, fixedWidth}
 use Rattle.rules.specs.Names.{parsed}
 use Rattle.rules.specs.Format.{Format, schemaAnswer, encoderRule, formatRule}
-use Rattle.rules.specs.Reading.{skipRule, runRule, ranOf}
+use Rattle.rules.specs.Reading.{Decoded, skipRule, runRule, ranOf, decodeRule}
 use Rattle.rules.specs.declared.WireType.{WireType}
 use Rattle.rules.specs.declared.Known.{Known}
 use Rattle.rules.specs.declared.Width.{Width}
@@ -16,7 +16,7 @@ use Rattle.rules.specs.declared.Checked.{Checked}
 use Rattle.rules.specs.declared.Read.{Read}
 use Rattle.rules.specs.declared.Ran.{Ran}
 use Rattle.skiff.specs.declared.Answer.{Answer}
-use Rattle.skiff.specs.Answers.{ofRead, ofRan, leaves, returned, settingsOf}
+use Rattle.skiff.specs.Answers.{ofRead, ofRan, leaves, returned, kept, settingsOf}
 
 abbrev Pins : {A : Type 0} → A → Type 0
 Pins {A} said = (r r′ : A) → r ≡ said → r′ ≡ said → r ≡ r′
@@ -54,6 +54,10 @@ skip-row-pinned f s inp at = only (skipRule f s inp at)
 pub run-pinned : (f : Format) (s : Settings) (inp : List ℕ) → Pins (ranOf (runRule f s inp))
 run-pinned f s inp = only (ranOf (runRule f s inp))
 
+-- the answer and the contents of both slices
+pub next-row-pinned : (f : Format) (s : Settings) (inp : List ℕ) (at : ℕ) (rs ps : List ℕ) → Pins (decodeRule f s inp at rs ps)
+next-row-pinned f s inp at rs ps = only (decodeRule f s inp at rs ps)
+
 -- ---- the C functions: the number that is returned, and what the answer slice has afterwards
 
 abbrev Outcome : Type 0
@@ -73,3 +77,7 @@ skiff-skip-pinned f charge blob row inp at slice = both slice _
 
 pub skiff-run-pinned : (f : Format) (charge blob row : ℕ) (inp : List ℕ) (slice : List ℕ) → PinsBoth slice (ofRan (ranOf (runRule f (settingsOf charge blob row) inp)))
 skiff-run-pinned f charge blob row inp slice = both slice _
+
+-- decode's other two slices are fixed too
+pub skiff-decode-pinned : (f : Format) (charge blob row : ℕ) (inp : List ℕ) (at : ℕ) (rs ps slice : List ℕ) → PinsBoth slice (ofRead (decodeRule f (settingsOf charge blob row) inp at rs ps .answer)) × (Pins (kept slice (decodeRule f (settingsOf charge blob row) inp at rs ps .records) rs) × Pins (kept slice (decodeRule f (settingsOf charge blob row) inp at rs ps .payload) ps))
+skiff-decode-pinned f charge blob row inp at rs ps slice = (both slice _, (only _, only _))

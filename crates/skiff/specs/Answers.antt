@@ -68,3 +68,7 @@ leaves s a = pick (leb 88 (length s)) (over s 0 (layout a)) s
 -- the refusal's number; 1 where the slice is too short
 unfoldable pub returned : List ℕ → Answer → ℕ
 returned s a = pick (leb 88 (length s)) (a .why .number) 1
+
+-- another slice: what the call makes of it, but where there is no room for an answer it stays
+unfoldable pub kept : List ℕ → List ℕ → List ℕ → List ℕ
+kept slice made was = pick (leb 88 (length slice)) made was

@@ -4,9 +4,9 @@ ghost use Prim.Native.Nat.{_+_, _≤_, _<_};
 ghost use mathlib.Core.List.{_∷_, []};
 ghost use lib.ListN.{length};
 ghost use Rattle.rules.specs.Bytes.{over};
-ghost use Rattle.rules.specs.Reading.{skipRule, runRule, ranOf};
+ghost use Rattle.rules.specs.Reading.{skipRule, runRule, ranOf, decodeRule};
 ghost use Rattle.schema.specs.Slices.{slices};
-ghost use Rattle.skiff.specs.Answers.{words, layout, fine, none, ofRead, ofRan, leaves, returned, settingsOf};
+ghost use Rattle.skiff.specs.Answers.{words, layout, fine, none, ofRead, ofRan, leaves, returned, kept, settingsOf};
 use fill::writer::put64;
 use rules::Extent;
 use rules::Ran;
@@ -198,4 +198,47 @@ pub extern "C" fn skiff_run(
     let ran = stream::run(settings, table, names, references, registry, input);
     let stop = ran.stop;
     give(answer, of_ran(ran.rows, ran.bytes, stop))
+}
+
+// The row at a position, as value records and payload bytes in two slices of the host's.
+#[no_mangle]
+pub extern "C" fn skiff_decode(
+    node_charge: u64,
+    max_blob_bytes: u64,
+    max_row_bytes: u64,
+    table: &[u8],
+    names: &[u8],
+    references: &[u8],
+    registry: &[u8],
+    input: &[u8],
+    position: u64,
+    records: &mut [u8],
+    payload: &mut [u8],
+    answer: &mut [u8],
+) -> u32
+    ensures number { λ r. ⌜ r ≡ returned (now (answer .entry)) (ofRead ((decodeRule (slices (now (table .entry)) (now (names .entry)) (now (references .entry)) (now (registry .entry))) (settingsOf «node_charge» «max_blob_bytes» «max_row_bytes») (now (input .entry)) position (now (records .entry)) (now (payload .entry))) .answer)) ⌝ }
+    ensures answer { λ _. ⌜ now (answer .exit) ≡ leaves (now (answer .entry)) (ofRead ((decodeRule (slices (now (table .entry)) (now (names .entry)) (now (references .entry)) (now (registry .entry))) (settingsOf «node_charge» «max_blob_bytes» «max_row_bytes») (now (input .entry)) position (now (records .entry)) (now (payload .entry))) .answer)) ⌝ }
+    ensures records { λ _. ⌜ now (records .exit) ≡ kept (now (answer .entry)) ((decodeRule (slices (now (table .entry)) (now (names .entry)) (now (references .entry)) (now (registry .entry))) (settingsOf «node_charge» «max_blob_bytes» «max_row_bytes») (now (input .entry)) position (now (records .entry)) (now (payload .entry))) .records) (now (records .entry)) ⌝ }
+    ensures payload { λ _. ⌜ now (payload .exit) ≡ kept (now (answer .entry)) ((decodeRule (slices (now (table .entry)) (now (names .entry)) (now (references .entry)) (now (registry .entry))) (settingsOf «node_charge» «max_blob_bytes» «max_row_bytes») (now (input .entry)) position (now (records .entry)) (now (payload .entry))) .payload) (now (payload .entry)) ⌝ }
+{
+    if answer.len() < ANSWER {
+        return 1;
+    }
+    let settings = Settings {
+        node_charge,
+        max_blob_bytes,
+        max_row_bytes,
+    };
+    let read = decode::next_row(
+        settings,
+        table,
+        names,
+        references,
+        registry,
+        input,
+        position,
+        records,
+        payload,
+    );
+    give(answer, of_read(read))
 }
