@@ -1,7 +1,6 @@
 // Reading a file that an argument names.
 use crate::line::say;
 ghost use Prim.Native.Nat.{_≤_};
-ghost use lib.ListN.{length};
 
 fn blame(what: &[u8], file: &[u8], path: &[u8]) {
     say(what);
@@ -46,7 +45,7 @@ pub fn load(argument: usize, file: &[u8], space: &mut [u8], from: usize) -> usiz
         blame(b"cannot read ", file, path);
     } else {
         blame(
-            b"no room (4194304 bytes for all files together) for ",
+            b"more than 4194304 bytes with the files before it: ",
             file,
             path,
         );

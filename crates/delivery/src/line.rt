@@ -13,7 +13,26 @@ fn say_number(n: u64) {
     io::print_decimal(STDOUT_FILENO, n);
 }
 
-// Document 01's name.
+// Document 01's name of a refusal from 11 on: of a row, of a value table, of a lent slice.
+fn say_row_name(why: Refusal) {
+    match why {
+        Refusal::MissingTableSchema { .. } => say(b"MissingTableSchema"),
+        Refusal::Truncated { .. } => say(b"Truncated"),
+        Refusal::RowTooLarge { .. } => say(b"RowTooLarge"),
+        Refusal::BlobTooLarge { .. } => say(b"BlobTooLarge"),
+        Refusal::ValueDoesNotMatchSchema { .. } => say(b"ValueDoesNotMatchSchema"),
+        Refusal::TupleLength { .. } => say(b"TupleLength"),
+        Refusal::InvalidVariantTag { .. } => say(b"InvalidVariantTag"),
+        Refusal::BadValueTable => say(b"BadValueTable"),
+        Refusal::NoNodeRoom { .. } => say(b"NoNodeRoom"),
+        Refusal::NoPayloadRoom { .. } => say(b"NoPayloadRoom"),
+        Refusal::NoOutputRoom { .. } => say(b"NoOutputRoom"),
+        _ => {}
+    }
+}
+
+// Document 01's name of a refusal. The rows' have a function of their own, since a check's time grows with the square of a
+// `match`.
 fn say_name(why: Refusal) {
     match why {
         Refusal::Setting => say(b"Setting"),
@@ -26,17 +45,7 @@ fn say_name(why: Refusal) {
         Refusal::TableSchemaRootMustBeTuple { .. } => say(b"TableSchemaRootMustBeTuple"),
         Refusal::TableSchemaMustBeTuple { .. } => say(b"TableSchemaMustBeTuple"),
         Refusal::TableSchemaChildMissingName { .. } => say(b"TableSchemaChildMissingName"),
-        Refusal::MissingTableSchema { .. } => say(b"MissingTableSchema"),
-        Refusal::Truncated { .. } => say(b"Truncated"),
-        Refusal::RowTooLarge { .. } => say(b"RowTooLarge"),
-        Refusal::BlobTooLarge { .. } => say(b"BlobTooLarge"),
-        Refusal::ValueDoesNotMatchSchema { .. } => say(b"ValueDoesNotMatchSchema"),
-        Refusal::TupleLength { .. } => say(b"TupleLength"),
-        Refusal::InvalidVariantTag { .. } => say(b"InvalidVariantTag"),
-        Refusal::BadValueTable => say(b"BadValueTable"),
-        Refusal::NoNodeRoom { .. } => say(b"NoNodeRoom"),
-        Refusal::NoPayloadRoom { .. } => say(b"NoPayloadRoom"),
-        Refusal::NoOutputRoom { .. } => say(b"NoOutputRoom"),
+        _ => say_row_name(why),
     }
 }
 
