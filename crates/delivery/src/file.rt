@@ -1,7 +1,6 @@
 // Reading a file that an argument names.
 use crate::line::say;
 ghost use Prim.Native.Nat.{_≤_};
-ghost use lib.ListN.{length};
 
 fn blame(what: &[u8], file: &[u8], path: &[u8]) {
     say(what);
