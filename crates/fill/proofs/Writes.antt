@@ -10,7 +10,7 @@ use lib.Seq.{set-comm}
 use Rattle.rules.specs.Bytes.{le, part, over}
 use Rattle.rules.specs.ValueTable.{valueRecord}
 use Rattle.rules.proofs.Over.{over-at}
-use Rattle.rows.proofs.Stands.{length-le}
+use Rattle.rules.proofs.Stands.{length-le}
 use Rattle.wire.proofs.Parts.{part-step, part-end}
 
 -- a number in two halves

@@ -30,7 +30,7 @@ use Rattle.blocks.proofs.Good.{GoodTable, encoder-accepts}
 use Rattle.blocks.proofs.Levels.{block-denotes}
 use Rattle.blocks.proofs.Formats.{rules-accept}
 use Rattle.rows.proofs.Conform.{encoded-row}
-use Rattle.rows.proofs.Stands.{stands-seam}
+use Rattle.rules.proofs.Stands.{stands-seam}
 use Rattle.rows.proofs.Decoding.{Asked, decode-accepts, decodedRow}
 use Rattle.values.proofs.Flat.{accepted}
 use Rattle.values.proofs.Written.{FairRow, writes-row}

@@ -17,7 +17,7 @@ use Rattle.rules.specs.Value.{Value, nothing, boolean, number, wide, blob, vari
 use Rattle.rules.specs.Grammar.{Row, row, Body, a-nothing, a-false, a-true, a-number, a-wide, a-blob, a-variant, a-repeated, a-tuple, Pairs, end, pair, Fields, no-field, field}
 use Rattle.rules.specs.Walk.{Limits, blobLimit, Pos, Answer, Got, Refused, _>>=_, numberOf, bytesOf, charged, blobOf, Walker, childOf, pairsOf, fieldsOf, valueOf, walk, after}
 use Rattle.rules.specs.declared.Node.{Node}
-use Rattle.rows.proofs.Stands.{length-le, stands-in, stands-le, stands-part}
+use Rattle.rules.proofs.Stands.{length-le, stands-in, stands-le, stands-part}
 use Rattle.rows.proofs.Only.{end-fits}
 use Rattle.rows.proofs.Span.{excess, within-excess, Toll, free, load, fee, mark, tollV, tollI, tollF, Sum, pos-eq, Span, in-end, as-toll, split, count-from, child-from}
 use Rattle.rows.proofs.Sound.{Accepted}

@@ -25,7 +25,7 @@ use Rattle.rules.specs.declared.Extent.{Extent}
 use Rattle.rules.specs.declared.Read.{Read}
 use Rattle.rules.specs.declared.Read.the-variants.{Row, End, Refused}
 use Rattle.rules.proofs.Tests.{and-both}
-use Rattle.rows.proofs.Stands.{length-le, stands-in}
+use Rattle.rules.proofs.Stands.{length-le, stands-in}
 use Rattle.rows.proofs.Conform.{row-conforms, row-fits}
 use Rattle.rows.proofs.TableRows.{row-agrees, row-accepts}
 

@@ -20,7 +20,7 @@ use Rattle.rules.specs.declared.Node.{Node}
 use Rattle.rules.specs.declared.Width.the-variants.{Fixed}
 use Rattle.rules.specs.declared.Refusal.{Refusal}
 use Rattle.rules.specs.declared.Refusal.the-variants.{Truncated, RowTooLarge, BlobTooLarge, InvalidVariantTag}
-use Rattle.rows.proofs.Stands.{length-le, stands-le}
+use Rattle.rules.proofs.Stands.{length-le, stands-le}
 use Rattle.rows.proofs.Conform.{valid-child}
 use Rattle.rows.proofs.Complete.{tag-wide}
 use Rattle.rows.proofs.Span.{tollV, Span, in-end, count-from, child-from}

@@ -1,4 +1,3 @@
-pub mod Stands
 pub mod Only
 pub mod Span
 pub mod Conform

@@ -10,7 +10,7 @@ use Rattle.rules.specs.Wire.{Form, form, endTag}
 use Rattle.rules.specs.Schema.{Schema, Schemas, child}
 use Rattle.rules.specs.Value.{Value, number, wide, blob, variant, repeated, tuple, Items, item, Values, more}
 use Rattle.rules.specs.Grammar.{Row, row, Body, a-nothing, a-false, a-true, a-number, a-wide, a-blob, a-variant, a-repeated, a-tuple, Pairs, end, pair, Fields, no-field, field}
-use Rattle.rows.proofs.Stands.{length-le, stands-left, stands-right, stands-le, stands-part, stands-seam}
+use Rattle.rules.proofs.Stands.{length-le, stands-left, stands-right, stands-le, stands-part, stands-seam}
 
 pub end-fits : (w : ℕ) → endTag w < 256 ^ w
 unfolding endTag

@@ -21,7 +21,7 @@ use Rattle.rules.specs.declared.Refusal.{Refusal}
 use Rattle.rules.specs.declared.Refusal.the-variants.{MissingTableSchema}
 use Rattle.rules.specs.declared.Checked.the-variants.{Accepted}
 use Rattle.blocks.proofs.Tables.{TableSchema, table-schema}
-use Rattle.rows.proofs.Stands.{stands-le}
+use Rattle.rules.proofs.Stands.{stands-le}
 use Rattle.rows.proofs.Span.{free, Span, in-end}
 use Rattle.rows.proofs.Sound.{Holds, holds, fails, number-holds, walk-holds}
 use Rattle.rows.proofs.Honest.{Reason, Tells, accepts, tells, walk-tells, number-tells, of-table}

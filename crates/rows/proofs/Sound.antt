@@ -18,7 +18,7 @@ use Rattle.rules.specs.Grammar.{Row, row, Body, a-nothing, a-false, a-true, a-n
 use Rattle.rules.specs.Walk.{Limits, blobLimit, Pos, Answer, Got, Refused, _>>=_, numberOf, bytesOf, charged, blobOf, Walker, childOf, pairsOf, fieldsOf, valueOf, walk, after}
 use Rattle.rules.specs.declared.Node.{Node}
 use Rattle.rules.specs.declared.Refusal.{Refusal}
-use Rattle.rows.proofs.Stands.{length-le, length-part, part-stands, leAt-lt, leAt-stands}
+use Rattle.rules.proofs.Stands.{length-le, length-part, part-stands, leAt-lt, leAt-stands}
 use Rattle.rows.proofs.Span.{excess, excess-within, Toll, free, load, mark, tollV, tollI, tollF, pos-eq, Span, in-end, join, count-from, child-from}
 
 -- from p on stands a row of v under the schema s, within the limits, and q is where it leaves off

@@ -10,7 +10,7 @@ use Rattle.rules.specs.Schema.{Schema, Schemas, cons, count, child}
 use Rattle.rules.specs.Block.{treesFrom}
 use Rattle.rules.specs.Value.{Value, nothing, boolean, number, wide, blob, variant, repeated, tuple, Items, done, item, Values, none, more, tally, tallyI, tallyV, Within, WithinI, WithinV}
 use Rattle.rules.specs.Walk.{Limits, blobLimit, Pos}
-use Rattle.rows.proofs.Stands.{stands-in, stands-left, stands-right, stands-both}
+use Rattle.rules.proofs.Stands.{stands-in, stands-left, stands-right, stands-both}
 
 -- by how much the longest blob is over its limit
 unfoldable mutual

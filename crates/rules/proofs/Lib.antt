@@ -3,3 +3,4 @@ pub mod Checks
 pub mod Rows
 pub mod Orders
 pub mod Over
+pub mod Stands

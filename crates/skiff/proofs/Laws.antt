@@ -15,7 +15,7 @@ use Rattle.rules.specs.declared.Refusal.{Refusal}
 use Rattle.rules.specs.declared.Refusal.the-variants.{Setting, BadSchemaTable, TooDeep, UnexpectedChildren, TooManyChildren, EmptyTableSchemas, UnknownRegistryReference, TableSchemaRootMustBeTuple, TableSchemaMustBeTuple, TableSchemaChildMissingName, MissingTableSchema, Truncated, RowTooLarge, BlobTooLarge, ValueDoesNotMatchSchema, TupleLength, InvalidVariantTag, BadValueTable, NoNodeRoom, NoPayloadRoom, NoOutputRoom}
 use Rattle.rules.specs.declared.Read.{Read}
 use Rattle.rules.proofs.Over.{over-at}
-use Rattle.rows.proofs.Stands.{length-le}
+use Rattle.rules.proofs.Stands.{length-le}
 use Rattle.skiff.specs.declared.Answer.{Answer}
 use Rattle.skiff.specs.Answers.{words, layout, ofRead, leaves, returned, kept}
 

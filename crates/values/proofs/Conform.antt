@@ -10,7 +10,7 @@ use Rattle.rules.specs.Wire.{Form, form, widthOf, endTag}
 use Rattle.rules.specs.Schema.{Schema, Schemas, nil, cons, count, child, deep, deeps}
 use Rattle.rules.specs.Value.{Value, Items, Values, tall, tallI, tallV, tally, tallyI, tallyV, recordsOf, payloadOf}
 use Rattle.rules.specs.Grammar.{Conforms, conforms, Suits, s-nothing, s-boolean, s-number, s-wide, s-blob, s-variant, s-repeated, s-tuple, SuitI, s-done, s-item, SuitV, s-none, s-more, formOf, childrenOf, bytesV, bytesI, bytesF, encoded, encodedRow}
-use Rattle.values.proofs.Stands.{length-le}
+use Rattle.rules.proofs.Stands.{length-le}
 use Rattle.values.proofs.Codes.{fixed-code, choice-width, series-width}
 
 -- the child that a tag names is one of them

@@ -12,7 +12,7 @@ use Rattle.rules.specs.Walk.{Limits, blobLimit}
 use Rattle.rules.specs.Writing.{Refused, write, writeI, writeV, writeRow}
 use Rattle.rules.specs.declared.Refusal.{Refusal}
 use Rattle.rules.specs.declared.Refusal.the-variants.{BlobTooLarge, ValueDoesNotMatchSchema, TupleLength, InvalidVariantTag}
-use Rattle.values.proofs.Stands.{stands-left, stands-self}
+use Rattle.rules.proofs.Stands.{stands-left, stands-self}
 use Rattle.values.proofs.Sizes.{length-flatV, values-within}
 use Rattle.values.proofs.Flat.{size-is, tag-is, count-fits}
 use Rattle.values.proofs.Meets.{kind, Has, first, later, HasV, firstV, laterV, Met, itself, in-variant, in-repeated, in-tuple, Kept, has-fits, has-kept, variant-kept, repeated-kept, tuple-kept, met-fits, met-kept, kept-in, kept-kind}

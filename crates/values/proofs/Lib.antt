@@ -1,4 +1,3 @@
-pub mod Stands
 pub mod Records
 pub mod Sizes
 pub mod Codes

@@ -9,7 +9,7 @@ use Rattle.rules.specs.Bytes.{Stands}
 use Rattle.rules.specs.Block.{nodeAt, records, Closed}
 use Rattle.rules.specs.Value.{Value, nothing, boolean, number, wide, blob, variant, repeated, tuple, Items, item, Values, more, items, values, recordsOf, payloadOf, Fits, FitsI, FitsV}
 use Rattle.rules.specs.ValueTable.{valueRecord, bit, flat, flatI, flatV}
-use Rattle.values.proofs.Stands.{stands-in, stands-left, stands-right}
+use Rattle.rules.proofs.Stands.{stands-in, stands-left, stands-right}
 use Rattle.values.proofs.Records.{length-record, kind-stands}
 use Rattle.values.proofs.Sizes.{length-flat, one-record}
 

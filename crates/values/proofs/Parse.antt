@@ -15,7 +15,7 @@ use Rattle.rules.specs.Block.{records}
 use Rattle.rules.specs.Value.{Value, variant, repeated, tuple, Items, done, Values, none, more, items, values, tall, tallI, tallV, Fits, FitsI, FitsV, payloadOf}
 use Rattle.rules.specs.ValueTable.{valueRecord, bit, pays, paysI, paysV, flat, flatI, flatV, TableOf, Spot, Parsed, Whole, Broken, _>>=_, Kind, scalar, one, list, row, other, kindOf, isRecord, kindAt, tagAt, sizeAt, dataAt, next, scalarAt, itemsAt, valuesAt, nodeOf, valueAt, exactly, tableValue}
 use Rattle.rules.proofs.Tests.{and-both}
-use Rattle.values.proofs.Stands.{length-part, part-stands, stands-fits, stands-whole}
+use Rattle.rules.proofs.Stands.{length-part, part-stands, stands-fits, stands-whole}
 use Rattle.values.proofs.Records.{length-record, is-record, size-stands}
 use Rattle.values.proofs.Sizes.{length-pays}
 use Rattle.values.proofs.Codes.{empty-code, truth-code}

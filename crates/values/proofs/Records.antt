@@ -15,7 +15,7 @@ use Rattle.rules.specs.Bytes.{Bytes, le, leAt, part, Stands, order, isEqual}
 use Rattle.rules.specs.ValueTable.{valueRecord, isRecord}
 use Rattle.rules.specs.declared.Order.the-variants.{Less, Greater}
 use Rattle.rules.proofs.Tests.{and-both, and-true}
-use Rattle.values.proofs.Stands.{length-le, stands-in, stands-left, stands-right, stands-both, stands-part, part-stands, stands-le, bytes-stand}
+use Rattle.rules.proofs.Stands.{length-le, stands-in, stands-left, stands-right, stands-both, stands-part, part-stands, stands-le, leAt-stands}
 
 -- equal strings are the same string
 pub order-same : (xs ys : List ℕ) → isEqual (order xs ys) ≡ true → xs ≡ ys
@@ -116,7 +116,7 @@ unfolding fieldsAre
 record-test table store bytes i kind tag n x l lt ln lx = same-test _ _ to from
   where
     number : (w y at : ℕ) → at + w ≤ length table → leAt table at w ≡ y → Stands table at (le w y)
-    number w y at h e = rw (← e) (bytes-stand table bytes at w h)
+    number w y at h e = rw (← e) (leAt-stands table bytes at w h)
 
     to : isRecord table store i (valueRecord kind tag n x) ≡ true → fieldsAre table (i * 16) kind tag n x ≡ true
     to e =

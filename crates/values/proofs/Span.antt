@@ -8,7 +8,7 @@ use lib.ListN.{length, length-append}
 use Rattle.rules.specs.Bytes.{Stands, le}
 use Rattle.rules.specs.Value.{Value, nothing, boolean, number, wide, blob, variant, repeated, tuple, items, values}
 use Rattle.rules.specs.ValueTable.{Spot, next, past, valueRecord, bit, flat, flatI, flatV}
-use Rattle.values.proofs.Stands.{stands-in, stands-left, stands-right, stands-both}
+use Rattle.rules.proofs.Stands.{stands-in, stands-left, stands-right, stands-both}
 use Rattle.values.proofs.Records.{length-record, tag-stands}
 
 module _ (table store : List ℕ) where

@@ -18,7 +18,7 @@ use Rattle.rules.specs.declared.Known.{Known}
 use Rattle.rules.specs.declared.Width.the-variants.{Fixed, Variable}
 use Rattle.rules.specs.declared.Children.{Children}
 use Rattle.rules.specs.declared.Children.the-variants.{None, UpTo, Any}
-use Rattle.wire.proofs.Choices.{and-both}
+use Rattle.rules.proofs.Tests.{and-both}
 use Rattle.rules.specs.declared.Known.the-variants.{Wire, Unknown}
 
 pub type-in : (ts : List WireType) (d : WireType) (code : ℕ) → code < length ts → Wire (getD ts code d) ≡ typeIn ts code

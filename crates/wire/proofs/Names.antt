@@ -20,9 +20,9 @@ use Rattle.rules.specs.declared.Known.{Known}
 use Rattle.rules.specs.declared.Known.the-variants.{Wire, Unknown}
 use Rattle.wire.specs.declared.Span.{Span}
 use Rattle.wire.specs.Table.{joined, names, Spells}
-use Rattle.wire.proofs.Choices.{and-both, all-each}
+use Rattle.rules.proofs.Tests.{and-both, all-each}
 use Rattle.wire.proofs.Parts.{part-length, part-at, part-whole}
-use Rattle.wire.proofs.Orders.{is-equal, order-equal}
+use Rattle.rules.proofs.Orders.{is-equal, order-equal}
 use Rattle.wire.proofs.Codes.{type-of-code, code-of-type, code-below, type-at}
 
 -- where each name starts, as the code has it

@@ -11,7 +11,7 @@ use Rattle.rules.specs.Names.{nameOf, parsed}
 use Rattle.rules.specs.declared.Order.the-variants.{Equal}
 use Rattle.rules.specs.declared.WireType.{WireType}
 use Rattle.rules.specs.declared.Known.the-variants.{Wire}
-use Rattle.wire.proofs.Orders as orders
+use Rattle.rules.proofs.Orders as orders
 use Rattle.wire.proofs.Codes as codes
 use Rattle.wire.proofs.Names as names
 

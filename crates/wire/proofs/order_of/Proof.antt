@@ -6,7 +6,7 @@ use mathlib.Core.List.{_∷_}
 use lib.ListN.{getD}
 use Rattle.rules.specs.Bytes.{part, order}
 use Rattle.wire.proofs.Parts.{part-none, part-step, part-end}
-use Rattle.wire.proofs.Orders.{order-cons-same, order-cons-less, order-cons-greater}
+use Rattle.rules.proofs.Orders.{order-cons-same, order-cons-less, order-cons-greater}
 use Rattle.wire.proofs.order_of.Statement.{statement}
 use Rattle.wire.proofs.order_of.Tie as tie
 

@@ -1,6 +1,6 @@
 use borrow.Author.Needs.{needs}
 use Rattle.fill.proofs.Writes.{le-two, halves}
-use Rattle.rows.proofs.Stands.{length-le}
+use Rattle.rules.proofs.Stands.{length-le}
 use Rattle.fill.proofs.writer.put32.Statement.{statement}
 use Rattle.fill.proofs.writer.put32.Tie as tie
 

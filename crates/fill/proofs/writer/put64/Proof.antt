@@ -1,6 +1,6 @@
 use borrow.Author.Needs.{needs}
 use Rattle.fill.proofs.Writes.{le-four, halves}
-use Rattle.rows.proofs.Stands.{length-le}
+use Rattle.rules.proofs.Stands.{length-le}
 use Rattle.fill.proofs.writer.put64.Statement.{statement}
 use Rattle.fill.proofs.writer.put64.Tie as tie
 
