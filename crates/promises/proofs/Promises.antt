@@ -13,7 +13,7 @@ use Rattle.rules.specs.Block.{records, block, blockTree, Denotes, Formed, block
 use Rattle.rules.specs.SchemaRules.{schemaRule, ruleAt, firstOf, preorder}
 use Rattle.rules.specs.Format.{Format, tables, formatRule, formatRules, schemaAnswer, encoderRule}
 use Rattle.rules.specs.Value.{Value, Fits, tall}
-use Rattle.rules.specs.ValueTable.{TableOf, Whole, tableValue}
+use Rattle.rules.specs.ValueTable.{TableOf, Whole, tableValue, flat, pays}
 use Rattle.rules.specs.Grammar.{Row, Conforms, encodedRow}
 use Rattle.rules.specs.Walk.{Limits, Pos, Got, Refused}
 use Rattle.rules.specs.Reading.{limits, rowAt, schemaOf, Accepts, skipRule, decodeRule, runFrom}
@@ -38,7 +38,8 @@ use Rattle.rows.proofs.Decoding.{SameButRoom, skip-decode, Leaves, decode-leave
 use Rattle.rows.proofs.Running.{Iterates, run-iterates}
 use Rattle.values.proofs.Parse.{ends}
 use Rattle.values.proofs.Flat.{one-value}
-use Rattle.values.proofs.Flat as flat
+use Rattle.values.proofs.Flat as values
+use Rattle.promises.proofs.Tables.{decoded-table}
 use Rattle.promises.proofs.RoundTrip.{EncodeAsked, Encodable, IsRow, encodedInto, encodes, encodes-only, ReadAsked, decodedAs, reads-back}
 
 -- ---- the document's own examples: its table of rows, computed on the rules of the whole calls
@@ -100,7 +101,7 @@ run-is-skip-iterated = run-iterates
 
 -- ---- value tables: records and payload are the table of one value at most, and the rule finds it
 pub value-tables : (r y : List ℕ) (v : Value) → length r ≤ 4294967295 → (tableValue r y ≡ Whole v (ends r y)) ↔ TableOf v r y
-value-tables = flat.tables
+value-tables = values.tables
 
 pub one-value-for-tables : (r y : List ℕ) (v w : Value) → length r ≤ 4294967295 → TableOf v r y → TableOf w r y → v ≡ w
 one-value-for-tables = one-value
@@ -132,6 +133,10 @@ decode-leaves-the-row = decode-leaves
 -- each decoded row conforms to its table's schema
 pub decoded-conforms : (f : Format) (inp : List ℕ) (lim : Limits) (at : ℕ) {t : ℕ} {v : Value} {q : Pos} → Accepts f inp lim at t v q → Conforms (schemaOf f t) v × Fits v
 decoded-conforms = accepts-conforms
+
+-- and what decode fills is a well-formed value table
+pub decoded-well-formed : (f : Format) (inp : List ℕ) (lim : Limits) (at : ℕ) {t : ℕ} {v : Value} {q : Pos} → formatRules f ≡ Accepted → Accepts f inp lim at t v q → TableOf v (flat v 0 0) (pays v)
+decoded-well-formed = decoded-table
 
 -- skip gives the same table, length or refusal as decode, which adds only the two refusals for room
 pub skip-is-decode : (at : ℕ) (rs ps : List ℕ) (f : Format) (s : Settings) (inp : List ℕ) → SameButRoom at rs ps (skipRule f s inp at) (decodeRule f s inp at rs ps .answer)
