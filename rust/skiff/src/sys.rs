@@ -97,7 +97,10 @@ impl From<&Settings> for Numbers {
 
 /// The call of a C function, with each slice as pointer and length.
 macro_rules! lend {
-    ($function:ident, $numbers:ident, $format:ident, $input:ident; $($position:ident)?; $($written:ident),+) => {
+    (
+        $function:ident, $numbers:ident, $format:ident, $input:ident;
+        $($position:ident)?; $($written:ident),+
+    ) => {
         $function(
             $numbers.node_charge,
             $numbers.max_blob_bytes,
