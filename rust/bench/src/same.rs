@@ -75,3 +75,54 @@ fn same(tree: &Tree, value: Value) -> bool {
         _ => false,
     }
 }
+
+#[cfg(test)]
+mod tests {
+    use super::*;
+    use crate::schemas::ALL;
+    use crate::timing::original;
+
+    #[test]
+    fn all_schemas_decode_to_the_originals_values() {
+        for schema in &ALL {
+            let case = schema.stream(2_000);
+            check(&case, &original(&case), 2_000);
+        }
+    }
+
+    /// The slices whole, stale bytes after the row too.
+    #[test]
+    fn all_schemas_decode_to_the_plain_readings_bytes() {
+        for schema in &ALL {
+            let case = schema.stream(2_000);
+            let Case { records, names, references, registry, .. } = &case;
+            let plain_tables = plain::tables::FormatTables { records, names, references, registry };
+            let (mut records, mut payload) = room(&case).slices();
+            let (mut plain_records, mut plain_payload) = (records.clone(), payload.clone());
+            let mut at = 0;
+            loop {
+                let expected = plain::decode::decode(
+                    &plain::settings::Settings::default(),
+                    &plain_tables,
+                    &case.input,
+                    at as u64,
+                    &mut plain_records,
+                    &mut plain_payload,
+                );
+                let settings = Settings::default();
+                let decoded = tables(&case)
+                    .next_row(&settings, &case.input, at, &mut records, &mut payload)
+                    .expect("good rows");
+                let Decoded::Row(decoded) = decoded else { break };
+                let skiff::Row { table, bytes, .. } = decoded.row;
+                let (table, row_bytes) = (u64::from(table), bytes as u64);
+                let (made, kept) = (decoded.row.records, decoded.row.payload);
+                let row = plain::reading::Row { table, bytes: row_bytes, records: made, payload: kept };
+                assert_eq!(expected, Ok(plain::reading::Skipped::Row(row)));
+                assert_eq!((&records, &payload), (&plain_records, &plain_payload));
+                at += bytes;
+            }
+            assert_eq!(at, case.input.len());
+        }
+    }
+}
