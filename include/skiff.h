@@ -1,12 +1,12 @@
 /*
- * skiff.h: rows of Skiff streams, skipped and counted by a proved library.
+ * skiff.h: rows of Skiff streams, skipped, counted and decoded by a proved library.
  *
  * Link target/staticlib/libskiff.a, which `rt staticlib skiff` writes; it is for x86-64 and needs no
  * other library. The functions keep nothing between calls, allocate nothing and write to nothing but
- * the answer slice, so any number of threads may call them.
+ * the answer slice and, in skiff_decode, the two slices for a row, so any number of threads may call them.
  *
  * A slice is a pointer and a length. The pointer leads to so many bytes; where the length is 0 it is
- * not followed, but it may not be null. The answer slice overlaps none of the others.
+ * not followed, but it may not be null. A slice that is written overlaps none of the others.
  */
 #ifndef SKIFF_H
 #define SKIFF_H
@@ -59,10 +59,10 @@ enum skiff_context {
 };
 
 /*
- * The answer slice. Both functions write its first 88 bytes, refused or not, as eleven numbers of eight
+ * The answer slice. Every function writes its first 88 bytes, refused or not, as eleven numbers of eight
  * bytes each, little-endian; what comes after them stays as it was. Where the slice is shorter, nothing
- * is written and SKIFF_SETTING is returned, before every other refusal. On x86-64 a uint64_t[11] will do
- * for a slice; these are the indexes into it.
+ * is written anywhere and SKIFF_SETTING is returned, before every other refusal. On x86-64 a uint64_t[11]
+ * will do for a slice; these are the indexes into it.
  */
 #define SKIFF_ANSWER_BYTES 88
 
@@ -74,13 +74,13 @@ enum skiff_answer {
     SKIFF_ANSWER_CARRIED = 3, /* three numbers that the refusal carries, in the order above; else 0 */
     SKIFF_ANSWER_ROWS = 6,    /* 1 for an accepted row; the accepted rows of a run */
     SKIFF_ANSWER_BYTES_READ = 7, /* bytes of the row; of all accepted rows of a run */
-    SKIFF_ANSWER_TABLE = 8,   /* the row's table, and below how much a decoder would make of it; */
-    SKIFF_ANSWER_RECORDS = 9, /* all three are 0 for a run */
-    SKIFF_ANSWER_PAYLOAD = 10
+    SKIFF_ANSWER_TABLE = 8,   /* the row's table, and below how much skiff_decode makes of it: */
+    SKIFF_ANSWER_RECORDS = 9, /* value records, of 16 bytes each, */
+    SKIFF_ANSWER_PAYLOAD = 10 /* and payload bytes; all three are 0 for a run */
 };
 
 enum skiff_what {
-    SKIFF_WHAT_ROW = 0,    /* a row was skipped */
+    SKIFF_WHAT_ROW = 0,    /* a row was skipped or decoded */
     SKIFF_WHAT_END = 1,    /* the position is the input's length, or the run came to it */
     SKIFF_WHAT_REFUSAL = 2 /* refused; a run then has the rows and bytes before */
 };
@@ -98,6 +98,63 @@ uint32_t skiff_skip(uint64_t node_charge, uint64_t max_blob_bytes, uint64_t max_
                     const uint8_t *input, size_t input_len,
                     uint64_t position,
                     uint8_t *answer, size_t answer_len);
+
+/*
+ * A value record: how a decoded row has one of its values, in 16 bytes, numbers little-endian. A row's
+ * records stand in preorder, the root's first: each is followed by its children, one after another, and
+ * each child by its own before the next.
+ *
+ *   at 0       kind: enum skiff_kind
+ *   at 1       zero
+ *   at 2..3    tag: by which a variant or repeated parent chose this value; else 0
+ *   at 4..7    size: the child count of a variant, which is 1, of a repeated or of a tuple; the payload
+ *              length of an int128, which is 16, of an int256, which is 32, of a string32 or of a yson32;
+ *              else 0
+ *   at 8..15   data: of those four kinds the payload's start in the payload slice; of other scalars the
+ *              bytes of the wire and then zeros, a boolean being 0 or 1; else 0
+ *
+ * Payloads stand one after another in the order of their records, with nothing between them.
+ */
+#define SKIFF_VALUE_RECORD_BYTES 16
+
+/* Up to SKIFF_KIND_YSON32 the wire codes. A tag's width is gone from variants and repeated ones. */
+enum skiff_kind {
+    SKIFF_KIND_NOTHING = 0,
+    SKIFF_KIND_BOOLEAN = 1,
+    SKIFF_KIND_INT8 = 2,
+    SKIFF_KIND_INT16 = 3,
+    SKIFF_KIND_INT32 = 4,
+    SKIFF_KIND_INT64 = 5,
+    SKIFF_KIND_INT128 = 6,
+    SKIFF_KIND_INT256 = 7,
+    SKIFF_KIND_UINT8 = 8,
+    SKIFF_KIND_UINT16 = 9,
+    SKIFF_KIND_UINT32 = 10,
+    SKIFF_KIND_UINT64 = 11,
+    SKIFF_KIND_DOUBLE = 12,
+    SKIFF_KIND_STRING32 = 13,
+    SKIFF_KIND_YSON32 = 14,
+    SKIFF_KIND_VARIANT = 15,
+    SKIFF_KIND_REPEATED = 16,
+    SKIFF_KIND_TUPLE = 17
+};
+
+/*
+ * skiff_skip, and on an accepted row its value records and payload bytes at the starts of two slices,
+ * whose bytes after them stay. At an end and on every refusal both stay whole. Where a good row finds
+ * too little room, SKIFF_NO_NODE_ROOM or else SKIFF_NO_PAYLOAD_ROOM carries what all of it needs, with
+ * the row's offset for a place. Of each of the two slices only the first 4,294,967,295 bytes count.
+ */
+uint32_t skiff_decode(uint64_t node_charge, uint64_t max_blob_bytes, uint64_t max_row_bytes,
+                      const uint8_t *records, size_t records_len,
+                      const uint8_t *names, size_t names_len,
+                      const uint8_t *references, size_t references_len,
+                      const uint8_t *registry, size_t registry_len,
+                      const uint8_t *input, size_t input_len,
+                      uint64_t position,
+                      uint8_t *value_records, size_t value_records_len,
+                      uint8_t *payload, size_t payload_len,
+                      uint8_t *answer, size_t answer_len);
 
 /* All rows from the start of `input`, until its end or the first refusal, which is then returned. */
 uint32_t skiff_run(uint64_t node_charge, uint64_t max_blob_bytes, uint64_t max_row_bytes,

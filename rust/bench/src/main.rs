@@ -1,20 +1,25 @@
-//! bench: what skiff_run costs beside a driver over the original's skip_row, on the same bytes; and what
-//! the check of a format costs by its records.
+//! bench: what skiff_run costs beside a driver over the original's skip_row, and skiff_decode beside its
+//! next_row, on the same bytes; and what the check of a format costs by its records.
 
+mod same;
 mod schemas;
 mod timing;
 
 use std::process::ExitCode;
 
 use schemas::ALL;
-use timing::{best_of, check_library, check_original, original, run_library, run_original};
+use timing::{
+    best_of, check_library, check_original, decode_library, decode_original, original, run_library,
+    run_original,
+};
 
 const USAGE: &str = "\
-usage: bench [rows|growth|format] [--runs N] [--rows N]
+usage: bench [rows|growth|decode|format] [--runs N] [--rows N]
   rows    each schema, 1,000,000 rows of A and N (300,000) of the others
   growth  10,000 to 1,000,000 rows of schema A
+  decode  1,000,000 rows of schema A decoded one by one
   format  the check of formats of 1,024 to 131,072 records
-  all three without a word. Times are the best of N (15) runs, in processor time";
+  all four without a word. Times are the best of N (15) runs, in processor time";
 
 const CLIENT_ROWS: u64 = 1_000_000;
 
@@ -31,7 +36,7 @@ fn options() -> Option<Options> {
         match word.as_str() {
             "--runs" => options.runs = given.next()?.parse().ok()?,
             "--rows" => options.rows = given.next()?.parse().ok()?,
-            "rows" | "growth" | "format" => options.words.push(word),
+            "rows" | "growth" | "decode" | "format" => options.words.push(word),
             _ => return None,
         }
     }
@@ -53,6 +58,9 @@ fn main() -> ExitCode {
     }
     if wants("growth") {
         growth(&options);
+    }
+    if wants("decode") {
+        decode(&options);
     }
     if wants("format") {
         format(&options);
@@ -85,6 +93,26 @@ fn growth(options: &Options) {
         let (original, library, _) = per_row(options, 0, rows);
         println!("{:46} {rows:8} {original:9.1} {library:9.1} {:6.2}", "", library / original);
     }
+}
+
+/// Every call of skiff_decode checks the format, as every call of skiff_skip does, so a row's time has one
+/// check in it. What the check takes alone stands beside it.
+fn decode(options: &Options) {
+    let case = ALL[0].stream(CLIENT_ROWS);
+    let format = original(&case);
+    let room = same::check(&case, &format, CLIENT_ROWS);
+    let original = || decode_original(&case, &format, CLIENT_ROWS);
+    let best = best_of(options.runs, original, || decode_library(&case, room, CLIENT_ROWS));
+    let check = best_of(options.runs, || 0.0, || check_library(&case, CLIENT_ROWS as u32)).library;
+    let (original, library) = (best.original / CLIENT_ROWS as f64, best.library / CLIENT_ROWS as f64);
+    println!(
+        "\n{:46} {:>8} {:>9} {:>9} {:>6} {:>16}",
+        "schema A decoded, ns/row", "rows", "original", "library", "ratio", "of it the check"
+    );
+    let ratio = library / original;
+    println!("{:46} {CLIENT_ROWS:8} {original:9.1} {library:9.1} {ratio:6.2} {check:16.1}", "");
+    println!("(the library checks the format for every row, the original once, before its clock starts;");
+    println!(" the original allocates a tree for every row, the library writes to slices that it is lent)");
 }
 
 /// The growth is the time a record takes here, over what it took in the smallest block.

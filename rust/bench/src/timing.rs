@@ -6,7 +6,9 @@ use std::hint::black_box;
 use diff::case::Case;
 use diff::original;
 use oracle::{Decoder, Format as Original};
-use skiff::{Format, Settings, Stop};
+use skiff::{Decoded, Format, Settings, Stop};
+
+use crate::same::Room;
 
 /// Best times in nanoseconds.
 #[derive(Debug, Clone, Copy)]
@@ -76,6 +78,37 @@ pub fn run_original(case: &Case, format: &Original, rows: u64) -> f64 {
     nanoseconds(|| {
         let mut met = 0;
         while decoder.skip_row().expect("good rows").is_some() {
+            met += 1;
+        }
+        assert_eq!(met, rows);
+    })
+}
+
+/// One call of the library for each row, at the positions that the rows before give.
+pub fn decode_library(case: &Case, room: Room, rows: u64) -> f64 {
+    let format = tables(case);
+    let (mut records, mut payload) = room.slices();
+    let settings = Settings::default();
+    nanoseconds(|| {
+        let (mut met, mut at) = (0, 0);
+        loop {
+            let input = black_box(&case.input);
+            let decoded = black_box(format).next_row(&settings, input, at, &mut records, &mut payload);
+            let Decoded::Row(decoded) = decoded.expect("good rows") else { break };
+            at += black_box(decoded).row.bytes;
+            met += 1;
+        }
+        assert_eq!((met, at), (rows, case.input.len()));
+    })
+}
+
+/// The original's `next_row`, row after row. A tree is dropped before the next one is made.
+pub fn decode_original(case: &Case, format: &Original, rows: u64) -> f64 {
+    let mut decoder = Decoder::new(black_box(case.input.as_slice()), format.clone());
+    nanoseconds(|| {
+        let mut met = 0;
+        while let Some(row) = decoder.next_row().expect("good rows") {
+            black_box(row);
             met += 1;
         }
         assert_eq!(met, rows);

@@ -1,6 +1,7 @@
 //! Formats and the calls that read by them.
 
 use crate::report::{Report, END, ROW};
+use crate::value::{DecodedRow, Table};
 use crate::{sys, Refusal, Settings};
 
 /// A format as flat tables that somebody else holds: what may stand in a stream, table by table. Every
@@ -24,16 +25,35 @@ pub struct Row {
     pub table: u16,
     /// How many bytes of the stream it is: the next row starts so much later.
     pub bytes: usize,
-    /// How many value records a decoder would write for it.
+    /// How many value records [`Format::next_row`] writes for it, 16 bytes each.
     pub records: u64,
-    /// How many bytes a decoder would put aside: blobs, int128 and int256.
+    /// How many payload bytes it writes: blobs, int128 and int256.
     pub payload: u64,
+}
+
+impl Row {
+    fn of(report: &Report) -> Self {
+        Self {
+            table: u16::try_from(report.table).expect("a table's tag has two bytes"),
+            bytes: offset(report.bytes),
+            records: report.records,
+            payload: report.payload,
+        }
+    }
 }
 
 /// What stands at a position of a stream.
 #[derive(Debug, Clone, Copy, PartialEq, Eq)]
 pub enum Skipped {
     Row(Row),
+    /// The position is the stream's length.
+    End,
+}
+
+/// What stands at a position of a stream, with the row's value.
+#[derive(Debug, Clone, Copy, PartialEq)]
+pub enum Decoded<'a> {
+    Row(DecodedRow<'a>),
     /// The position is the stream's length.
     End,
 }
@@ -76,14 +96,74 @@ impl Format<'_> {
         let report = Report::of(|answer| sys::skip(settings.into(), self, input, position as u64, answer));
         match (report.refusal, report.what) {
             (Some(refusal), _) => Err(refusal),
-            (None, ROW) => Ok(Skipped::Row(Row {
-                table: u16::try_from(report.table).expect("a table's tag has two bytes"),
-                bytes: offset(report.bytes),
-                records: report.records,
-                payload: report.payload,
-            })),
+            (None, ROW) => Ok(Skipped::Row(Row::of(&report))),
             (None, END) => Ok(Skipped::End),
             (None, other) => panic!("the library skipped to neither a row nor an end: {other}"),
+        }
+    }
+
+    /// Decodes the row at `position` of `input`: its value records go to the start of `records` and the
+    /// bytes of its blobs, int128 and int256 to the start of `payload`, and what is returned looks into
+    /// both. What comes after them stays as it was, and at an end or on a refusal all of both does.
+    ///
+    /// Where there is too little room, [`Refusal::NoNodeRoom`] says how many records the row has, and
+    /// otherwise [`Refusal::NoPayloadRoom`] how many payload bytes; [`Format::skip_row`] says both
+    /// beforehand.
+    ///
+    /// ```
+    /// use skiff::{Decoded, FormatBuilder, Schema, Settings, Value, WireType};
+    ///
+    /// let page = Schema::leaf(WireType::Uint8).named("page");
+    /// let name = Schema::leaf(WireType::String32).optional().named("name");
+    /// let tables = FormatBuilder::new().table(Schema::tuple([page, name])).build()?;
+    /// let stream = [0, 0, 0x25, 1, 2, 0, 0, 0, b'h', b'i', 0, 0, 0x26, 0];
+    ///
+    /// let (mut records, mut payload) = ([0; 16 * 4], [0; 2]);
+    /// let mut position = 0;
+    /// let mut found = Vec::new();
+    /// while let Decoded::Row(decoded) = tables.format().next_row(
+    ///     &Settings::default(),
+    ///     &stream,
+    ///     position,
+    ///     &mut records,
+    ///     &mut payload,
+    /// )? {
+    ///     let Value::Tuple(mut columns) = decoded.value() else { panic!("a table's root is a tuple") };
+    ///     let Some(Value::Uint8(page)) = columns.next() else { panic!("the first column is a uint8") };
+    ///     let Some(Value::Variant(name)) = columns.next() else { panic!("the second is optional") };
+    ///     found.push(match name.value() {
+    ///         Value::Bytes(name) => (page, name.to_vec()),
+    ///         _ => (page, Vec::new()),
+    ///     });
+    ///     position += decoded.row.bytes;
+    /// }
+    /// assert_eq!(found, [(0x25, b"hi".to_vec()), (0x26, Vec::new())]);
+    /// # Ok::<(), Box<dyn std::error::Error>>(())
+    /// ```
+    pub fn next_row<'r>(
+        &self,
+        settings: &Settings,
+        input: &[u8],
+        position: usize,
+        records: &'r mut [u8],
+        payload: &'r mut [u8],
+    ) -> Result<Decoded<'r>, Refusal> {
+        let position = position as u64;
+        let report = Report::of(|answer| {
+            sys::decode(settings.into(), self, input, position, records, payload, answer)
+        });
+        match (report.refusal, report.what) {
+            (Some(refusal), _) => Err(refusal),
+            (None, ROW) => {
+                let row = Row::of(&report);
+                let table = Table::new(
+                    &records[..offset(row.records) * sys::VALUE_RECORD_BYTES],
+                    &payload[..offset(row.payload)],
+                );
+                Ok(Decoded::Row(DecodedRow::new(row, table)))
+            }
+            (None, END) => Ok(Decoded::End),
+            (None, other) => panic!("the library decoded neither a row nor an end: {other}"),
         }
     }
 

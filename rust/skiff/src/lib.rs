@@ -1,9 +1,10 @@
-//! Rows of Skiff streams, skipped and counted by a proved library.
+//! Rows of Skiff streams, skipped, counted and decoded by a proved library.
 //!
 //! A stream is a slice of bytes: row after row, each a table's tag and a value that only that table's
 //! schema can take apart. [`Format::skip_row`] says where the row at a position ends, and
-//! [`Format::run`] goes over a whole stream. Both judge every byte that they pass by the same written
-//! rules as a decoder would, so a stream that runs to its end is a whole number of readable rows.
+//! [`Format::run`] goes over a whole stream. [`Format::next_row`] writes the row's value into slices that
+//! it is lent and shows it as a [`Value`]. All of them judge every byte by the same written rules, so a
+//! stream that runs to its end is a whole number of readable rows.
 //!
 //! The answers are the proved library's own. This crate lends it the slices, takes its numbers apart
 //! into types, and adds no rule: what it checks itself ([`Settings::new`]) the library checks again.
@@ -29,10 +30,12 @@ mod refusal;
 mod report;
 mod settings;
 pub mod sys;
+mod value;
 mod wire_type;
 
 pub use builder::{FormatBuilder, FormatTables, NameTooLong, Schema};
-pub use format::{Format, Row, Run, Skipped, Stop};
+pub use format::{Decoded, Format, Row, Run, Skipped, Stop};
 pub use refusal::{Context, Refusal};
 pub use settings::Settings;
+pub use value::{DecodedRow, Value, Values, Variant, Variants};
 pub use wire_type::WireType;

@@ -1,6 +1,6 @@
 //! The library's C functions, as include/skiff.h has them, behind signatures that can't be misused.
 //!
-//! Nothing checks the declarations below against the library's source; row-diff runs both functions on
+//! Nothing checks the declarations below against the library's source; row-diff runs `skip` and `run` on
 //! millions of inputs for that reason among others. Their contracts ask nothing of a caller but that
 //! each pointer leads to as many bytes as its length says, which a slice guarantees.
 
@@ -9,8 +9,11 @@ use crate::{Format, Settings};
 #[cfg(feature = "double")]
 extern crate double as _;
 
-/// A shorter answer slice is left as it is, and the call returns 1.
+/// A shorter answer slice is left as it is, and so are all others; the call returns 1.
 pub const ANSWER_BYTES: usize = 88;
+
+/// What one value record takes of the slice that it is written to.
+pub const VALUE_RECORD_BYTES: usize = 16;
 
 extern "C" {
     fn skiff_skip(
@@ -28,6 +31,29 @@ extern "C" {
         input: *const u8,
         input_len: usize,
         position: u64,
+        answer: *mut u8,
+        answer_len: usize,
+    ) -> u32;
+
+    fn skiff_decode(
+        node_charge: u64,
+        max_blob_bytes: u64,
+        max_row_bytes: u64,
+        records: *const u8,
+        records_len: usize,
+        names: *const u8,
+        names_len: usize,
+        references: *const u8,
+        references_len: usize,
+        registry: *const u8,
+        registry_len: usize,
+        input: *const u8,
+        input_len: usize,
+        position: u64,
+        value_records: *mut u8,
+        value_records_len: usize,
+        payload: *mut u8,
+        payload_len: usize,
         answer: *mut u8,
         answer_len: usize,
     ) -> u32;
@@ -71,7 +97,10 @@ impl From<&Settings> for Numbers {
 
 /// The call of a C function, with each slice as pointer and length.
 macro_rules! lend {
-    ($function:ident, $numbers:ident, $format:ident, $input:ident; $($position:ident)?; $answer:ident) => {
+    (
+        $function:ident, $numbers:ident, $format:ident, $input:ident;
+        $($position:ident)?; $($written:ident),+
+    ) => {
         $function(
             $numbers.node_charge,
             $numbers.max_blob_bytes,
@@ -87,8 +116,7 @@ macro_rules! lend {
             $input.as_ptr(),
             $input.len(),
             $($position,)?
-            $answer.as_mut_ptr(),
-            $answer.len(),
+            $($written.as_mut_ptr(), $written.len(),)+
         )
     };
 }
@@ -98,6 +126,21 @@ pub fn skip(numbers: Numbers, format: &Format, input: &[u8], position: u64, answ
     // SAFETY: each pointer and length are those of a slice that is borrowed for the call, and the
     // answer slice, the only one that is written, is borrowed by nobody else.
     unsafe { lend!(skiff_skip, numbers, format, input; position; answer) }
+}
+
+/// `skiff_decode`: the refusal's number, 0 where there is none.
+pub fn decode(
+    numbers: Numbers,
+    format: &Format,
+    input: &[u8],
+    position: u64,
+    records: &mut [u8],
+    payload: &mut [u8],
+    answer: &mut [u8],
+) -> u32 {
+    // SAFETY: as in `skip`; the three slices that are written are each borrowed by nobody else, so none
+    // of them overlaps another.
+    unsafe { lend!(skiff_decode, numbers, format, input; position; records, payload, answer) }
 }
 
 /// `skiff_run`: the refusal's number, 0 where the run came to the end.
