@@ -17,6 +17,8 @@ pub mod number {
     pub const ROW_TOO_LARGE: u64 = 13;
     pub const BLOB_TOO_LARGE: u64 = 14;
     pub const INVALID_VARIANT_TAG: u64 = 17;
+    pub const NO_NODE_ROOM: u64 = 19;
+    pub const NO_PAYLOAD_ROOM: u64 = 20;
 }
 
 /// What a stream was cut in, as 12 carries it. A fixed type's context is its own wire code, 1 to 12.

@@ -25,6 +25,7 @@ pub const NAMES: [&str; 20] = [
 
 pub const LAST_CODE: u8 = 19;
 pub const LAST_CHILDLESS: u8 = 14;
+pub const BOOLEAN: u8 = 1;
 pub const INT128: u8 = 6;
 pub const INT256: u8 = 7;
 pub const STRING32: u8 = 13;
