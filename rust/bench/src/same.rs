@@ -101,7 +101,7 @@ mod tests {
             let (mut plain_records, mut plain_payload) = (records.clone(), payload.clone());
             let mut at = 0;
             loop {
-                let expected = plain::decode::decode(
+                let expected = plain::decoding::decode(
                     &plain::settings::Settings::default(),
                     &plain_tables,
                     &case.input,

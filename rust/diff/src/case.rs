@@ -13,6 +13,8 @@ pub mod op {
     pub const TABLE_SCHEMA: u32 = 6;
     pub const SKIP: u32 = 7;
     pub const RUN: u32 = 8;
+    /// Of the row at `a`, with the room that `b` stands for; row-diff's alone.
+    pub const DECODE: u32 = 9;
 }
 
 pub const HEADER_BYTES: usize = 64;
@@ -39,7 +41,7 @@ pub struct Case {
 impl Case {
     /// Whether it reads rows.
     pub fn reads(&self) -> bool {
-        self.op == op::SKIP || self.op == op::RUN
+        [op::SKIP, op::RUN, op::DECODE].contains(&self.op)
     }
 
     pub fn settings(&self) -> Settings {

@@ -35,10 +35,10 @@ fn found(answer: Option<u64>) -> Answer {
     answer.map_or(Answer::NONE, |value| Answer::accepted([value, 0, 0]))
 }
 
-/// What the plain reading has a C function write.
+/// What the plain reading has a C function write; of a decoding one, where there is room.
 pub fn plain_report(case: &Case) -> Report {
     match case.op {
-        op::SKIP => Report::of_skip(&skip(&case.settings(), &tables(case), &case.input, case.a)),
+        op::SKIP | op::DECODE => Report::of_skip(&skip(&case.settings(), &tables(case), &case.input, case.a)),
         op::RUN => Report::of_run(&run(&case.settings(), &tables(case), &case.input)),
         other => panic!("not a reading operation: {other}"),
     }
@@ -66,7 +66,7 @@ pub fn plain_answer(case: &Case) -> Answer {
         op::FORMAT => checked(validate_format(&tables(case))),
         op::TABLE_SCHEMA => table_schema(&tables(case), case.a)
             .map_or_else(refused, |block| Answer::accepted([block.first, block.count, 0])),
-        op::SKIP | op::RUN => line(case.op, &plain_report(case)),
+        op::SKIP | op::RUN | op::DECODE => line(case.op, &plain_report(case)),
         other => panic!("no such operation: {other}"),
     }
 }

@@ -14,5 +14,6 @@ pub mod plan;
 pub mod program;
 pub mod record;
 pub mod rng;
+pub mod room;
 pub mod show;
 pub mod shrink;

@@ -4,7 +4,7 @@
 
 mod rows;
 
-pub use rows::node_charge;
+pub use rows::{decode, node_charge};
 
 use std::collections::BTreeMap;
 use std::fmt;
@@ -126,7 +126,7 @@ pub fn ask(case: &Case, plain: &Answer) -> Option<Said> {
                 Err(error) => refused(case, error),
             })
         }
-        op::SKIP | op::RUN => rows::ask(case),
+        op::SKIP | op::RUN | op::DECODE => rows::ask(case),
         other => panic!("no such operation: {other}"),
     }
 }

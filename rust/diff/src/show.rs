@@ -6,6 +6,7 @@ use plain::tables::{entry, record_count, reference, schema_record, Reference, Sp
 use plain::wire_type::NAMES;
 
 use crate::case::{op, Case};
+use crate::room::Room;
 
 /// More than this many lines or bytes are not printed.
 const MOST_LINES: usize = 80;
@@ -21,6 +22,9 @@ fn call(case: &Case) -> String {
         op::FORMAT => "the check of a format".to_owned(),
         op::TABLE_SCHEMA => format!("table_schema of table {a}"),
         op::SKIP => format!("skip the row at {a} of {} bytes", case.input.len()),
+        op::DECODE => {
+            format!("decode the row at {a} of {} bytes, {}", case.input.len(), Room::of_code(b))
+        }
         op::RUN => format!("run over {} bytes", case.input.len()),
         other => format!("unknown operation {other}"),
     }

@@ -8,7 +8,7 @@ mod fault;
 
 use std::slice;
 
-use plain::decode::decode;
+use plain::decoding::decode;
 use plain::reading::{run, skip};
 use plain::report::{Report, REPORT_BYTES};
 use plain::settings::Settings;

@@ -5,11 +5,11 @@
 //! next check begins, which is the order of refusals as it is written, and nothing is clever.
 //!
 //! The format side: [`wire_type`], [`tables`], [`forms`], [`depth`], [`rules`] and the calls in
-//! [`format`]. Reading: [`settings`], the [`walk`] over a row, the calls in [`reading`], [`decode`], and
-//! the [`report`] that the C functions write.
+//! [`format`]. Reading: [`settings`], the [`walk`] over a row, the calls in [`reading`] and
+//! [`decoding`], and the [`report`] that the C functions write.
 
 pub mod answer;
-pub mod decode;
+pub mod decoding;
 pub mod depth;
 pub mod format;
 pub mod forms;

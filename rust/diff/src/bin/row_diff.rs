@@ -10,8 +10,8 @@ use diff::shrink::shrink;
 
 const USAGE: &str = "\
 usage: row-diff [--count N] [--seed N] [--save FILE]
-  puts N cases (5,000,000 by default) to skiff_skip and skiff_run, and compares the number returned and
-  every byte of the answer slice. --save writes the smallest differing case found, for schema-diff show";
+  puts N cases (5,000,000 by default) to skiff_skip and skiff_run, and more than N to skiff_decode, and
+  compares the number returned and every byte of the answer slice and of the slices lent. --save writes the smallest differing case found, for schema-diff show";
 
 struct Options {
     count: u64,
@@ -47,8 +47,8 @@ fn compare(options: &Options) -> Result<ExitCode, String> {
         println!("THIS IS A TEST DOUBLE: nothing is said of the library");
     }
     println!("seed {}, node charge of the original {}", options.seed, diff::original::node_charge());
-    let tally = match run(options.seed, options.count) {
-        Ok(tally) => tally,
+    let tallies = match run(options.seed, options.count) {
+        Ok(tallies) => tallies,
         Err(Stop::Unmet(unmet)) => {
             return Err(format!("all answers were right, but never met: {}", unmet.join(", ")));
         }
@@ -65,7 +65,7 @@ fn compare(options: &Options) -> Result<ExitCode, String> {
             return Ok(ExitCode::from(1));
         }
     }
-    println!("{tally} 0 differences");
+    println!("{tallies} 0 differences");
     Ok(ExitCode::SUCCESS)
 }
 
@@ -84,6 +84,12 @@ fn report(options: &Options, asked: Asked) -> Result<(), String> {
     println!("{}", describe(&asked.case));
     println!("  library:  {}", verdict.got.in_words());
     println!("  plain:    {}", verdict.wanted.in_words());
+    if !verdict.as_skipped {
+        println!("  SKIP IS ANSWERED OTHERWISE THAN DECODE");
+    }
+    if !verdict.readings_agree {
+        println!("  THE ORIGINAL DIFFERS FROM THE PLAIN READING");
+    }
     match verdict.expected.original {
         Some(said) => println!("  original: {said}"),
         None => println!("  original: outside its domain"),

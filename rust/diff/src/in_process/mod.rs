@@ -1,10 +1,13 @@
 //! The reading calls of the library, linked into this process.
 
+pub mod decoding;
 pub mod huge;
 
 use std::collections::BTreeSet;
+use std::fmt;
 
-use plain::report::Report;
+use plain::answer::number::{NO_NODE_ROOM, NO_PAYLOAD_ROOM};
+use plain::report::{what, Report};
 use skiff::sys::{self, Numbers};
 use skiff::Format;
 
@@ -14,20 +17,34 @@ use crate::generate::{rows, Kind};
 use crate::judge::{line, plain_report};
 use crate::original;
 use crate::rng::Rng;
+use crate::room::Room;
 
 /// Answer slices come in these lengths, in turn: too short ones, just long enough, and longer ones.
 const ANSWER_BYTES: [usize; 16] = [88, 89, 200, 88, 96, 88, 200, 89, 87, 88, 88, 200, 0, 89, 88, 120];
+
+/// Of a lent slice no more bytes are printed.
+const MOST_SHOWN: usize = 160;
 
 /// What an answer slice holds before a call: no byte is what its neighbours are.
 fn filling(index: usize) -> u8 {
     (index as u8).wrapping_mul(37) ^ 0xA5
 }
 
-/// What a call left: its number, and its whole answer slice.
+/// What a call left: its number, its whole answer slice, and what a decoding one was lent besides.
 #[derive(Debug, Clone, PartialEq, Eq)]
 pub struct Reply {
     pub returned: u32,
     pub answer: Vec<u8>,
+    /// The record slice and the payload slice.
+    pub lent: Option<[Vec<u8>; 2]>,
+}
+
+/// A case's numbers and format as the library takes them.
+fn given(case: &Case) -> (Numbers, Format<'_>) {
+    let Case { node_charge, max_blob_bytes, max_row_bytes, .. } = *case;
+    let Case { records, names, references, registry, .. } = case;
+    let numbers = Numbers { node_charge, max_blob_bytes, max_row_bytes };
+    (numbers, Format { records, names, references, registry })
 }
 
 impl Reply {
@@ -35,7 +52,7 @@ impl Reply {
     fn of(answer_bytes: usize, call: impl FnOnce(&mut [u8]) -> u32) -> Self {
         let mut answer: Vec<u8> = (0..answer_bytes).map(filling).collect();
         let returned = call(&mut answer);
-        Self { returned, answer }
+        Self { returned, answer, lent: None }
     }
 
     /// What the plain reading would have left.
@@ -44,10 +61,8 @@ impl Reply {
     }
 
     pub fn of_library(case: &Case, answer_bytes: usize) -> Self {
-        let Case { node_charge, max_blob_bytes, max_row_bytes, .. } = *case;
-        let numbers = Numbers { node_charge, max_blob_bytes, max_row_bytes };
-        let Case { records, names, references, registry, input, .. } = case;
-        let format = Format { records, names, references, registry };
+        let (numbers, format) = given(case);
+        let input = &case.input;
         Self::of(answer_bytes, |answer| match case.op {
             op::SKIP => sys::skip(numbers, &format, input, case.a, answer),
             op::RUN => sys::run(numbers, &format, input, answer),
@@ -55,8 +70,19 @@ impl Reply {
         })
     }
 
-    /// The eleven numbers in words, or what there is instead.
+    /// The eleven numbers in words, or what there is instead; and what was lent.
     pub fn in_words(&self) -> String {
+        let mut words = self.answer_in_words();
+        if let Some([records, payload]) = &self.lent {
+            for (name, slice) in [("value records", records), ("payload", payload)] {
+                let shown = &slice[..slice.len().min(MOST_SHOWN)];
+                words.push_str(&format!("\n            {name}, {} bytes: {shown:02x?}", slice.len()));
+            }
+        }
+        words
+    }
+
+    fn answer_in_words(&self) -> String {
         let numbers: Vec<u64> = self
             .answer
             .chunks_exact(8)
@@ -89,6 +115,10 @@ pub struct Asked {
 /// What both readings say of a case, and what the library did.
 pub struct Verdict {
     pub expected: Expected,
+    /// The plain reading and the original say the same.
+    pub readings_agree: bool,
+    /// The library's skip answers as its decoding did.
+    pub as_skipped: bool,
     pub wanted: Reply,
     pub got: Reply,
 }
@@ -96,26 +126,30 @@ pub struct Verdict {
 impl Verdict {
     pub fn of(asked: &Asked) -> Self {
         let Asked { case, answer_bytes } = asked;
+        if case.op == op::DECODE {
+            return decoding::verdict(asked);
+        }
         let report = plain_report(case);
         let plain = line(case.op, &report);
         let expected = Expected { plain, original: original::ask(case, &plain) };
         let wanted = Reply::expected(&report, *answer_bytes);
-        Self { expected, wanted, got: Reply::of_library(case, *answer_bytes) }
+        let got = Reply::of_library(case, *answer_bytes);
+        Self { readings_agree: expected.is_one(), as_skipped: true, expected, wanted, got }
     }
 
     pub fn is_good(&self) -> bool {
-        self.expected.is_one() && self.wanted == self.got
+        self.readings_agree && self.as_skipped && self.wanted == self.got
     }
 }
 
 /// What every run has to meet: each refusal of reading, and each context of a cut.
-fn unmet(tally: &Tally) -> Vec<String> {
+fn unmet(call: &str, tally: &Tally, more: &[u64]) -> Vec<String> {
     let numbers: BTreeSet<u64> = (0..=17).filter(|number| ![9, 15, 16].contains(number)).collect();
-    let numbers = numbers.iter().filter(|number| !tally.numbers.contains_key(number));
+    let numbers = numbers.iter().chain(more).filter(|number| !tally.numbers.contains_key(number));
     let contexts = (1..=17).filter(|context| !tally.contexts.contains_key(context));
     numbers
-        .map(|number| format!("answer {number}"))
-        .chain(contexts.map(|context| format!("context {context}")))
+        .map(|number| format!("{call} answer {number}"))
+        .chain(contexts.map(|context| format!("{call} context {context}")))
         .collect()
 }
 
@@ -126,34 +160,71 @@ pub enum Stop {
     Unmet(Vec<String>),
 }
 
+/// The cases of skip and run, and those of decode that were made of them.
+#[derive(Default)]
+pub struct Tallies {
+    pub reading: Tally,
+    pub decoding: Tally,
+}
+
+impl fmt::Display for Tallies {
+    fn fmt(&self, formatter: &mut fmt::Formatter<'_>) -> fmt::Result {
+        write!(formatter, "skip and run: {} decode: {}", self.reading, self.decoding)
+    }
+}
+
 #[derive(Default)]
 struct Run {
-    tally: Tally,
+    tallies: Tallies,
     /// The first case that differs; nothing is asked after it.
     found: Option<Asked>,
 }
 
 impl Run {
+    /// The case itself, and the row that it skips, or one of those that it runs over, decoded.
     fn take(&mut self, kind: Kind, case: Case) {
+        let number = self.tallies.reading.cases;
+        let report = plain_report(&case);
+        self.ask(kind, case.clone());
+        let position = match case.op {
+            op::SKIP => case.a,
+            // The first row, or what the run stops at.
+            _ if number % 4 < 2 => 0,
+            _ => report.bytes,
+        };
+        // A run's numbers and those of its rows are not to go in step.
+        let turn = number / 2 + number / 168;
+        let decoding = Case { op: op::DECODE, a: position, b: Room::any(turn), ..case };
+        if plain_report(&decoding).what == what::ROW {
+            self.ask(kind, Case { b: Room::enough(turn), ..decoding.clone() });
+        }
+        self.ask(kind, decoding);
+    }
+
+    fn ask(&mut self, kind: Kind, case: Case) {
         if self.found.is_some() {
             return;
         }
-        let answer_bytes = ANSWER_BYTES[self.tally.cases as usize % ANSWER_BYTES.len()];
+        let tally = match case.op {
+            op::DECODE => &mut self.tallies.decoding,
+            _ => &mut self.tallies.reading,
+        };
+        let answer_bytes = ANSWER_BYTES[tally.cases as usize % ANSWER_BYTES.len()];
         let asked = Asked { case, answer_bytes };
         let verdict = Verdict::of(&asked);
         if verdict.is_good() {
-            self.tally.add(kind, &verdict.expected);
+            tally.add(kind, &verdict.expected);
         } else {
             self.found = Some(asked);
         }
     }
 }
 
-/// All fixed cases, then random ones up to `count` in all.
-pub fn run(seed: u64, count: u64) -> Result<Tally, Stop> {
+/// All fixed cases, then random ones up to `count` in all; and at least as many of decode.
+pub fn run(seed: u64, count: u64) -> Result<Tallies, Stop> {
     let mut run = Run::default();
     rows::fixed(&mut |kind, case| run.take(kind, case));
-    for number in run.tally.cases..count {
+    for number in run.tallies.reading.cases..count {
         if run.found.is_some() {
             break;
         }
@@ -163,10 +234,11 @@ pub fn run(seed: u64, count: u64) -> Result<Tally, Stop> {
     if let Some(asked) = run.found {
         return Err(Stop::Difference(Box::new(asked)));
     }
-    let unmet = unmet(&run.tally);
-    if unmet.is_empty() {
-        Ok(run.tally)
+    let mut missing = unmet("skip and run", &run.tallies.reading, &[]);
+    missing.extend(unmet("decode", &run.tallies.decoding, &[NO_NODE_ROOM, NO_PAYLOAD_ROOM]));
+    if missing.is_empty() {
+        Ok(run.tallies)
     } else {
-        Err(Stop::Unmet(unmet))
+        Err(Stop::Unmet(missing))
     }
 }

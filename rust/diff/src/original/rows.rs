@@ -5,10 +5,13 @@ use std::cell::Cell;
 use std::io::{self, Read};
 
 use oracle::{CodecError, Decoder, Format, Value};
+use plain::answer::context::BLOB_PAYLOAD;
+use plain::answer::number::TRUNCATED;
+use plain::decoding::ValueTable;
 use plain::wire_type::NAMES;
 
 use super::{code, format, refused, Said};
-use crate::case::{op, Case};
+use crate::case::{op, Answer, Case};
 
 /// What the original charges for a node.
 pub fn node_charge() -> u64 {
@@ -97,6 +100,97 @@ fn skip(case: &Case, format: Format) -> Said {
     count(&row, &mut counts);
     let [records, payload] = counts;
     Said { table: Some(table as u64), ..Said::new(0, [bytes as u64, records, payload]) }
+}
+
+/// For a blob that is not there `next_row` takes as much memory as its length says, before it looks for
+/// the bytes. Above this `skip_row` is asked alone.
+const LONGEST_BLOB: u64 = 1 << 28;
+
+/// A blob that the input ends in, and that is too long to be made room for.
+fn is_cut_in_a_long_blob(case: &Case, plain: &Answer) -> bool {
+    if plain.number != TRUNCATED || plain.values[0] != BLOB_PAYLOAD {
+        return false;
+    }
+    let field = &case.input[plain.place as usize - 4..plain.place as usize];
+    u64::from(u32::from_le_bytes(field.try_into().expect("four bytes"))) > LONGEST_BLOB
+}
+
+/// What `next_row` says of the row at the case's position, and the row that it gives. `plain` is the plain
+/// reading's answer where there is room; none outside of the domain, as in `ask`.
+pub fn decode(case: &Case, plain: &Answer) -> Option<(Said, Option<ValueTable>)> {
+    if (1..=3).contains(&plain.number) || case.node_charge != node_charge() {
+        return None;
+    }
+    if is_cut_in_a_long_blob(case, plain) {
+        return ask(case).map(|said| (said, None));
+    }
+    let format = match format(case)? {
+        Ok(format) => format,
+        Err(error) => return Some((refused(case, error), None)),
+    };
+    let from = &case.input[case.a as usize..];
+    let rest = Cell::new(from);
+    Some(match decoder(case, format, &rest).next_row() {
+        Ok(None) => (Said::accepted(), None),
+        Ok(Some((table, row))) => {
+            let bytes = from.len() - rest.get().len();
+            let mut flat = ValueTable::default();
+            flatten(&row, 0, &mut flat);
+            let values = [bytes, flat.records.len() / 16, flat.payload.len()].map(|value| value as u64);
+            (Said { table: Some(table as u64), ..Said::new(0, values) }, Some(flat))
+        }
+        Err(error) => (row_refused(case, error), None),
+    })
+}
+
+/// A value record as document 01 lays it out. `data` is at most eight bytes, and zeros follow it.
+fn put(flat: &mut ValueTable, kind: u8, tag: u16, size: usize, data: &[u8]) {
+    let mut record = [0; 16];
+    record[0] = kind;
+    record[2..4].copy_from_slice(&tag.to_le_bytes());
+    record[4..8].copy_from_slice(&u32::try_from(size).expect("a count of 32 bits").to_le_bytes());
+    record[8..8 + data.len()].copy_from_slice(data);
+    flat.records.extend(record);
+}
+
+/// One whose bytes go to the payload store.
+fn put_payload(flat: &mut ValueTable, kind: u8, tag: u16, bytes: &[u8]) {
+    let start = flat.payload.len() as u64;
+    put(flat, kind, tag, bytes.len(), &start.to_le_bytes());
+    flat.payload.extend_from_slice(bytes);
+}
+
+/// The original's value as value records in preorder and payload bytes; doubles by their bits.
+fn flatten(value: &Value, tag: u16, flat: &mut ValueTable) {
+    match value {
+        Value::Nothing => put(flat, 0, tag, 0, &[]),
+        Value::Boolean(truth) => put(flat, 1, tag, 0, &[if *truth { 1 } else { 0 }]),
+        Value::Int8(number) => put(flat, 2, tag, 0, &number.to_le_bytes()),
+        Value::Int16(number) => put(flat, 3, tag, 0, &number.to_le_bytes()),
+        Value::Int32(number) => put(flat, 4, tag, 0, &number.to_le_bytes()),
+        Value::Int64(number) => put(flat, 5, tag, 0, &number.to_le_bytes()),
+        Value::Int128(number) => put_payload(flat, 6, tag, &number.to_le_bytes()),
+        Value::Int256(bytes) => put_payload(flat, 7, tag, bytes),
+        Value::Uint8(number) => put(flat, 8, tag, 0, &number.to_le_bytes()),
+        Value::Uint16(number) => put(flat, 9, tag, 0, &number.to_le_bytes()),
+        Value::Uint32(number) => put(flat, 10, tag, 0, &number.to_le_bytes()),
+        Value::Uint64(number) => put(flat, 11, tag, 0, &number.to_le_bytes()),
+        Value::Double(number) => put(flat, 12, tag, 0, &number.to_bits().to_le_bytes()),
+        Value::Bytes(bytes) => put_payload(flat, 13, tag, bytes),
+        Value::Yson(bytes) => put_payload(flat, 14, tag, bytes),
+        Value::Variant { tag: chosen, value } => {
+            put(flat, 15, tag, 1, &[]);
+            flatten(value, *chosen, flat);
+        }
+        Value::RepeatedVariants(items) => {
+            put(flat, 16, tag, items.len(), &[]);
+            items.iter().for_each(|item| flatten(&item.value, item.tag, flat));
+        }
+        Value::Tuple(values) => {
+            put(flat, 17, tag, values.len(), &[]);
+            values.iter().for_each(|value| flatten(value, 0, flat));
+        }
+    }
 }
 
 /// Value records and payload bytes of a decoded row.
