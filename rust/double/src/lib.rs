@@ -1,9 +1,10 @@
-//! A TEST DOUBLE, not the library: the two C functions with the plain reading behind them, and with a
+//! A TEST DOUBLE, not the library: the three C functions with the plain reading behind them, and with a
 //! planted fault where DOUBLE_FAULT names one. The front end and row-diff can be built over it where
 //! there is no archive, and row-diff's own tests show with it that a wrong library is found out.
 //!
 //! Nothing that is said of the library may rest on a run over this.
 
+mod decoding;
 mod fault;
 
 use std::slice;
@@ -34,7 +35,7 @@ impl Call<'_> {
 }
 
 macro_rules! reading_call {
-    ($name:ident, $is_run:literal, $position:expr, $($extra:ident: $type:ty)?) => {
+    ($name:ident, $is_run:literal, $position:expr, ($($extra:ident: $type:ty),*), $finish:expr) => {
         /// # Safety
         /// Each pointer leads to as many bytes as the length after it says.
         #[no_mangle]
@@ -52,7 +53,7 @@ macro_rules! reading_call {
             registry_len: usize,
             input: *const u8,
             input_len: usize,
-            $($extra: $type,)?
+            $($extra: $type,)*
             answer: *mut u8,
             answer_len: usize,
         ) -> u32 {
@@ -69,10 +70,28 @@ macro_rules! reading_call {
                 position: $position,
                 is_run: $is_run,
             };
-            fault::answer(call, slice::from_raw_parts_mut(answer, answer_len))
+            let finish = $finish;
+            finish(call, slice::from_raw_parts_mut(answer, answer_len))
         }
     };
 }
 
-reading_call!(skiff_skip, false, position, position: u64);
-reading_call!(skiff_run, true, 0,);
+reading_call!(skiff_skip, false, position, (position: u64), fault::answer);
+reading_call!(skiff_run, true, 0, (), fault::answer);
+reading_call!(
+    skiff_decode,
+    false,
+    position,
+    (
+        position: u64,
+        value_records: *mut u8,
+        value_records_len: usize,
+        payload: *mut u8,
+        payload_len: usize
+    ),
+    |call: Call, answer: &mut [u8]| {
+        let records = slice::from_raw_parts_mut(value_records, value_records_len);
+        let payload = slice::from_raw_parts_mut(payload, payload_len);
+        decoding::answer(call, decoding::Lent { records, payload, answer })
+    }
+);
