@@ -84,3 +84,28 @@ fn answer_slices() {
     found("short_answer_is_nothing", 50, &["library:  returned 0, answer slice"]);
     found("returns_0_from_a_refused_run", 50, &["library:  returned 0: what 2"]);
 }
+
+#[test]
+fn room_to_decode_into() {
+    // A table without columns: its record needs sixteen bytes.
+    found("part_of_a_record_is_room", 34, &["record slice: 1 bytes less", "plain:    returned 19"]);
+    found("payload_room_comes_first", ONE_COLUMN + 48, &["library:  returned 20", "plain:    returned 19"]);
+    found("room_has_no_place", 40, &["plain:    returned 19", "original: number 0"]);
+    found("room_carries_what_is_missing", ONE_COLUMN + 48, &["plain:    returned 19"]);
+}
+
+#[test]
+fn what_decoding_leaves_in_the_slices() {
+    found("fills_the_rest_of_the_records", 34, &["decode the row", "bytes more than enough"]);
+    found("fills_the_rest_of_the_payload", 34, &["decode the row", "bytes more than enough"]);
+    found("writes_records_before_payload_room", ONE_COLUMN + 48, &["plain:    returned 20"]);
+    found("writes_before_a_cut", ONE_COLUMN + 48, &["plain:    returned 12"]);
+    found("decodes_with_a_short_answer", ONE_COLUMN + 48, &["library:  returned 1, answer slice"]);
+}
+
+#[test]
+fn values_that_are_decoded() {
+    found("boolean_is_its_byte", ONE_COLUMN + 48, &["decode the row", "original: number 0"]);
+    found("repeated_counts_its_end", ONE_COLUMN + 48, &["decode the row", "original: number 0"]);
+    found("double_is_made_quiet", ONE_COLUMN + 48, &["decode the row", "original: number 0"]);
+}

@@ -7,7 +7,7 @@ use plain::settings::{numbers_are_good, Settings, MOST};
 
 use crate::Call;
 
-fn named() -> &'static str {
+pub fn named() -> &'static str {
     static FAULT: OnceLock<String> = OnceLock::new();
     FAULT.get_or_init(|| std::env::var("DOUBLE_FAULT").unwrap_or_default())
 }

@@ -1,16 +1,16 @@
-//! A TEST DOUBLE, not the library: the C functions with the plain reading behind them, and skip and run
-//! with a planted fault where DOUBLE_FAULT names one. The front end and row-diff can be built over it where
+//! A TEST DOUBLE, not the library: the three C functions with the plain reading behind them, and with a
+//! planted fault where DOUBLE_FAULT names one. The front end and row-diff can be built over it where
 //! there is no archive, and row-diff's own tests show with it that a wrong library is found out.
 //!
 //! Nothing that is said of the library may rest on a run over this.
 
+mod decoding;
 mod fault;
 
 use std::slice;
 
-use plain::decoding::decode;
 use plain::reading::{run, skip};
-use plain::report::{Report, REPORT_BYTES};
+use plain::report::Report;
 use plain::settings::Settings;
 use plain::tables::FormatTables;
 
@@ -35,7 +35,7 @@ impl Call<'_> {
 }
 
 macro_rules! reading_call {
-    ($name:ident, $is_run:literal, $position:expr, $($extra:ident: $type:ty)?) => {
+    ($name:ident, $is_run:literal, $position:expr, ($($extra:ident: $type:ty),*), $finish:expr) => {
         /// # Safety
         /// Each pointer leads to as many bytes as the length after it says.
         #[no_mangle]
@@ -53,7 +53,7 @@ macro_rules! reading_call {
             registry_len: usize,
             input: *const u8,
             input_len: usize,
-            $($extra: $type,)?
+            $($extra: $type,)*
             answer: *mut u8,
             answer_len: usize,
         ) -> u32 {
@@ -70,54 +70,28 @@ macro_rules! reading_call {
                 position: $position,
                 is_run: $is_run,
             };
-            fault::answer(call, slice::from_raw_parts_mut(answer, answer_len))
+            let finish = $finish;
+            finish(call, slice::from_raw_parts_mut(answer, answer_len))
         }
     };
 }
 
-reading_call!(skiff_skip, false, position, position: u64);
-reading_call!(skiff_run, true, 0,);
-
-/// # Safety
-/// Each pointer leads to as many bytes as the length after it says, and what is written overlaps nothing.
-#[no_mangle]
-pub unsafe extern "C" fn skiff_decode(
-    node_charge: u64,
-    max_blob_bytes: u64,
-    max_row_bytes: u64,
-    records: *const u8,
-    records_len: usize,
-    names: *const u8,
-    names_len: usize,
-    references: *const u8,
-    references_len: usize,
-    registry: *const u8,
-    registry_len: usize,
-    input: *const u8,
-    input_len: usize,
-    position: u64,
-    value_records: *mut u8,
-    value_records_len: usize,
-    payload: *mut u8,
-    payload_len: usize,
-    answer: *mut u8,
-    answer_len: usize,
-) -> u32 {
-    let tables = FormatTables {
-        records: slice::from_raw_parts(records, records_len),
-        names: slice::from_raw_parts(names, names_len),
-        references: slice::from_raw_parts(references, references_len),
-        registry: slice::from_raw_parts(registry, registry_len),
-    };
-    let settings = Settings { node_charge, max_blob_bytes, max_row_bytes };
-    let input = slice::from_raw_parts(input, input_len);
-    let value_records = slice::from_raw_parts_mut(value_records, value_records_len);
-    let payload = slice::from_raw_parts_mut(payload, payload_len);
-    let answer = slice::from_raw_parts_mut(answer, answer_len);
-    // A short answer slice keeps the other two from being written.
-    if answer.len() < REPORT_BYTES {
-        return Report::default().write_to(answer);
+reading_call!(skiff_skip, false, position, (position: u64), fault::answer);
+reading_call!(skiff_run, true, 0, (), fault::answer);
+reading_call!(
+    skiff_decode,
+    false,
+    position,
+    (
+        position: u64,
+        value_records: *mut u8,
+        value_records_len: usize,
+        payload: *mut u8,
+        payload_len: usize
+    ),
+    |call: Call, answer: &mut [u8]| {
+        let records = slice::from_raw_parts_mut(value_records, value_records_len);
+        let payload = slice::from_raw_parts_mut(payload, payload_len);
+        decoding::answer(call, decoding::Lent { records, payload, answer })
     }
-    let decoded = decode(&settings, &tables, input, position, value_records, payload);
-    Report::of_skip(&decoded).write_to(answer)
-}
+);

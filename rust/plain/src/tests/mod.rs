@@ -1,5 +1,6 @@
 //! Hand-made cases, each with the sentence of document 01 that it stands for.
 
+mod decoding;
 mod format;
 mod reading;
 
