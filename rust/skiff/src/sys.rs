@@ -1,6 +1,6 @@
 //! The library's C functions, as include/skiff.h has them, behind signatures that can't be misused.
 //!
-//! Nothing checks the declarations below against the library's source; row-diff runs `skip` and `run` on
+//! Nothing checks the declarations below against the library's source; row-diff runs each of them on
 //! millions of inputs for that reason among others. Their contracts ask nothing of a caller but that
 //! each pointer leads to as many bytes as its length says, which a slice guarantees.
 

@@ -2,8 +2,7 @@
 
 use plain::decoding::decode;
 use plain::report::{what, Report, REPORT_BYTES};
-use skiff::sys::{self, Numbers};
-use skiff::Format;
+use skiff::sys;
 
 use super::{filling, Asked, Reply, Verdict};
 use crate::case::{op, Case};
@@ -12,71 +11,10 @@ use crate::judge::{line, plain_report, tables};
 use crate::original;
 use crate::room::Room;
 
-extern "C" {
-    fn skiff_decode(
-        node_charge: u64,
-        max_blob_bytes: u64,
-        max_row_bytes: u64,
-        records: *const u8,
-        records_len: usize,
-        names: *const u8,
-        names_len: usize,
-        references: *const u8,
-        references_len: usize,
-        registry: *const u8,
-        registry_len: usize,
-        input: *const u8,
-        input_len: usize,
-        position: u64,
-        value_records: *mut u8,
-        value_records_len: usize,
-        payload: *mut u8,
-        payload_len: usize,
-        answer: *mut u8,
-        answer_len: usize,
-    ) -> u32;
-}
-
 /// Both slices of a host's.
 pub struct Lent<'a> {
     pub records: &'a mut [u8],
     pub payload: &'a mut [u8],
-}
-
-pub fn call(
-    numbers: Numbers,
-    format: &Format,
-    input: &[u8],
-    position: u64,
-    lent: Lent,
-    answer: &mut [u8],
-) -> u32 {
-    // SAFETY: each pointer and length are those of a slice that is borrowed for the call, and the three
-    // that are written are borrowed by nobody else.
-    unsafe {
-        skiff_decode(
-            numbers.node_charge,
-            numbers.max_blob_bytes,
-            numbers.max_row_bytes,
-            format.records.as_ptr(),
-            format.records.len(),
-            format.names.as_ptr(),
-            format.names.len(),
-            format.references.as_ptr(),
-            format.references.len(),
-            format.registry.as_ptr(),
-            format.registry.len(),
-            input.as_ptr(),
-            input.len(),
-            position,
-            lent.records.as_mut_ptr(),
-            lent.records.len(),
-            lent.payload.as_mut_ptr(),
-            lent.payload.len(),
-            answer.as_mut_ptr(),
-            answer.len(),
-        )
-    }
 }
 
 /// What the slices hold before a call; neither begins as the answer slice or as the other does.
@@ -100,7 +38,8 @@ impl Reply {
     fn decoded(case: &Case, answer_bytes: usize, lent: [usize; 2]) -> Self {
         let (numbers, format) = super::given(case);
         Self::of_decoding(answer_bytes, lent, |lent, answer| {
-            call(numbers, &format, &case.input, case.a, lent, answer)
+            let Lent { records, payload } = lent;
+            sys::decode(numbers, &format, &case.input, case.a, records, payload, answer)
         })
     }
 }
