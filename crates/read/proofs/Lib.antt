@@ -5,3 +5,4 @@ pub mod Turn
 pub mod Onward
 pub mod Nodes
 pub mod Root
+pub mod Leads

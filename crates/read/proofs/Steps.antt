@@ -25,19 +25,19 @@ use Rattle.read.specs.declared.fields.Number.{Number}
 use Rattle.read.specs.declared.fields.Number.the-variants.{Is, Refused}
 
 -- a number that was read lies in the input
-data Read (inp : List ℕ) : Number → Type 0 where
-  is : {n next : ℕ} → next ≤ length inp → Read inp (Is n next)
-  cut : {r : Refusal} → Read inp (Refused r)
+data Read (inp : List ℕ) (at : ℕ) : Number → Type 0 where
+  is : {n next : ℕ} → at ≤ next → next ≤ length inp → Read inp at (Is n next)
+  cut : {r : Refusal} → Read inp at (Refused r)
 
-pub number-past : (inp : List ℕ) (w context at n next : ℕ) (t : Number) → at ≤ length inp → t ≡ numberAt inp w context at → t ≡ Is n next → next ≤ length inp
+pub number-past : (inp : List ℕ) (w context at n next : ℕ) (t : Number) → at ≤ length inp → t ≡ numberAt inp w context at → t ≡ Is n next → (at ≤ next) × (next ≤ length inp)
 unfolding numberAt pick
-number-past inp w context at n next t h a b = ends (subst (λ (x : Number). Read inp x) (sym a ∙ b) (fits (leb w (length inp - at)) refl))
+number-past inp w context at n next t h a b = ends (subst (λ (x : Number). Read inp at x) (sym a ∙ b) (fits (leb w (length inp - at)) refl))
   where
-    ends : Read inp (Is n next) → next ≤ length inp
-    ends (is h) = h
+    ends : Read inp at (Is n next) → (at ≤ next) × (next ≤ length inp)
+    ends (is f h) = (f, h)
 
-    fits : (b : Bool) → leb w (length inp - at) ≡ b → Read inp (pick b (Is (leAt inp at w) (at + w)) (Refused (Truncated context at)))
-    fits true e = is {n = leAt inp at w} {next = at + w} (omega (arith, leb-true w (length inp - at) e))
+    fits : (b : Bool) → leb w (length inp - at) ≡ b → Read inp at (pick b (Is (leAt inp at w) (at + w)) (Refused (Truncated context at)))
+    fits true e = is {n = leAt inp at w} {next = at + w} (omega arith) (omega (arith, leb-true w (length inp - at) e))
     fits false e = cut
 
 -- a charge that was made

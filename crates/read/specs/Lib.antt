@@ -3,3 +3,4 @@ pub mod Fields
 pub mod Children
 pub mod Skim
 pub mod Ready
+pub mod Leads

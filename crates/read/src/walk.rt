@@ -8,6 +8,7 @@ ghost use Rattle.rules.specs.Reading.{limits, start};
 ghost use Rattle.read.specs.Children.{shapeOf, picked};
 ghost use Rattle.read.specs.Skim.{skimmed, fixedOf, blobOf, leafOf, nodeOf, skim};
 ghost use Rattle.read.specs.Ready.{Inside, Sound, Coded, Readable, Ready, Rooted};
+ghost use Rattle.read.specs.Leads.{Leads};
 use super::budget::Charged;
 use super::budget::RowBudget;
 use super::budget::blob_limit;
@@ -184,6 +185,67 @@ fn next_child(code: u8, first: u64, count: u64, i: u64, input: &[u8], at: usize)
     Pick::Child((first + tag) as usize, next)
 }
 
+// What a node comes to at once: a leaf of this code from a position, or children.
+pub enum Reached {
+    Leaf(u8, Pos),
+    Children,
+}
+
+// A node that is paid for is a leaf itself, or a variant whose tag names one, which is paid for here: so an optional column takes no
+// children step. Whatever else a tag says, and every refusal, is left to that step.
+fn leaf_at(
+    block: &[u8],
+    node: usize,
+    code: u8,
+    depth: usize,
+    input: &[u8],
+    p: Pos,
+    charge: u64,
+) -> Reached
+    requires { ⌜ Coded (now block) node code × Ready (now input) charge p ⌝ }
+    ensures { λ r. ⌜ Leads (now (block .entry)) (now (input .entry)) (skim (now (block .entry)) (now (input .entry)) charge depth) node p r ⌝ }
+{
+    if code < 15 {
+        return Reached::Leaf(code, p);
+    }
+    if 16 < code {
+        return Reached::Children;
+    }
+    if depth == 0 {
+        return Reached::Children;
+    }
+    let at = p.at;
+    let budget = p.budget;
+    let t = read_tag(code, input, at);
+    let Number::Is(tag, start) = t else {
+        return Reached::Children;
+    };
+    let k = node * 16;
+    let first = u32_at(block, k + 8);
+    let count = u32_at(block, k + 12);
+    if count <= tag {
+        return Reached::Children;
+    }
+    let child = (first + tag) as usize;
+    let below = block[child * 16];
+    if 14 < below {
+        return Reached::Children;
+    }
+    let paid = budget.charge(charge, start as u64);
+    let Charged::Left(rest) = paid else {
+        return Reached::Children;
+    };
+    Reached::Leaf(
+        below,
+        Pos {
+            at: start,
+            budget: rest,
+            records: p.records + 1,
+            payload: p.payload,
+        },
+    )
+}
+
 // The node step. Leaf or not, a node is charged before any byte of it is looked at.
 fn skip_value(block: &[u8], node: usize, depth: usize, input: &[u8], p: Pos, charge: u64) -> Skipped
     requires { ⌜ Sound (now block) × Inside (now block) node × Ready (now input) charge p ⌝ }
@@ -205,18 +267,27 @@ fn skip_value(block: &[u8], node: usize, depth: usize, input: &[u8], p: Pos, cha
         payload: p.payload,
     };
     let code = block[node * 16];
-    if code < 15 {
-        let s = skip_leaf(code, input, q);
-        let Skipped::At(r) = s else {
-            return s;
-        };
-        return Skipped::At(r);
+    let reached = leaf_at(block, node, code, depth - 1, input, q, charge);
+    match reached {
+        Reached::Leaf(below, leaf) => {
+            let s = skip_leaf(below, input, leaf);
+            let Skipped::At(r) = s else {
+                return s;
+            };
+            Skipped::At(r)
+        }
+        Reached::Children => {
+            // What a call lends has to lie in memory: copied here, so that a leaf is spared that.
+            let records = block;
+            let bytes = input;
+            let from = q;
+            let s = skip_children(records, code, node, depth - 1, bytes, from, charge);
+            let Skipped::At(r) = s else {
+                return s;
+            };
+            Skipped::At(r)
+        }
     }
-    let s = skip_children(block, code, node, depth - 1, input, q, charge);
-    let Skipped::At(r) = s else {
-        return s;
-    };
-    Skipped::At(r)
 }
 
 // The children step: one loop for tuples, variants and repeated variants, so that each step calls the other from one

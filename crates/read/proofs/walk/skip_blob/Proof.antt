@@ -23,7 +23,7 @@ unfolding blobOf reading
 returns c = rw (c .cut .ensures _ (c .before .enum-told .given .1), ← c .before .before .before .read-length .ensures, c .before .enum-told .given .1)
 
 sub-left : tie.Need-sub-left
-sub-left c = number-past _ _ _ _ _ _ _ (c .before .before .before .before .before .before .pre .within) (c .before .before .before .read-length .ensures) (c .before .length .given .1)
+sub-left c = number-past _ _ _ _ _ _ _ (c .before .before .before .before .before .before .pre .within) (c .before .before .before .read-length .ensures) (c .before .length .given .1) .1
 
 blob-limit-requires : tie.Need-blob-limit-requires
 blob-limit-requires c κs = search needs

@@ -9,6 +9,7 @@ use Rattle.read.proofs.walk.skip_value.Kinds as skip-value-kinds
 use Rattle.read.proofs.walk.+skip_children+skip_value.Lts-skip_value as skip-value-lts
 use Rattle.read.proofs.budget.RowBudget.charge.Reads as charge-reads
 use Rattle.read.proofs.walk.dear.Reads as dear-reads
+use Rattle.read.proofs.walk.leaf_at.Reads as leaf-at-reads
 use Rattle.read.proofs.walk.next_child.Reads as next-child-reads
 use Rattle.read.proofs.walk.skip_leaf.Reads as skip-leaf-reads
 use Rattle.wire.proofs.u32_at.Reads as u32-at-reads
@@ -36,4 +37,4 @@ abbrev pub skip-children-calls : ℕ → skip-children-lts.Claims
 skip-children-calls t = (u32-at-reads.Asked, u32-at-reads.Learnt, next-child-reads.Asked, next-child-reads.Learnt, skip-value-below t, skip-value.Post)
 
 abbrev pub skip-value-calls : ℕ → skip-value-lts.Claims
-skip-value-calls t = (charge-reads.Asked, charge-reads.Learnt, dear-reads.Asked, dear-reads.Learnt, skip-leaf-reads.Asked, skip-leaf-reads.Learnt, skip-children-below t, skip-children.Post)
+skip-value-calls t = (charge-reads.Asked, charge-reads.Learnt, dear-reads.Asked, dear-reads.Learnt, leaf-at-reads.Asked, leaf-at-reads.Learnt, skip-leaf-reads.Asked, skip-leaf-reads.Learnt, skip-children-below t, skip-children.Post)

@@ -1,7 +1,8 @@
 use Rattle.rules.specs.Block.{nodeAt}
 use Rattle.read.specs.Skim.{standing, nodeOf, skim}
 use Rattle.read.proofs.Steps.{ready-paid}
-use Rattle.read.proofs.Nodes.{skim-none, skim-dear, skim-paid, node-leaf}
+use Rattle.read.proofs.Nodes.{skim-none, skim-dear, skim-paid}
+use Rattle.read.proofs.Leads.{reached-leaf, reached-children}
 use borrow.Author.Needs.{needs}
 use native.Mathlib.Omega.{arith}
 use Prim.Native.Nat.{ℕ, _+_, _-_}
@@ -35,8 +36,8 @@ module _ (t : ℕ) where
   pub returns-2 : lts.Need-returns-2 (skip-value-calls t) (skip-value-at t) skip-value.Post
   returns-2 c = rw (c .dear .ensures _ (c .before .enum-told .given .1), skim-dear _ _ _ _ _ (c .before .before .before .before .before .before .before .before .args .p) (c .before .before .before .before .before .if1 .left) _ (c .before .before .before .charge .ensures) _ (c .before .enum-told .given .1))
 
-  pub add-t19 : lts.Need-add-t19 (skip-value-calls t) (skip-value-at t) skip-value.Post
-  add-t19 c = search needs
+  pub add-t25 : lts.Need-add-t25 (skip-value-calls t) (skip-value-at t) skip-value.Post
+  add-t25 c = search needs
 
   pub mul-code : lts.Need-mul-code (skip-value-calls t) (skip-value-at t) skip-value.Post
   mul-code c = search needs
@@ -44,8 +45,18 @@ module _ (t : ℕ) where
   pub shared-slice-read-code : lts.Need-shared-slice-read-code (skip-value-calls t) (skip-value-at t) skip-value.Post
   shared-slice-read-code c = search needs
 
+  pub sub-leaf-at : lts.Need-sub-leaf-at (skip-value-calls t) (skip-value-at t) skip-value.Post
+  sub-leaf-at c = search needs
+
+  pub leaf-at-requires : lts.Need-leaf-at-requires (skip-value-calls t) (skip-value-at t) skip-value.Post
+  unfolding nodeAt
+  leaf-at-requires c κs = (record { sound = c .before .before .before .before .before .before .before .before .before .before .pre .1 .0; inside = c .before .before .before .before .before .before .before .before .before .before .pre .1 .1; is = refl }, ready-paid _ _ _ _ _ (c .before .before .before .before .before .before .before .before .before .before .pre .1 .2) (c .before .before .before .before .before .charge .ensures) (c .before .before .before .paid .given .1))
+
+  pub enum-known-reached : lts.Need-enum-known-reached (skip-value-calls t) (skip-value-at t) skip-value.Post
+  enum-known-reached c = search needs
+
   pub skip-leaf-requires : lts.Need-skip-leaf-requires (skip-value-calls t) (skip-value-at t) skip-value.Post
-  skip-leaf-requires c κs = search needs
+  skip-leaf-requires c κs = reached-leaf _ _ _ _ _ _ (c .before .before .before .leaf-at .ensures) _ _ (c .before .reached .given .1) .1
 
   pub enum-known-s : lts.Need-enum-known-s (skip-value-calls t) (skip-value-at t) skip-value.Post
   enum-known-s c = search needs
@@ -54,28 +65,29 @@ module _ (t : ℕ) where
   enum-told-2 c = search needs
 
   pub returns-3 : lts.Need-returns-3 (skip-value-calls t) (skip-value-at t) skip-value.Post
-  returns-3 c = rw (inside (c .before .before .before .before .before .before), node-leaf _ _ _ _ _ (c .before .before .before .if2 .taken), ← c .before .before .skip-leaf .ensures, c .enum-told2 .given .1)
+  returns-3 c = rw (inside (c .before .before .before .before .before .before .before .before .before), reached-leaf _ _ _ _ _ _ (c .before .before .before .before .before .before .leaf-at .ensures) _ _ (c .before .before .before .before .reached .given .1) .0, ← c .before .before .skip-leaf .ensures, c .enum-told2 .given .1)
 
-  pub returns-4 : lts.Need-returns-4 (skip-value-calls t) (skip-value-at t) skip-value.Post
-  returns-4 c = rw (inside (c .before .before .before .before .before .before .before), node-leaf _ _ _ _ _ (c .before .before .before .before .if2 .taken), ← c .before .before .before .skip-leaf .ensures, c .before .s .given .1)
+  pub enum-told-3 : lts.Need-enum-told-3 (skip-value-calls t) (skip-value-at t) skip-value.Post
+  enum-told-3 c = search needs
 
   pub sub-skip-children : lts.Need-sub-skip-children (skip-value-calls t) (skip-value-at t) skip-value.Post
   sub-skip-children c = search needs
 
   pub skip-children-requires : lts.Need-skip-children-requires (skip-value-calls t) (skip-value-at t) skip-value.Post
   unfolding nodeAt
-  skip-children-requires c κs =
-      let s = c .before .before .before .before .before .before .before .before .before .before .before in
-      (omega (arith, s .pre .0, c .before .before .before .before .before .before .before .before .if1 .left), (record { sound = s .pre .1 .0; inside = s .pre .1 .1; is = refl }, c .if2 .left, ready-paid _ _ _ _ _ (s .pre .1 .2) (c .before .before .before .before .before .before .charge .ensures) (c .before .before .before .before .paid .given .1)))
+  skip-children-requires c κs = (omega (arith, c .before .before .before .before .before .before .before .before .before .before .before .before .before .pre .0, c .before .before .before .before .before .before .before .before .before .before .if1 .left), (record { sound = c .before .before .before .before .before .before .before .before .before .before .before .before .before .pre .1 .0; inside = c .before .before .before .before .before .before .before .before .before .before .before .before .before .pre .1 .1; is = refl }, reached-children _ _ _ _ _ _ (c .before .before .leaf-at .ensures) (c .enum-told3 .given .1), ready-paid _ _ _ _ _ (c .before .before .before .before .before .before .before .before .before .before .before .before .before .pre .1 .2) (c .before .before .before .before .before .before .before .before .charge .ensures) (c .before .before .before .before .before .before .paid .given .1)))
 
   pub enum-known-s-2 : lts.Need-enum-known-s-2 (skip-value-calls t) (skip-value-at t) skip-value.Post
   enum-known-s-2 c = search needs
 
-  pub enum-told-3 : lts.Need-enum-told-3 (skip-value-calls t) (skip-value-at t) skip-value.Post
-  enum-told-3 c = search needs
+  pub enum-told-4 : lts.Need-enum-told-4 (skip-value-calls t) (skip-value-at t) skip-value.Post
+  enum-told-4 c = search needs
+
+  pub returns-4 : lts.Need-returns-4 (skip-value-calls t) (skip-value-at t) skip-value.Post
+  returns-4 c = rw (inside (c .before .before .before .before .before .before .before .before), ← c .before .before .skip-children .ensures, c .enum-told4 .given .1)
 
   pub returns-5 : lts.Need-returns-5 (skip-value-calls t) (skip-value-at t) skip-value.Post
-  returns-5 c = rw (inside (c .before .before .before .before .before .before), ← c .before .before .skip-children .ensures, c .enum-told3 .given .1)
+  returns-5 c = rw (inside (c .before .before .before .before .before .before .before .before .before .before), reached-leaf _ _ _ _ _ _ (c .before .before .before .before .before .before .before .leaf-at .ensures) _ _ (c .before .before .before .before .before .reached .given .1) .0, ← c .before .before .before .skip-leaf .ensures, c .before .s .given .1)
 
   pub returns-6 : lts.Need-returns-6 (skip-value-calls t) (skip-value-at t) skip-value.Post
-  returns-6 c = rw (inside (c .before .before .before .before .before .before .before), ← c .before .before .before .skip-children .ensures, c .before .s2 .given .1)
+  returns-6 c = rw (inside (c .before .before .before .before .before .before .before .before .before), ← c .before .before .before .skip-children .ensures, c .before .s2 .given .1)

@@ -1,0 +1,71 @@
+-- What a node comes to at once: its own bytes, or those of the leaf that its tag names.
+-- Assumes nothing.
+use Prim.Native.Nat.{ℕ, _+_, _-_, _*_, _≤_, _<_}
+use mathlib.Core.Path.{_≡_, sym, subst, _∙_}
+use mathlib.Core.List.{List}
+use native.Mathlib.Omega.{arith}
+use borrow.Author.Tests.{lt-ltb}
+use lib.Dec.{ltb}
+use lib.ListN.{length, getD}
+use Rattle.rules.specs.Choice.{pick}
+use Rattle.rules.specs.Bytes.{leAt}
+use Rattle.rules.specs.Wire.{form, widthOf}
+use Rattle.rules.specs.Block.{nodeAt}
+use Rattle.read.specs.Budget.{spent}
+use Rattle.read.specs.Fields.{numberAt}
+use Rattle.read.specs.Skim.{standing, reading, leafOf, Skimmer, childOf, choiceOf, valueOf, nodeOf, skim}
+use Rattle.read.specs.Ready.{Coded, Readable, Ready}
+use Rattle.read.specs.Leads.{Leads}
+use Rattle.read.specs.declared.budget.RowBudget.{RowBudget}
+use Rattle.read.specs.declared.budget.Charged.{Charged}
+use Rattle.read.specs.declared.budget.Charged.the-variants.{Left}
+use Rattle.read.specs.declared.fields.Number.{Number}
+use Rattle.read.specs.declared.fields.Number.the-variants.{Is}
+use Rattle.read.specs.declared.walk.Pos.{Pos}
+use Rattle.read.specs.declared.walk.Reached.{Reached}
+use Rattle.read.specs.declared.walk.Reached.the-variants.{Leaf, Children}
+use Rattle.read.proofs.Codes.{form-choice}
+use Rattle.read.proofs.Steps.{number-past}
+use Rattle.read.proofs.Turn.{moved}
+use Rattle.read.proofs.Nodes.{skim-paid, node-leaf}
+
+module _ (s inp : List ℕ) (rec : Skimmer) (i code : ℕ) (k : Coded s i code) (p : Pos) where
+  -- a leaf is its own
+  pub leads-self : (charge : ℕ) → Ready inp charge p → code < 15 → Leads s inp rec i p (Leaf code p)
+  unfolding Leads nodeAt
+  leads-self charge r h = (rw (k .is) (node-leaf s inp rec i p (rw (← k .is) h)), r .stands)
+
+  pub leads-on : 15 ≤ code → Leads s inp rec i p Children
+  unfolding Leads
+  leads-on h = rw (← k .is) h
+
+  -- a variant is the child that its tag names
+  variant-child : (first count tag next : ℕ) → first ≡ leAt s (i * 16 + 8) 4 → count ≡ leAt s (i * 16 + 12) 4 → 14 < code → code < 17 →
+      Is tag next ≡ numberAt inp (widthOf (form code)) (14 + widthOf (form code)) (p .at) → tag < count → nodeOf s inp rec i p ≡ rec (first + tag) (moved p next)
+  unfolding nodeOf nodeAt valueOf choiceOf reading childOf pick
+  variant-child first count tag next a b h l e m = rw (← k .is, ← a, ← b, form-choice code h l, ← e, lt-ltb tag count m)
+
+-- and where that one is a leaf, paid for, its bytes are all that is left
+pub leads-child : (s inp : List ℕ) (charge depth i code : ℕ) (k : Coded s i code) (p : Pos) (r : Ready inp charge p) (first count : ℕ) → first ≡ leAt s (i * 16 + 8) 4 → count ≡ leAt s (i * 16 + 12) 4 → 14 < code → code < 17 → (depth ≡ 0 → ⊥) →
+    (t : Number) → t ≡ numberAt inp (widthOf (form code)) (14 + widthOf (form code)) (p .at) → (tag next : ℕ) → t ≡ Is tag next → tag < count → getD s ((first + tag) * 16) 0 < 15 →
+    (c : Charged) → c ≡ spent (p .budget) charge next → (b : RowBudget) → c ≡ Left b →
+    Leads s inp (skim s inp charge depth) i p (Leaf (getD s ((first + tag) * 16) 0) (standing next b (p .records + 1) (p .payload)))
+unfolding Leads
+leads-child s inp charge depth i code k p r first count a b h l d t is tag next e m g c y rest z =
+    let o = number-past inp _ _ (p .at) tag next t (r .stands .within) is e in (
+      variant-child s inp (skim s inp charge depth) i code k p first count tag next a b h l (sym e ∙ is) m
+          ∙ skim-paid s inp charge depth (first + tag) (moved p next) d c y rest z
+          ∙ node-leaf s inp (skim s inp charge (depth - 1)) (first + tag) _ g,
+      record { within = o .1; short = r .stands .short; passed = omega (arith, o .0, r .stands .passed) },
+    )
+
+-- ---- what the caller learns
+
+module _ (s inp : List ℕ) (rec : Skimmer) (i : ℕ) (p : Pos) (t : Reached) (l : Leads s inp rec i p t) where
+  pub reached-leaf : (code : ℕ) (q : Pos) → t ≡ Leaf code q → (nodeOf s inp rec i p ≡ leafOf inp code q) × Readable inp q
+  unfolding Leads
+  reached-leaf code q e = subst (λ (x : Reached). Leads s inp rec i p x) e l
+
+  pub reached-children : t ≡ Children → 14 < nodeAt s i .code
+  unfolding Leads
+  reached-children e = subst (λ (x : Reached). Leads s inp rec i p x) e l
