@@ -14,4 +14,3 @@ pub mod Formats
 pub mod Tables
 pub mod BlockReasons
 pub mod FormatReasons
-pub mod Places
