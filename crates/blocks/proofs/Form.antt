@@ -1,7 +1,7 @@
 -- The form of a block: what the test gives, and the shape of a block in level order.
 -- Assumes nothing.
-use Prim.Native.Nat.{ℕ, zero, suc, _+_, _-_, _*_, _/_, _%_, _≤_, _<_}
-use mathlib.Core.Path.{_≡_, refl, sym, ap}
+use Prim.Native.Nat.{ℕ, zero, suc, _+_, _-_, _*_, _%_, _≤_, _<_}
+use mathlib.Core.Path.{_≡_, sym, ap}
 use mathlib.Core.Bool.{Bool, true, false}
 use mathlib.Core.List.{List}
 use mathlib.Core.Logic.{⊎-elim, _↔_}
@@ -12,7 +12,7 @@ use borrow.Author.Tests.{ne-eqb, leb-true, ltb-true, eqb-true, eqb-false, le-leb
 use lib.ListN.{length, getD}
 use lib.Dec.{leb, eqb, ltb}
 use Rattle.rules.specs.Choice.{pick, _and_, all}
-use Rattle.rules.specs.Block.{nodeAt, records, Closed, earlier, nameOk, childrenOk, recordOk, recordAt, blockOk, LevelOrder, Ordered, Named, Formed}
+use Rattle.rules.specs.Block.{nodeAt, records, Closed, earlier, nameOk, childrenOk, recordOk, recordAt, blockOk, Ordered, Named, Formed}
 use Rattle.rules.specs.declared.Node.{Node}
 use Rattle.rules.proofs.Tests.{and-both, and-true, all-each, all-true, pick-either}
 use Rattle.blocks.proofs.Fields.{le-within}
