@@ -15,7 +15,7 @@ use Rattle.rules.specs.Choice.{pick, _and_, all}
 use Rattle.rules.specs.Block.{nodeAt, records, Closed, earlier, nameOk, childrenOk, recordOk, recordAt, blockOk, Ordered, Named, Formed}
 use Rattle.rules.specs.declared.Node.{Node}
 use Rattle.rules.proofs.Tests.{and-both, and-true, all-each, all-true, pick-either}
-use Rattle.blocks.proofs.Fields.{le-within}
+use Rattle.rules.proofs.Stands.{leAt-lt}
 
 -- ---- for the loop
 pub earlier-suc : (s : List ℕ) (i : ℕ) → earlier s (i + 1) ≡ earlier s i + nodeAt s i .children
@@ -24,7 +24,7 @@ earlier-suc s i = rw add-one
 
 pub kids-small : (s : List ℕ) → ((i : ℕ) → getD s i 0 < 256) → (i : ℕ) → nodeAt s i .children < 4294967296
 unfolding nodeAt
-kids-small s h i = le-within s h (i * 16 + 12) 4 4 (omega arith)
+kids-small s h i = leAt-lt s h (i * 16 + 12) 4
 
 pub earlier-small : (s : List ℕ) → ((i : ℕ) → getD s i 0 < 256) → (i : ℕ) → earlier s i ≤ i * 4294967296
 unfolding earlier

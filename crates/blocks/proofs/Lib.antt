@@ -1,4 +1,3 @@
-pub mod Fields
 pub mod Form
 pub mod Levels
 pub mod Reached

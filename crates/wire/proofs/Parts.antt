@@ -1,34 +1,18 @@
 -- Laws of the part of a list that starts at a place.
 -- Assumes nothing.
 use Prim.Native.Nat.{ℕ, zero, suc, _+_, _-_, _≤_, _<_}
-use mathlib.Core.Path.{_≡_, refl, ap, _∙_}
+use mathlib.Core.Path.{_≡_}
 use mathlib.Core.List.{List, [], _∷_}
 use native.Mathlib.Omega.{arith}
 use native.Mathlib.Nat.{sub-zero}
-use lib.ListN.{length, getD}
+use lib.ListN.{getD}
 use Rattle.rules.specs.Bytes.{part}
-
-pub part-length : (s : List ℕ) (at n : ℕ) → length (part s at n) ≡ n
-unfolding part
-part-length s at zero = refl
-part-length s at (suc n) = ap suc (part-length s (at + 1) n)
 
 pub part-at : (s : List ℕ) (at n k : ℕ) → k < n → getD (part s at n) k 0 ≡ getD s (at + k) 0
 unfolding part
 part-at s at zero k h = absurd (omega arith)
 part-at s at (suc n) zero h = let e : at + 0 ≡ at = omega arith in rw e
 part-at s at (suc n) (suc k) h = let e : at + suc k ≡ (at + 1) + k = omega arith in rw e (part-at s (at + 1) n k (omega arith))
-
--- a place in the tail of a list
-part-tail : (x : ℕ) (s : List ℕ) (at n : ℕ) → part (x ∷ s) (at + 1) n ≡ part s at n
-unfolding part
-part-tail x s at zero = refl
-part-tail x s at (suc n) = let e : at + 1 ≡ suc at = omega arith in rw (part-tail x s (at + 1) n, e)
-
-pub part-whole : (s : List ℕ) → part s 0 (length s) ≡ s
-unfolding part
-part-whole [] = refl
-part-whole (x ∷ s) = ap (λ (t : List ℕ). x ∷ t) (part-tail x s 0 (length s) ∙ part-whole s)
 
 -- ---- what a loop that counts up has left: before the first turn, at each turn, at the end
 
