@@ -1,7 +1,7 @@
 -- The form of a block: what the test gives, and the shape of a block in level order.
 -- Assumes nothing.
-use Prim.Native.Nat.{ℕ, zero, suc, _+_, _-_, _*_, _/_, _%_, _≤_, _<_}
-use mathlib.Core.Path.{_≡_, refl, sym, ap}
+use Prim.Native.Nat.{ℕ, zero, suc, _+_, _-_, _*_, _%_, _≤_, _<_}
+use mathlib.Core.Path.{_≡_, sym, ap}
 use mathlib.Core.Bool.{Bool, true, false}
 use mathlib.Core.List.{List}
 use mathlib.Core.Logic.{⊎-elim, _↔_}
@@ -12,10 +12,10 @@ use borrow.Author.Tests.{ne-eqb, leb-true, ltb-true, eqb-true, eqb-false, le-leb
 use lib.ListN.{length, getD}
 use lib.Dec.{leb, eqb, ltb}
 use Rattle.rules.specs.Choice.{pick, _and_, all}
-use Rattle.rules.specs.Block.{nodeAt, records, Closed, earlier, nameOk, childrenOk, recordOk, recordAt, blockOk, LevelOrder, Ordered, Named, Formed}
+use Rattle.rules.specs.Block.{nodeAt, records, Closed, earlier, nameOk, childrenOk, recordOk, recordAt, blockOk, Ordered, Named, Formed}
 use Rattle.rules.specs.declared.Node.{Node}
 use Rattle.rules.proofs.Tests.{and-both, and-true, all-each, all-true, pick-either}
-use Rattle.blocks.proofs.Fields.{le-within}
+use Rattle.rules.proofs.Stands.{leAt-lt}
 
 -- ---- for the loop
 pub earlier-suc : (s : List ℕ) (i : ℕ) → earlier s (i + 1) ≡ earlier s i + nodeAt s i .children
@@ -24,7 +24,7 @@ earlier-suc s i = rw add-one
 
 pub kids-small : (s : List ℕ) → ((i : ℕ) → getD s i 0 < 256) → (i : ℕ) → nodeAt s i .children < 4294967296
 unfolding nodeAt
-kids-small s h i = le-within s h (i * 16 + 12) 4 4 (omega arith)
+kids-small s h i = leAt-lt s h (i * 16 + 12) 4
 
 pub earlier-small : (s : List ℕ) → ((i : ℕ) → getD s i 0 < 256) → (i : ℕ) → earlier s i ≤ i * 4294967296
 unfolding earlier

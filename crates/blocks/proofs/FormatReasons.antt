@@ -147,13 +147,9 @@ module _ (f : Format) where
   unfolding formatRule
   format-says = says-else _ _ _ _ (λ s. rules-says) sizes-reason
 
-  -- A format that is refused is refused with reason,
+  -- A format that is refused is refused with reason.
   pub format-honest : (r : Refusal) → formatRule f ≡ Refused r → FormatReason f r
   format-honest r e = reason (rw e at format-says)
-
-  -- also where its sizes are left aside.
-  pub rules-honest : (r : Refusal) → formatRules f ≡ Refused r → FormatReason f r
-  rules-honest r e = reason (rw e at rules-says)
 
   number : (r : Refusal) → FormatReason f r → (said r .number ≤ 8) ⊎ (said r .number ≡ 10)
   unfolding said

@@ -1,19 +1,18 @@
 -- What the refusals of the schema rules say: a record of the block that breaks them, its code, its child count, and the maximum.
 -- Assumes nothing.
-use Prim.Native.Nat.{ℕ, zero, suc, _+_, _-_, _*_, _/_, _≤_, _<_}
-use mathlib.Core.Path.{_≡_, refl, sym, ap, _∙_}
+use Prim.Native.Nat.{ℕ, zero, suc, _+_, _*_, _≤_, _<_}
+use mathlib.Core.Path.{_≡_, refl, sym, _∙_}
 use mathlib.Core.Bool.{Bool, true, false}
 use mathlib.Core.List.{List}
 use native.Mathlib.Omega.{arith}
 use borrow.Author.Tests.{eqb-false, leb-false}
 use lib.ListN.{length}
-use lib.Dec.{leb, eqb}
+use lib.Dec.{eqb}
 use Rattle.rules.specs.Choice.{pick, _and_, all}
 use Rattle.rules.specs.Wire.{form, written, writtenIf, typeOf, typeIn, wireTypes, maximum}
 use Rattle.rules.specs.Refusals.{_then_, inOrder}
 use Rattle.rules.specs.Block.{nodeAt, records, Closed, Shallow, Formed}
 use Rattle.rules.specs.SchemaRules.{nodeRule, ruleAt, schemaRule}
-use Rattle.rules.specs.declared.Node.{Node}
 use Rattle.rules.specs.declared.Refusal.{Refusal}
 use Rattle.rules.specs.declared.Refusal.the-variants.{UnexpectedChildren, TooManyChildren}
 use Rattle.rules.specs.declared.Checked.{Checked}

@@ -1,15 +1,15 @@
 -- The levels of a block in level order, and the depth of its tree.
 -- Assumes nothing.
-use Prim.Native.Nat.{ℕ, zero, suc, _+_, _-_, _*_, _/_, _≤_, _<_, max}
-use mathlib.Core.Path.{_≡_, refl, sym, ap, _∙_}
+use Prim.Native.Nat.{ℕ, zero, suc, _+_, _-_, _*_, _≤_, _<_}
+use mathlib.Core.Path.{_≡_, refl, sym, _∙_}
 use mathlib.Core.List.{List}
 use mathlib.Core.Logic.{_⊎_, inl, inr, ⊎-elim, _↔_}
 use native.Mathlib.Omega.{arith}
 use native.Mathlib.Nat.{eq-or-lt-of-le}
 use native.Mathlib.Numerals.{add-one}
 use lib.ListN.{length}
-use Rattle.rules.specs.Schema.{Schema, node, Schemas, nil, cons, deep, deeps}
-use Rattle.rules.specs.Block.{nodeAt, records, treesFrom, treeAt, blockTree, Denotes, denotes, DenoteAll, no-node, a-node, Closed, Shallow, earlier, LevelOrder, Ordered}
+use Rattle.rules.specs.Schema.{Schema, Schemas, deep, deeps}
+use Rattle.rules.specs.Block.{nodeAt, records, treesFrom, treeAt, blockTree, Denotes, denotes, DenoteAll, no-node, a-node, Closed, Shallow, earlier, Ordered}
 use Rattle.blocks.proofs.Form.{earlier-suc, earlier-mono, whole, closed, before}
 
 -- how many records the first d levels have

@@ -1,4 +1,3 @@
-pub mod Fields
 pub mod Form
 pub mod Levels
 pub mod Reached
@@ -14,4 +13,3 @@ pub mod Formats
 pub mod Tables
 pub mod BlockReasons
 pub mod FormatReasons
-pub mod Places

@@ -1,12 +1,11 @@
 -- Each record of a block is reached exactly once: the tree has as many nodes as the block has records.
 -- Assumes nothing.
-use Prim.Native.Nat.{ℕ, zero, suc, _+_, _-_, _*_, _/_, _≤_, _<_}
-use mathlib.Core.Path.{_≡_, refl, sym}
+use Prim.Native.Nat.{ℕ, zero, suc, _+_, _-_, _≤_, _<_}
+use mathlib.Core.Path.{_≡_, refl}
 use mathlib.Core.List.{List}
 use mathlib.Core.Logic.{⊎-elim}
 use native.Mathlib.Omega.{arith}
 use native.Mathlib.Nat.{eq-or-lt-of-le}
-use lib.ListN.{length}
 use Rattle.rules.specs.Schema.{Schema, node, Schemas, nil, cons}
 use Rattle.rules.specs.Block.{nodeAt, records, treesFrom, treeAt, blockTree, earlier, Ordered}
 use Rattle.blocks.proofs.Form.{earlier-suc, earlier-mono}

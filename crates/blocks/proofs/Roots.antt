@@ -3,7 +3,7 @@
 use Prim.Native.Nat.{ℕ, zero, suc, _+_, _-_, _<_}
 use mathlib.Core.Path.{_≡_, refl, sym, _∙_}
 use mathlib.Core.Bool.{Bool, true, false}
-use mathlib.Core.List.{List, [], _∷_}
+use mathlib.Core.List.{List}
 use mathlib.Core.Logic.{_↔_}
 use native.Mathlib.Omega.{arith}
 use borrow.Author.Tests.{ltb-true, eqb-true, lt-ltb, eq-eqb}
@@ -11,7 +11,7 @@ use lib.Dec.{eqb, ltb}
 use Rattle.rules.specs.Choice.{pick, _and_}
 use Rattle.rules.specs.Bytes.{part}
 use Rattle.rules.specs.Refusals.{_then_, inOrder}
-use Rattle.rules.specs.Schema.{Name, unnamed, named, Schema, node, Schemas, nil, cons, NonEmpty, AllNamed, TableRoot}
+use Rattle.rules.specs.Schema.{unnamed, named, Schema, Schemas, NonEmpty, AllNamed, TableRoot}
 use Rattle.rules.specs.Block.{nodeAt, nameIn, Denotes, denotes, DenoteAll, no-node, a-node}
 use Rattle.rules.specs.SchemaRules.{nameRule, rootRule, childRule, tableRule}
 use Rattle.rules.specs.declared.Node.{Node}

@@ -1,24 +1,20 @@
 -- The schema rules on a block accept it just if its tree is valid, and refuse it for the first node in preorder that breaks them.
 -- Assumes nothing.
-use Prim.Native.Nat.{ℕ, zero, suc, _+_, _-_, _*_, _/_, _≤_, _<_}
-use mathlib.Core.Path.{_≡_, refl, sym, ap, _∙_}
-use mathlib.Core.Bool.{Bool, true, false}
+use Prim.Native.Nat.{ℕ, zero, suc, _+_, _-_, _<_}
+use mathlib.Core.Path.{_≡_, refl, sym, ap}
 use mathlib.Core.List.{List, [], _∷_, _++_}
 use mathlib.Core.Logic.{_↔_}
 use native.Mathlib.Omega.{arith}
 use borrow.Author.Tests.{leb-true, eqb-true, le-leb, eq-eqb}
-use lib.ListN.{length}
-use lib.Dec.{leb, eqb}
 use Rattle.rules.specs.Choice.{pick}
 use Rattle.rules.specs.Wire.{form, writtenIf, typeOf, typeIn, wireTypes, maximum}
 use Rattle.rules.specs.Refusals.{_then_, inOrder}
-use Rattle.rules.specs.Schema.{Schema, node, Schemas, nil, cons, count, Allows, Valid, valid, ValidAll, no-schema, a-schema}
-use Rattle.rules.specs.Block.{nodeAt, records, nameIn, treesFrom, treeAt, Shallow}
+use Rattle.rules.specs.Schema.{Schema, count, Allows, Valid, valid, ValidAll, no-schema, a-schema}
+use Rattle.rules.specs.Block.{nodeAt, nameIn, treesFrom, treeAt, Shallow}
 use Rattle.rules.specs.SchemaRules.{nodeRule, ruleAt, schemaRule, firstOf, listed, preorder}
 use Rattle.rules.specs.declared.Node.{Node}
-use Rattle.rules.specs.declared.Refusal.{Refusal}
 use Rattle.rules.specs.declared.Checked.{Checked}
-use Rattle.rules.specs.declared.Checked.the-variants.{Accepted, Refused}
+use Rattle.rules.specs.declared.Checked.the-variants.{Accepted}
 use Rattle.rules.specs.declared.Children.{Children}
 use Rattle.rules.specs.declared.Children.the-variants.{None, UpTo, Any, Unknown}
 use Rattle.rules.proofs.Checks.{refused-not, then-both, then-assoc, pick-accepted}

@@ -1,11 +1,10 @@
 -- The tree of a block does not depend on how deep it is looked at, nor its depth on the names.
 -- Assumes nothing.
-use Prim.Native.Nat.{ℕ, zero, suc, _+_, _*_, _≤_, _<_, max}
+use Prim.Native.Nat.{ℕ, zero, suc, _+_, _≤_, max}
 use mathlib.Core.Path.{_≡_, refl, sym, ap, _∙_}
 use mathlib.Core.List.{List, []}
 use native.Mathlib.Omega.{arith}
-use lib.ListN.{length}
-use Rattle.rules.specs.Schema.{Schema, node, Schemas, nil, cons, deep, deeps}
+use Rattle.rules.specs.Schema.{Schema, Schemas, deep, deeps}
 use Rattle.rules.specs.Block.{nodeAt, records, treesFrom, treeAt, blockTree, depthOf, Denotes, denotes, DenoteAll, no-node, a-node}
 
 module _ (s store : List ℕ) where

@@ -2,13 +2,13 @@
 -- Assumes nothing.
 use Prim.Native.Nat.{ℕ, _≤_, _<_}
 use mathlib.Core.Path.{_≡_, sym, _∙_}
-use mathlib.Core.Bool.{Bool, true, false}
+use mathlib.Core.Bool.{true, false}
 use mathlib.Core.List.{List}
 use borrow.Author.Tests.{le-leb, lt-leb, eq-eqb, ne-eqb}
 use lib.ListN.{length}
 use Rattle.rules.specs.Choice.{pick, _and_}
 use Rattle.rules.specs.Format.{Format, formatRules}
-use Rattle.rules.specs.Reading.{limits, rowAt, whenAccepted, Decoded, untouched, filled, decodeFrom, decodeRule}
+use Rattle.rules.specs.Reading.{limits, rowAt, whenAccepted, untouched, filled, decodeFrom, decodeRule}
 use Rattle.rules.specs.declared.Settings.{Settings}
 use Rattle.rules.specs.declared.Refusal.{Refusal}
 use Rattle.rules.specs.declared.Refusal.the-variants.{Setting}

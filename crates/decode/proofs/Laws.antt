@@ -1,17 +1,17 @@
 -- A row of a checked format, step by step: what is judged reads so, has room or not, and is left in both slices.
 -- Assumes nothing.
-use Prim.Native.Nat.{ℕ, _+_, _-_, _*_, _/_, _≤_, _<_, min}
+use Prim.Native.Nat.{ℕ, _+_, _-_, _/_, _≤_, min}
 use mathlib.Core.Path.{_≡_, refl, sym, _∙_, ap}
 use mathlib.Core.Bool.{Bool, true, false}
 use mathlib.Core.Logic.{_⊎_, inl, inr}
 use mathlib.Core.List.{List, []}
 use native.Mathlib.Omega.{arith}
-use borrow.Author.Tests.{le-leb, lt-leb, leb-true}
+use borrow.Author.Tests.{leb-true}
 use lib.Dec.{leb}
 use lib.ListN.{length}
 use Rattle.rules.specs.Choice.{pick}
 use Rattle.rules.specs.Bytes.{leAt, Bytes, over}
-use Rattle.rules.specs.Block.{nodeAt, records, block, Closed}
+use Rattle.rules.specs.Block.{records, block}
 use Rattle.rules.specs.Format.{Format, tableSchema, formatRules}
 use Rattle.rules.specs.Value.{Value, recordsOf, payloadOf}
 use Rattle.rules.specs.ValueTable.{flat, pays}
@@ -24,8 +24,8 @@ use Rattle.rules.specs.declared.Located.the-variants.{Block, NoTable, NoEntry}
 use Rattle.rules.specs.declared.Checked.the-variants.{Accepted}
 use Rattle.rules.specs.declared.Extent.{Extent}
 use Rattle.rules.specs.declared.Read.{Read}
-use Rattle.rules.specs.declared.Read.the-variants.{Row, End}
-use Rattle.blocks.proofs.Tables.{TableSchema, table-schema}
+use Rattle.rules.specs.declared.Read.the-variants.{Row}
+use Rattle.blocks.proofs.Tables.{table-schema}
 use Rattle.rows.proofs.TableRows.{located}
 use Rattle.schema.specs.Slices.{slices}
 use Rattle.stream.proofs.Laws.{schema-any, root-code}

@@ -1,10 +1,9 @@
 -- What the walk accepts stands in the input, limits aside; and the walk has counted its records and payload bytes.
 -- Assumes nothing.
-use Prim.Native.Nat.{ℕ, zero, suc, _+_, _-_, _*_, _≤_}
+use Prim.Native.Nat.{ℕ, zero, suc, _+_, _-_, _≤_}
 use mathlib.Core.Path.{_≡_, refl, ap}
 use mathlib.Core.Bool.{Bool, true, false}
 use mathlib.Core.List.{List, []}
-use native.Mathlib.Omega.{arith}
 use lib.ListN.{length}
 use lib.Dec.{leb}
 use Rattle.rules.specs.Choice.{pick}
@@ -18,8 +17,6 @@ use Rattle.rules.specs.declared.Node.{Node}
 use Rattle.rules.specs.declared.Refusal.{Refusal}
 use Rattle.rules.specs.declared.Refusal.the-variants.{RowTooLarge}
 use Rattle.rows.proofs.Sound.{sound}
-use Rattle.fill.specs.Filling.{Room, start, rowValue}
-use Rattle.fill.proofs.Got.{got-from}
 use Rattle.fill.specs.Plain.{Reading, Got, _>>=_, valueOf, numberAt, bytesAt, leafAt, Reader, childAt, pairsAt, fieldsAt, byForm, readAt}
 
 -- what is accepted is read, and leaves off at the same place
@@ -125,18 +122,3 @@ module _ (inp : List ℕ) (lim : Limits) where
     counts d i p q v h e =
         let s = sound inp lim bs sch [] d i p q v h e in
         (ap (λ (x : Pos). x .records) (s .ends), ap (λ (x : Pos). x .payload) (s .ends))
-
-    -- ---- a row: the walk from where nothing is counted yet
-    module _ (p q : Pos) (v : Value) (h : p .at ≤ length inp) (none : (p .records ≡ 0) × (p .payload ≡ 0)) (e : walk sch inp lim 64 0 p ≡ rule.Got v q) where
-      -- Its value is the walk's.
-      pub row-value : rowValue sch inp (p .at) ≡ v
-      unfolding valueOf
-      row-value = rw (reads sch 64 0 p q v e)
-
-      -- Where there is room for what the walk counted, the row can be filled.
-      pub row-room : (n m : ℕ) → q .records * 16 ≤ n → q .payload ≤ m → Room (readAt sch inp 64 0 (p .at)) (start (p .at)) n m
-      row-room n m k l = record {
-        is = got-from _ _ _ (reads sch 64 0 p q v e);
-        records = rw row-value (omega (arith, counts 64 0 p q v h e));
-        payload = rw row-value (omega (arith, counts 64 0 p q v h e));
-      }

@@ -1,7 +1,7 @@
 -- Nodes with children: what is left to read after i of them, and what a turn of the loop takes from it.
 -- Assumes nothing.
 use Prim.Native.Nat.{ℕ, zero, suc, _+_, _-_, _≤_, _<_}
-use mathlib.Core.Path.{_≡_, refl, sym, ap, _∙_}
+use mathlib.Core.Path.{_≡_, refl, sym, _∙_}
 use mathlib.Core.Bool.{Bool, true, false}
 use mathlib.Core.List.{List, _++_, append-nil}
 use native.Mathlib.Omega.{arith}
@@ -17,9 +17,8 @@ use Rattle.rules.specs.Value.{Value, nothing, boolean, number, wide, blob, vari
 use Rattle.rules.specs.ValueTable.{valueRecord, pays, paysI, paysV, flat, flatI, flatV}
 use Rattle.rules.specs.Writing.{kindFor}
 use Rattle.rules.specs.declared.Node.{Node}
-use Rattle.rules.specs.declared.Known.{Known}
 use Rattle.rules.proofs.Tests.{all-each}
-use Rattle.wire.proofs.Codes.{type-out}
+use Rattle.rules.proofs.Codes.{form-unknown}
 use Rattle.values.proofs.Codes.{plain}
 use Rattle.fill.specs.declared.Next.{Next}
 use Rattle.fill.specs.declared.Next.the-variants.{Child, End}
@@ -111,11 +110,6 @@ plain-reads inp rec n unknown at e = refl
 leaf-reads : (inp : List ℕ) (rec : Reader) (n : Node) (at : ℕ) → n .code < 15 → byForm inp rec n (form (n .code)) at ≡ leafAt inp (n .code) (form (n .code)) at
 unfolding plain all _and_ wireTypes typeIn typeOf written writtenIf form
 leaf-reads inp rec n at h = plain-reads inp rec n (form (n .code)) at (all-each (λ i. plain (form i)) 15 (n .code) refl h)
-
--- the codes end at 19
-form-unknown : (code : ℕ) → 20 ≤ code → form code ≡ unknown
-unfolding wireTypes typeOf form writtenIf
-form-unknown code h = ap (λ (k : Known). writtenIf k) (sym (type-out wireTypes code h))
 
 module _ (inp : List ℕ) (rec : Reader) (n : Node) where
   -- what is left after i of them

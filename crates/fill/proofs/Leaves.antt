@@ -16,7 +16,7 @@ use Rattle.rules.specs.Value.{tally, recordsOf, payloadOf}
 use Rattle.rules.specs.ValueTable.{valueRecord, bit, pays, flat}
 use Rattle.rules.proofs.Tests.{all-each, and-both}
 use Rattle.rules.proofs.Over.{over-none}
-use Rattle.wire.proofs.Parts.{part-length}
+use Rattle.rules.proofs.Stands.{length-part}
 use Rattle.fill.specs.declared.Spot.{Spot}
 use Rattle.fill.specs.Plain.{IsGot, valueOf, endOf, leafAt}
 use Rattle.fill.specs.Filling.{Room, past, Filled, scalarOf}
@@ -93,7 +93,7 @@ module _ (inp : List ℕ) (code at : ℕ) where
   wide-form (fixed w) c l h = absurd (omega (arith, leb-true w 8 (and-both _ _ c .1)))
   wide-form (raw w) c l h =
       let g = bytes-got inp w at _ h in
-      let n = part-length inp at w in
+      let n = length-part inp at w in
       record { there = omega (arith, g .0); ends = rw (g .1); table = λ tag p. rw (g .1, n); one = rw (g .1) (omega arith); load = rw (g .1) (omega (arith, n)); bytes = rw (g .1) }
   wide-form sized c l h = false-not c
   wide-form (choice w) c l h = false-not c
@@ -109,7 +109,7 @@ module _ (inp : List ℕ) (code at : ℕ) where
   blob-form h =
       let a = number-got inp 4 at _ h in
       let b = bytes-got inp (leAt inp at 4) (at + 4) _ (rw (a .1) at h) in
-      let n = part-length inp (at + 4) (leAt inp at 4) in
+      let n = length-part inp (at + 4) (leAt inp at 4) in
       record { there = omega (arith, a .0, b .0); ends = rw (a .1, b .1); table = λ tag p. rw (a .1, b .1, n); one = rw (a .1, b .1) (omega arith); load = rw (a .1, b .1) (omega (arith, n)); bytes = rw (a .1, b .1) }
 
   pub blob-stored : 12 < code → code < 15 → IsGot (leafAt inp code (form code) at) → Stored (form code) (at + 4) (leAt inp at 4)

@@ -231,7 +231,7 @@ fn fill_children(
 }
 
 // A node and all below it, as the child that its parent chose by `tag`.
-pub fn fill_value(
+fn fill_value(
     block: &[u8],
     node: usize,
     depth: usize,

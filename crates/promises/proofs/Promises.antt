@@ -1,18 +1,18 @@
 -- The page of promises. Each statement is about the written rules (crates/rules/specs) and nothing else, and is proved by a citation.
 -- A call inherits it by a contract that says: its answer is what the rule says.
 -- Assumes nothing.
-use Prim.Native.Nat.{ℕ, suc, _+_, _-_, _*_, _≤_, _<_}
+use Prim.Native.Nat.{ℕ, _-_, _≤_, _<_}
 use mathlib.Core.Path.{_≡_, sym, _∙_}
 use mathlib.Core.Bool.{Bool}
 use mathlib.Core.List.{List, _++_, map}
 use mathlib.Core.Logic.{_↔_}
 use lib.ListN.{length}
 use Rattle.rules.specs.Bytes.{Bytes}
-use Rattle.rules.specs.Schema.{Schema, deep, Valid}
-use Rattle.rules.specs.Block.{records, block, blockTree, Denotes, Formed, blockOk, depthOf, Ordered}
+use Rattle.rules.specs.Schema.{Schema, deep}
+use Rattle.rules.specs.Block.{records, block, blockTree, Denotes, Formed, blockOk, Ordered}
 use Rattle.rules.specs.SchemaRules.{schemaRule, ruleAt, firstOf, preorder}
 use Rattle.rules.specs.Format.{Format, tables, formatRule, formatRules, schemaAnswer, encoderRule}
-use Rattle.rules.specs.Value.{Value, Fits, tall}
+use Rattle.rules.specs.Value.{Value, Fits}
 use Rattle.rules.specs.ValueTable.{TableOf, Whole, tableValue, flat, pays}
 use Rattle.rules.specs.Grammar.{Row, Conforms, encodedRow}
 use Rattle.rules.specs.Walk.{Limits, Pos, Got, Refused}
@@ -20,7 +20,6 @@ use Rattle.rules.specs.Reading.{limits, rowAt, schemaOf, Accepts, skipRule, dec
 use Rattle.rules.specs.Writing.{encodeRule}
 use Rattle.rules.specs.declared.Settings.{Settings}
 use Rattle.rules.specs.declared.Refusal.{Refusal}
-use Rattle.rules.specs.declared.Checked.{Checked}
 use Rattle.rules.specs.declared.Checked.the-variants.{Accepted}
 use Rattle.rules.proofs.Rows.{outcome, lines, outcomes, rows-hold}
 use Rattle.blocks.proofs.Form.{formed}

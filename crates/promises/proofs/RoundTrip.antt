@@ -1,29 +1,27 @@
 -- Demand 3 on the rules of the whole calls: what is encoded, exactly when, and that it reads back.
 -- Assumes nothing.
-use Prim.Native.Nat.{ℕ, zero, suc, _+_, _-_, _*_, _/_, _≤_, _<_}
-use mathlib.Core.Path.{_≡_, refl, sym, ap, _∙_, subst}
+use Prim.Native.Nat.{ℕ, _+_, _-_, _/_, _≤_, _<_}
+use mathlib.Core.Path.{_≡_, refl, _∙_}
 use mathlib.Core.Bool.{Bool, true, false}
-use mathlib.Core.List.{List, [], _∷_, _++_}
-use mathlib.Core.Logic.{_↔_}
+use mathlib.Core.List.{List, _++_}
 use native.Mathlib.Omega.{arith}
 use borrow.Author.Tests.{leb-true, le-leb}
 use lib.Dec.{leb}
-use lib.ListN.{length, length-append}
+use lib.ListN.{length}
 use Rattle.rules.specs.Choice.{pick, _and_}
-use Rattle.rules.specs.Bytes.{le, Stands, over}
-use Rattle.rules.specs.Schema.{Schema, deep, Valid}
+use Rattle.rules.specs.Bytes.{le, over}
+use Rattle.rules.specs.Schema.{Schema}
 use Rattle.rules.specs.Block.{block, blockTree, Denotes}
-use Rattle.rules.specs.Format.{Format, tables, shortOk, encoderRules, encoderRule}
-use Rattle.rules.specs.Value.{Value, nothing, boolean, number, wide, blob, variant, repeated, tuple, Items, done, item, Values, none, more, Fits, Within, WithinI, WithinV, costs, recordsOf, payloadOf}
-use Rattle.rules.specs.ValueTable.{Whole, tableValue, TableOf, flat, pays}
-use Rattle.rules.specs.Grammar.{Row, TableRow, table-row, Conforms, encoded, encodedRow}
+use Rattle.rules.specs.Format.{Format, tables, encoderRules, encoderRule}
+use Rattle.rules.specs.Value.{Value, nothing, boolean, number, wide, blob, variant, repeated, tuple, Items, done, item, Values, none, more, Within, WithinI, WithinV, costs, recordsOf, payloadOf}
+use Rattle.rules.specs.ValueTable.{TableOf}
+use Rattle.rules.specs.Grammar.{Row, table-row, Conforms, encoded, encodedRow}
 use Rattle.rules.specs.Walk.{Limits, blobLimit, Pos, after}
 use Rattle.rules.specs.Reading.{settingsOk, limits, start, schemaOf, Accepts, extent, whenAccepted, Decoded, room, decodeRule}
 use Rattle.rules.specs.Writing.{Wrote, Put, writeRow, Encoded, unwritten, placed, encodeValue, encodeRule}
 use Rattle.rules.specs.declared.Settings.{Settings}
 use Rattle.rules.specs.declared.Refusal.{Refusal}
 use Rattle.rules.specs.declared.Checked.{Checked}
-use Rattle.rules.specs.declared.Extent.{Extent}
 use Rattle.rules.specs.declared.Read.{Read}
 use Rattle.rules.specs.declared.Written.{Written}
 use Rattle.blocks.proofs.Good.{GoodTable, encoder-accepts}
@@ -33,7 +31,7 @@ use Rattle.rows.proofs.Conform.{encoded-row}
 use Rattle.rules.proofs.Stands.{stands-seam}
 use Rattle.rows.proofs.Decoding.{Asked, decode-accepts, decodedRow}
 use Rattle.values.proofs.Flat.{accepted}
-use Rattle.values.proofs.Written.{FairRow, writes-row}
+use Rattle.values.proofs.Written.{writes-row}
 
 -- ---- encoding
 

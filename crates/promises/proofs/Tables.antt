@@ -4,7 +4,7 @@ use Prim.Native.Nat.{ℕ, _≤_, _<_}
 use mathlib.Core.Path.{_≡_, refl}
 use mathlib.Core.List.{List}
 use native.Mathlib.Omega.{arith}
-use Rattle.rules.specs.Format.{Format, formatRules, tables}
+use Rattle.rules.specs.Format.{Format, formatRules}
 use Rattle.rules.specs.Value.{Value, tall}
 use Rattle.rules.specs.ValueTable.{TableOf, flat, pays}
 use Rattle.rules.specs.Grammar.{TableRow, table-row}
@@ -12,7 +12,7 @@ use Rattle.rules.specs.Schema.{Schema, deep}
 use Rattle.rules.specs.Walk.{Limits, Pos}
 use Rattle.rules.specs.Reading.{schemaOf, Accepts}
 use Rattle.rules.specs.declared.Checked.the-variants.{Accepted}
-use Rattle.blocks.proofs.Tables.{TableSchema, table-schema}
+use Rattle.blocks.proofs.Tables.{table-schema}
 use Rattle.rows.proofs.Decoding.{accepts-conforms}
 use Rattle.values.proofs.Conform.{conforms-depth}
 

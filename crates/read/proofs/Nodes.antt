@@ -21,7 +21,7 @@ use Rattle.read.specs.Budget.{spent}
 use Rattle.read.specs.Fields.{keptOf}
 use Rattle.read.specs.Children.{shapeOf}
 use Rattle.read.specs.Skim.{standing, _>>=_, passed, stored, having, charged, counted, bytesOf, fixedOf, leafOf, Skimmer, valueOf, nodeOf, skim}
-use Rattle.read.specs.Ready.{Inside, Sound, Coded}
+use Rattle.read.specs.Ready.{Sound, Coded}
 use Rattle.read.specs.declared.budget.RowBudget.{RowBudget}
 use Rattle.read.specs.declared.budget.Charged.{Charged}
 use Rattle.read.specs.declared.budget.Charged.the-variants.{Left}
@@ -118,9 +118,6 @@ node-leaf sch inp rec i p h = value-leaf inp rec (getD sch (i * 16) 0) _ _ p h
 -- the form of a block is enough
 pub formed-sound : (s : List ℕ) (store : ℕ) → Formed s store → Sound s
 formed-sound s store f = record { codes = λ i h. f .codes i (omega arith); closed = blocks.closed s (f .order) }
-
-pub formed-root : (s : List ℕ) (store : ℕ) → Formed s store → Inside s 0
-formed-root s store f = omega (arith, f .order .size)
 
 -- a node with children, its record in the code's numbers
 module _ (s : List ℕ) (i code first count : ℕ) (k : Coded s i code) (a : first ≡ leAt s (i * 16 + 8) 4) (b : count ≡ leAt s (i * 16 + 12) 4) where

@@ -1,20 +1,17 @@
 -- A row's value conforms, and the canonical bytes of a value that conforms are a row of it.
 -- Assumes nothing.
-use Prim.Native.Nat.{ℕ, zero, suc, _+_, _-_, _^_, _≤_, _<_}
+use Prim.Native.Nat.{ℕ, zero, suc, _^_, _≤_, _<_}
 use mathlib.Core.Path.{_≡_, refl, sym, _∙_}
 use mathlib.Core.Bool.{Bool, true, false}
-use mathlib.Core.List.{List, [], _∷_, _++_}
-use mathlib.Core.Logic.{_⊎_, inl, inr, ⊎-elim}
+use mathlib.Core.List.{List, [], _∷_}
 use native.Mathlib.Omega.{arith}
 use borrow.Author.Tests.{leb-true}
 use lib.Dec.{leb}
 use lib.ListN.{length}
 use Rattle.rules.specs.Choice.{_and_, all}
 use Rattle.rules.specs.Wire.{Form, empty, truth, fixed, raw, sized, choice, series, fields, unknown, form, written, writtenIf, typeOf, typeIn, wireTypes, widthOf, endTag, maximum}
-use Rattle.rules.specs.declared.WireType.{WireType}
-use Rattle.rules.specs.declared.Known.the-variants.{Unknown}
-use Rattle.rules.proofs.Tests.{all-each}
-use Rattle.rules.specs.Schema.{Schema, node, Schemas, nil, cons, count, child, Allows, Valid, valid, ValidAll, no-schema, a-schema}
+use Rattle.rules.proofs.Codes.{every-form}
+use Rattle.rules.specs.Schema.{Schema, Schemas, nil, cons, count, child, Allows, Valid, valid, ValidAll, a-schema}
 use Rattle.rules.specs.Value.{Value, Items, Values, boolean, number, wide, Fits, FitsI, FitsV}
 use Rattle.rules.specs.ValueTable.{bit}
 use Rattle.rules.specs.Grammar.{Row, row, Body, a-nothing, a-false, a-true, a-number, a-wide, a-blob, a-variant, a-repeated, a-tuple, Pairs, end, pair, Fields, no-field, field, Conforms, conforms, Suits, s-nothing, s-boolean, s-number, s-wide, s-blob, s-variant, s-repeated, s-tuple, SuitI, s-done, s-item, SuitV, s-none, s-more, formOf, childrenOf, bytesV, bytesI, bytesF, encoded}
@@ -105,23 +102,9 @@ tagWidth (series w) = w
 tagWidth fields = 0
 tagWidth unknown = 0
 
-le-or-lt : (a b : ℕ) → (a ≤ b) ⊎ (b < a)
-le-or-lt zero b = inl (omega arith)
-le-or-lt (suc a) zero = inr (omega arith)
-le-or-lt (suc a) (suc b) = ⊎-elim (λ (p : a ≤ b). inl (omega arith)) (λ (p : b < a). inr (omega arith)) (le-or-lt a b)
-
-no-type : (ts : List WireType) (k : ℕ) → length ts ≤ k → typeIn ts k ≡ Unknown
-unfolding typeIn
-no-type [] k h = refl
-no-type (t ∷ ts) zero h = absurd (omega arith)
-no-type (t ∷ ts) (suc k) h = no-type ts k (omega arith)
-
 narrow : (k : ℕ) → tagWidth (form k) ≤ 2
 unfolding tagWidth all _and_ form written writtenIf typeOf typeIn wireTypes
-narrow k = ⊎-elim
-    (λ (h : 20 ≤ k). rw (no-type wireTypes k h) (omega arith))
-    (λ (h : k < 20). leb-true _ _ (all-each (λ i. leb (tagWidth (form i)) 2) 20 k refl h))
-    (le-or-lt 20 k)
+narrow k = leb-true _ _ (every-form (λ f i. leb (tagWidth f) 2) refl (λ i. refl) k)
 
 two-bytes : (t w : ℕ) → w ≤ 2 → t < 256 ^ w → t < 256 ^ 2
 two-bytes t zero l h = omega arith

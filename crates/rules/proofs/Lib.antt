@@ -4,3 +4,4 @@ pub mod Rows
 pub mod Orders
 pub mod Over
 pub mod Stands
+pub mod Codes

@@ -1,10 +1,10 @@
 -- 'Rows on both sides of each edge': document 01's table, computed on the rules of the whole calls. Flat bytes go in; number,
 -- place and carried values come out, and an accepted row is decoded and encoded again.
 -- Assumes nothing.
-use Prim.Native.Nat.{ℕ, zero, suc, _*_}
+use Prim.Native.Nat.{ℕ, _*_}
 use mathlib.Core.Path.{_≡_, refl}
 use mathlib.Core.List.{List, [], _∷_, _++_, map}
-use lib.ListN.{length, take, replicate}
+use lib.ListN.{take, replicate}
 use Rattle.rules.specs.Choice.{pick, _and_, all}
 use Rattle.rules.specs.Bytes.{le, leAt, part, over, order, isEqual, isLess}
 use Rattle.rules.specs.Wire.{form, written, writtenIf, typeOf, typeIn, wireTypes, widthOf, endTag, maximum}
@@ -18,9 +18,8 @@ use Rattle.rules.specs.Value.{tally, items, values, recordsOf, payloadOf
 use Rattle.rules.specs.ValueTable.{valueRecord, bit, pays, flat, _>>=_ as _parsed>>=_, kindOf, isRecord, scalarAt, itemsAt, valuesAt, nodeOf, valueAt, exactly, tableValue}
 use Rattle.rules.specs.Walk.{blobLimit, _>>=_, numberOf, bytesOf, charged, blobOf, childOf, pairsOf, fieldsOf, valueOf, walk}
 use Rattle.rules.specs.Reading.{settingsOk, limits, start, rootFrom, rowAt, extent, skipped, skipFrom, whenAccepted, skipRule, Decoded, room, filled, decodeFrom, decodeRule}
-use Rattle.rules.specs.Writing.{_>>=_ as _wrote>>=_, kindFor, fitting, tagged, write, writeRow, Encoded, placed, encodeValue, encodeRule}
+use Rattle.rules.specs.Writing.{_>>=_ as _wrote>>=_, kindFor, fitting, tagged, write, writeRow, placed, encodeValue, encodeRule}
 use Rattle.rules.specs.declared.Settings.{Settings}
-use Rattle.rules.specs.declared.Extent.{Extent}
 use Rattle.rules.specs.declared.Read.{Read}
 use Rattle.rules.specs.declared.Read.the-variants.{Row, End, Refused}
 use Rattle.rules.specs.declared.Written.{Written}

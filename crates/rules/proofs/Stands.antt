@@ -105,15 +105,9 @@ stands-seam xs (y ∷ ys) zs =
 pub stands-self : (xs : List ℕ) → Stands xs 0 xs
 stands-self xs = rw append-nil at (stands-seam [] xs [])
 
+pub part-whole : (xs : List ℕ) → part xs 0 (length xs) ≡ xs
+part-whole xs = stands-part xs 0 xs (stands-self xs)
+
 -- a list of the same length that stands at the start is the whole list
 pub stands-whole : (s xs : List ℕ) → Stands s 0 xs → length s ≡ length xs → s ≡ xs
-unfolding part
-stands-whole s xs h e = sym (itself s) ∙ rw (← e) at (stands-part s 0 xs h)
-  where
-    later : (at n y : ℕ) (ys : List ℕ) → part (y ∷ ys) (suc at) n ≡ part ys at n
-    later at zero y ys = refl
-    later at (suc n) y ys = let z : suc at + 1 ≡ suc (at + 1) = omega arith in rw (z, later (at + 1) n y ys)
-
-    itself : (ys : List ℕ) → part ys 0 (length ys) ≡ ys
-    itself [] = refl
-    itself (y ∷ ys) = ap (λ (t : List ℕ). y ∷ t) (later 0 (length ys) y ys ∙ itself ys)
+stands-whole s xs h e = sym (part-whole s) ∙ rw (← e) at (stands-part s 0 xs h)

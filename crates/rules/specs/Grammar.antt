@@ -1,13 +1,13 @@
 -- What a row IS: which bytes are a row of which value under which schema; which values conform; the canonical writing.
 -- No reader and no writer is named here.
 -- Assumes nothing: these are definitions.
-use Prim.Native.Nat.{ℕ, zero, suc, _+_, _-_, _^_, _≤_, _<_}
+use Prim.Native.Nat.{ℕ, _^_, _<_}
 use mathlib.Core.Path.{_≡_}
 use mathlib.Core.Bool.{Bool, true, false}
 use mathlib.Core.List.{List, [], _∷_, _++_}
 use lib.ListN.{length}
 use Rattle.rules.specs.Bytes.{le}
-use Rattle.rules.specs.Wire.{Form, empty, truth, fixed, raw, sized, choice, series, fields, unknown, form, widthOf, endTag}
+use Rattle.rules.specs.Wire.{Form, empty, truth, fixed, raw, sized, choice, series, fields, form, widthOf, endTag}
 use Rattle.rules.specs.Schema.{Name, Schema, node, Schemas, nil, cons, count, child}
 use Rattle.rules.specs.Value.{Value, nothing, boolean, number, wide, blob, variant, repeated, tuple, Items, done, item, Values, none, more}
 use Rattle.rules.specs.ValueTable.{bit}

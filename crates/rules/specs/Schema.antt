@@ -1,6 +1,6 @@
 -- Schemas as trees: their depth, and which of them the schema rules allow.
 -- Assumes nothing: these are definitions.
-use Prim.Native.Nat.{ℕ, zero, suc, _+_, _≤_, max}
+use Prim.Native.Nat.{ℕ, zero, suc, _≤_, max}
 use mathlib.Core.Path.{_≡_}
 use mathlib.Core.List.{List, [], _∷_}
 use Rattle.rules.specs.Wire.{form, maximum}

@@ -7,11 +7,11 @@ use mathlib.Core.List.{List, []}
 use native.Mathlib.Omega.{arith}
 use borrow.Author.Tests.{eqb-true}
 use lib.Dec.{eqb}
-use Rattle.rules.specs.Choice.{pick, _and_}
+use Rattle.rules.specs.Choice.{pick}
 use Rattle.rules.specs.Refusals.{_then_, inOrder}
 use Rattle.rules.specs.Bytes.{part}
 use Rattle.rules.specs.Block.{records}
-use Rattle.rules.specs.Format.{Format, referenceAt, entryAt, lookup, resolved, tableSchema, formsOk, inlineRule, rootOf, referenceRule, entryRule, rulesOrder}
+use Rattle.rules.specs.Format.{Format, referenceAt, entryAt, lookup, resolved, formsOk, inlineRule, rootOf, referenceRule, entryRule, rulesOrder}
 use Rattle.rules.specs.declared.Reference.{Reference}
 use Rattle.rules.specs.declared.Refusal.{Refusal}
 use Rattle.rules.specs.declared.Refusal.the-variants.{EmptyTableSchemas}
@@ -71,8 +71,3 @@ table-turn f t r e = let z : 0 + t ≡ t = omega arith in rw z e
 pub rules-is : (table names references registry : List ℕ) → rulesOrder (slices table names references registry) ≡ pick (eqb (records references) 0) (Refused EmptyTableSchemas) (entriesRule table registry then inOrder (referenceRule (slices table names references registry)) 0 (records references))
 unfolding rulesOrder entryRule
 rules-is table names references registry = refl
-
--- where a table's schema stands does not depend on the record table
-pub any-table : (table names references registry : List ℕ) (t : ℕ) → tableSchema (slices table names references registry) t ≡ tableSchema (slices [] names references registry) t
-unfolding tableSchema
-any-table table names references registry t = refl

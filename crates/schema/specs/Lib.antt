@@ -1,3 +1,1 @@
 pub mod Slices
-pub mod Usable
-pub mod Ready

@@ -7,14 +7,9 @@ use mathlib.Core.List.{List}
 use Rattle.rules.specs.Wire.{typeOf, codeOf, fixedWidth}
 use Rattle.rules.specs.Names.{parsed}
 use Rattle.rules.specs.Format.{Format, schemaAnswer, encoderRule, formatRule}
-use Rattle.rules.specs.Reading.{Decoded, skipRule, runRule, ranOf, decodeRule}
+use Rattle.rules.specs.Reading.{skipRule, runRule, ranOf, decodeRule}
 use Rattle.rules.specs.declared.WireType.{WireType}
-use Rattle.rules.specs.declared.Known.{Known}
-use Rattle.rules.specs.declared.Width.{Width}
 use Rattle.rules.specs.declared.Settings.{Settings}
-use Rattle.rules.specs.declared.Checked.{Checked}
-use Rattle.rules.specs.declared.Read.{Read}
-use Rattle.rules.specs.declared.Ran.{Ran}
 use Rattle.skiff.specs.declared.Answer.{Answer}
 use Rattle.skiff.specs.Answers.{ofRead, ofRan, leaves, returned, kept, settingsOf}
 

@@ -1,7 +1,7 @@
 -- An answer in numbers, by what was read or why a run stopped; and that its number is small.
 -- Assumes nothing.
 use Prim.Native.Nat.{ℕ, _<_}
-use mathlib.Core.Path.{_≡_, refl}
+use mathlib.Core.Path.{_≡_}
 use native.Mathlib.Omega.{arith}
 use Rattle.rules.specs.Refusals.{reportOf}
 use Rattle.rules.specs.declared.Report.{Report}

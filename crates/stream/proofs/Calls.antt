@@ -1,22 +1,21 @@
 -- The two calls, test by test.
 -- Assumes nothing.
-use Prim.Native.Nat.{ℕ, suc, _^_, _≤_, _<_}
-use mathlib.Core.Path.{_≡_, refl, sym, _∙_}
-use mathlib.Core.Bool.{Bool, true, false}
+use Prim.Native.Nat.{ℕ, suc, _≤_, _<_}
+use mathlib.Core.Path.{_≡_, sym, _∙_}
+use mathlib.Core.Bool.{true, false}
 use mathlib.Core.List.{List}
 use native.Mathlib.Omega.{arith}
 use borrow.Author.Tests.{le-leb, lt-leb, eq-eqb, ne-eqb, leb-true}
 use lib.ListN.{length}
 use Rattle.rules.specs.Choice.{pick, _and_}
 use Rattle.rules.specs.Format.{Format, formatRules}
-use Rattle.rules.specs.Reading.{settingsOk, limits, rowAt, skipped, skipFrom, whenAccepted, skipRule, runFrom, refusedRun, runRule, ranOf}
+use Rattle.rules.specs.Reading.{limits, rowAt, skipped, skipFrom, whenAccepted, skipRule, runFrom, refusedRun, runRule, ranOf}
 use Rattle.rules.specs.declared.Settings.{Settings}
 use Rattle.rules.specs.declared.Refusal.{Refusal}
 use Rattle.rules.specs.declared.Refusal.the-variants.{Setting}
 use Rattle.rules.specs.declared.Checked.{Checked}
 use Rattle.rules.specs.declared.Checked.the-variants.{Accepted, Refused}
 use Rattle.rules.specs.declared.Read.{Read}
-use Rattle.rules.specs.declared.Ran.{Ran}
 use Rattle.rules.proofs.Tests.{and-both}
 use Rattle.stream.specs.Rows.{boundsOk, Asked}
 

@@ -1,8 +1,7 @@
 -- A row of a checked format, step by step.
 -- Assumes nothing.
-use Prim.Native.Nat.{ℕ, _+_, _-_, _*_, _/_, _^_, _≤_, _<_}
+use Prim.Native.Nat.{ℕ, _+_, _-_, _*_, _≤_, _<_}
 use mathlib.Core.Path.{_≡_, refl, sym, _∙_, ap}
-use mathlib.Core.Bool.{Bool, true, false}
 use mathlib.Core.List.{List, []}
 use native.Mathlib.Omega.{arith}
 use borrow.Author.Tests.{le-leb, lt-leb}
@@ -11,20 +10,19 @@ use Rattle.rules.specs.Choice.{pick}
 use Rattle.rules.specs.Bytes.{leAt, Bytes}
 use Rattle.rules.specs.Schema.{Schema, TableRoot}
 use Rattle.rules.specs.Block.{nodeAt, records, block, Denotes, denotes}
-use Rattle.rules.specs.Format.{Format, tables, tableSchema}
+use Rattle.rules.specs.Format.{Format, tableSchema}
 use Rattle.rules.specs.Value.{Value}
 use Rattle.rules.specs.Walk as rule
 use Rattle.rules.specs.Walk.{Limits, Answer, Got, numberOf, walk, after, _>>=_}
-use Rattle.rules.specs.Reading.{limits, start, rootFrom, rowAt, extent, skipped}
+use Rattle.rules.specs.Reading.{start, rootFrom, rowAt, extent, skipped}
 use Rattle.rules.specs.declared.Settings.{Settings}
 use Rattle.rules.specs.declared.Refusal.{Refusal}
 use Rattle.rules.specs.declared.Refusal.the-variants.{Truncated, MissingTableSchema, UnknownRegistryReference}
 use Rattle.rules.specs.declared.Located.{Located}
 use Rattle.rules.specs.declared.Located.the-variants.{Block, NoTable, NoEntry}
-use Rattle.rules.specs.declared.Extent.{Extent}
 use Rattle.rules.specs.declared.Read.{Read}
 use Rattle.rules.specs.declared.Read.the-variants.{Row}
-use Rattle.blocks.proofs.Tables.{TableSchema, table-schema}
+use Rattle.blocks.proofs.Tables.{table-schema}
 use Rattle.rows.proofs.TableRows.{located}
 use Rattle.rows.proofs.Sound.{sound}
 use Rattle.schema.specs.Slices.{slices}

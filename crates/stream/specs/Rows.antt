@@ -1,6 +1,6 @@
 -- What the steps over a checked format ask and answer.
 -- Assumes nothing: these are definitions.
-use Prim.Native.Nat.{ℕ, _+_, _*_, _^_, _≤_, _<_}
+use Prim.Native.Nat.{ℕ, _+_, _^_, _≤_, _<_}
 use mathlib.Core.Path.{_≡_}
 use mathlib.Core.Bool.{Bool, true}
 use mathlib.Core.List.{List}
@@ -8,8 +8,7 @@ use lib.ListN.{length}
 use Rattle.rules.specs.Choice.{_and_}
 use Rattle.rules.specs.Block.{records, block}
 use Rattle.rules.specs.Format.{Format, shortOk, sizesOk, formatRules}
-use Rattle.rules.specs.Value.{Value}
-use Rattle.rules.specs.Walk.{Limits, Answer, Got, _>>=_, walk}
+use Rattle.rules.specs.Walk.{Limits, Got, _>>=_, walk}
 use Rattle.rules.specs.Reading.{settingsOk, start, skipped}
 use Rattle.rules.specs.declared.Settings.{Settings}
 use Rattle.rules.specs.declared.Refusal.the-variants.{Setting}

@@ -1,19 +1,15 @@
 -- What the form of a wire code says of the code.
 -- Assumes nothing.
-use Prim.Native.Nat.{ℕ, zero, suc, _≤_, _<_}
+use Prim.Native.Nat.{ℕ, _≤_, _<_}
 use mathlib.Core.Path.{_≡_, refl, sym, ap}
 use mathlib.Core.Bool.{Bool, true, false}
-use mathlib.Core.List.{List, [], _∷_}
-use native.Mathlib.Omega.{arith}
-use borrow.Author.Tests.{ltb-true, leb-true, eqb-true, ltb-false}
-use lib.ListN.{length}
+use borrow.Author.Tests.{ltb-true, leb-true, eqb-true}
 use lib.Dec.{ltb, leb, eqb}
 use Rattle.rules.specs.Choice.{pick, _and_, all}
 use Rattle.rules.specs.Wire.{Form, empty, truth, fixed, raw, sized, choice, series, fields, unknown, form, written, writtenIf, typeOf, typeIn, wireTypes, widthOf}
 use Rattle.rules.specs.Writing.{kindFor}
-use Rattle.rules.specs.declared.WireType.{WireType}
-use Rattle.rules.specs.declared.Known.the-variants.{Unknown}
-use Rattle.rules.proofs.Tests.{all-each, and-both}
+use Rattle.rules.proofs.Tests.{and-both}
+use Rattle.rules.proofs.Codes.{every-form}
 
 -- only code 0 has no bytes, only 1 is a truth value; numbers have at most eight bytes, tags two; scalars and blobs are codes below 15
 unfoldable codeOk : Form → ℕ → Bool
@@ -27,19 +23,9 @@ codeOk (series w) k = leb w 2
 codeOk fields k = true
 codeOk unknown k = true
 
-beyond : (ts : List WireType) (k : ℕ) → length ts ≤ k → typeIn ts k ≡ Unknown
-unfolding typeIn
-beyond [] k h = refl
-beyond (t ∷ ts) zero h = absurd (omega arith)
-beyond (t ∷ ts) (suc k) h = beyond ts k (omega arith)
-
 code-ok : (k : ℕ) → codeOk (form k) k ≡ true
 unfolding codeOk all form written writtenIf typeOf typeIn wireTypes _and_
-code-ok k = by (ltb k 20) refl
-  where
-    by : (b : Bool) → ltb k 20 ≡ b → codeOk (form k) k ≡ true
-    by true e = all-each (λ i. codeOk (form i) i) 20 k refl (ltb-true k 20 e)
-    by false e = rw (beyond wireTypes k (ltb-false k 20 e))
+code-ok k = every-form codeOk refl (λ i. refl) k
 
 -- only code 0 has no bytes
 pub empty-code : (k : ℕ) → form k ≡ empty → k ≡ 0

@@ -9,7 +9,7 @@ use Rattle.rules.specs.Bytes.{le}
 use Rattle.rules.specs.Wire.{Form, form, widthOf, endTag}
 use Rattle.rules.specs.Schema.{Schema, Schemas, nil, cons, count, child, deep, deeps}
 use Rattle.rules.specs.Value.{Value, Items, Values, tall, tallI, tallV, tally, tallyI, tallyV, recordsOf, payloadOf}
-use Rattle.rules.specs.Grammar.{Conforms, conforms, Suits, s-nothing, s-boolean, s-number, s-wide, s-blob, s-variant, s-repeated, s-tuple, SuitI, s-done, s-item, SuitV, s-none, s-more, formOf, childrenOf, bytesV, bytesI, bytesF, encoded, encodedRow}
+use Rattle.rules.specs.Grammar.{Conforms, conforms, Suits, s-nothing, s-boolean, s-number, s-wide, s-blob, s-variant, s-repeated, s-tuple, SuitI, s-done, s-item, SuitV, s-none, s-more, formOf, childrenOf, bytesV, bytesI, bytesF, encoded}
 use Rattle.rules.proofs.Stands.{length-le}
 use Rattle.values.proofs.Codes.{fixed-code, choice-width, series-width}
 
@@ -73,8 +73,3 @@ mutual
   values-length s-none = omega arith
   values-length (s-more {s = s} {ss = ss} {v = v} {vs = vs} c h) =
       rw (length-append (encoded s v) (bytesF vs ss)) (omega (arith, encoded-length c, values-length h))
-
--- A row has at most its value's payload bytes and ten bytes for each record.
-pub row-length : {s : Schema} {v : Value} → Conforms s v → length (encodedRow s v) ≤ payloadOf v + 10 * recordsOf v
-unfolding encodedRow
-row-length {s} {v} c = rw (length-append (le 2 0) (encoded s v), length-le 2 0) (encoded-length c)

@@ -1,7 +1,7 @@
 -- The table of a value is accepted by the rule, with that value. So rule and relation say the same, and a table has one value.
 -- Assumes nothing.
 use Prim.Native.Nat.{ℕ, zero, suc, _+_, _*_, _/_, _%_, _^_, _≤_, _<_}
-use mathlib.Core.Path.{_≡_, refl, sym, ap, _∙_}
+use mathlib.Core.Path.{_≡_, refl, ap, _∙_}
 use mathlib.Core.Bool.{Bool, true, false}
 use mathlib.Core.List.{List}
 use mathlib.Core.Logic.{_↔_}
@@ -198,10 +198,6 @@ tables r y v short = (is-table r y v (ends r y), accepted r y v short)
 -- Two slices are the table of one value only.
 pub one-value : (r y : List ℕ) (v w : Value) → length r ≤ 4294967295 → TableOf v r y → TableOf w r y → v ≡ w
 one-value r y v w short a b = let e = accepted r y v short a in let f = accepted r y w short b in cc
-
--- A value has one table.
-pub one-table : (r s y z : List ℕ) (v : Value) → TableOf v r y → TableOf v s z → (r ≡ s) × (y ≡ z)
-one-table r s y z v a b = (a .rows ∙ sym (b .rows), a .payload ∙ sym (b .payload))
 
 -- The rule refuses just what is no value's table.
 pub no-table : (r y : List ℕ) → length r ≤ 4294967295 → (tableValue r y ≡ Broken) ↔ ((v : Value) → TableOf v r y → ⊥)

@@ -72,11 +72,7 @@ module _ (sch : List ℕ) (lim : Limits) (whole : Value) (i₀ r₀ : ℕ) where
         then (write-says v j r (w v j r firstV)) (λ x h.
         then (writeV-says vs (j + 1) (r + recordsOf v) (λ u k n h. w u k n (laterV h))) (λ y k. puts tt))
 
--- A refusal of the writing rule says what the walk met, where, and why that is not written.
-pub honest : (sch : List ℕ) (lim : Limits) (v : Value) (i r : ℕ) (x : Refusal) → write sch lim v i r ≡ Refused x → Reason sch lim v i r x
-honest sch lim v i r x e = refused (rw e at (write-says sch lim v i r v i r itself))
-
--- The same for a row.
+-- A refusal of a row says what the walk met, where, and why that is not written.
 pub honest-row : (sch : List ℕ) (lim : Limits) (v : Value) (x : Refusal) → writeRow sch lim v ≡ Refused x → Reason sch lim v 0 0 x
 unfolding writeRow Any
 honest-row sch lim v x e = refused (rw e at all)

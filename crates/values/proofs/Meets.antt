@@ -1,12 +1,12 @@
 -- What the writing walk meets: values at schema nodes, with their records. They lie in the block, and in the value's table.
 -- Assumes nothing.
-use Prim.Native.Nat.{ℕ, _+_, _*_, _^_, _≤_, _<_}
+use Prim.Native.Nat.{ℕ, _+_, _*_, _^_, _<_}
 use mathlib.Core.Path.{_≡_, refl}
 use mathlib.Core.List.{List, _++_}
 use native.Mathlib.Omega.{arith}
 use lib.ListN.{length, getD}
 use Rattle.rules.specs.Bytes.{Stands}
-use Rattle.rules.specs.Block.{nodeAt, records, Closed}
+use Rattle.rules.specs.Block.{nodeAt, records}
 use Rattle.rules.specs.Value.{Value, nothing, boolean, number, wide, blob, variant, repeated, tuple, Items, item, Values, more, items, values, recordsOf, payloadOf, Fits, FitsI, FitsV}
 use Rattle.rules.specs.ValueTable.{valueRecord, bit, flat, flatI, flatV}
 use Rattle.rules.proofs.Stands.{stands-in, stands-left, stands-right}
@@ -66,22 +66,7 @@ unfolding FitsV
 hasV-fits firstV f = f .0
 hasV-fits (laterV h) f = hasV-fits h (f .1)
 
--- ---- the node lies in the block
-
-has-node : {vs : Values} {v : Value} {j r k n : ℕ} → HasV vs j r v k n → k < j + values vs
-unfolding values
-has-node firstV = omega arith
-has-node (laterV h) = omega (arith, has-node h)
-
 module _ (sch : List ℕ) (whole : Value) (i₀ r₀ : ℕ) where
-  -- Each node that the walk comes to lies in a block whose children lie in it.
-  pub met-node : {v : Value} {j n : ℕ} → Closed sch → i₀ * 16 + 16 ≤ length sch → Met sch whole i₀ r₀ v j n → j * 16 + 16 ≤ length sch
-  unfolding Closed
-  met-node c l itself = l
-  met-node c l (in-variant {i = i} m t e f) = omega (arith, c i (met-node c l m))
-  met-node c l (in-repeated {i = i} m h t e) = omega (arith, c i (met-node c l m))
-  met-node c l (in-tuple {i = i} m h e) = omega (arith, c i (met-node c l m), has-node h)
-
   -- each value that is met can be held in a table, if the whole can
   pub met-fits : {v : Value} {j n : ℕ} → Fits whole → Met sch whole i₀ r₀ v j n → Fits v
   unfolding Fits

@@ -199,36 +199,24 @@ module _ (table store : List ℕ) where
   abbrev pub ends : Spot
   ends = record { at = records table; from = length store }
 
-  -- what a whole table means, and where its reading ends
-  record Exact (v : Value) (q : Spot) : Type 0 where
-    is-table : TableOf v table store
-    at-ends : q ≡ ends
-
-  exact : Holds Exact (tableValue table store)
+  exact : Holds (λ v q. TableOf v table store) (tableValue table store)
   unfolding tableValue
   exact = when _ (λ e. by (valueAt table store 64 0 (record { at = 0; from = 0 })) (reads 64 0 (record { at = 0; from = 0 }) start) (eqb-true _ _ e))
     where
-      by : (x : Parsed Value) → Holds (Reads 64 0 (record { at = 0; from = 0 })) x → length table % 16 ≡ 0 → Holds Exact (exactly table store x)
+      by : (x : Parsed Value) → Holds (Reads 64 0 (record { at = 0; from = 0 })) x → length table % 16 ≡ 0 → Holds (λ v q. TableOf v table store) (exactly table store x)
       by (Whole v q) h m = unfold exactly in when _ (λ t.
           let a = held h in
           let b = and-both _ _ t in
           let i : q .at ≡ records table = eqb-true _ _ (b .0) in
           let f : q .from ≡ length store = eqb-true _ _ (b .1) in
           holds (record {
-            is-table = record {
-              rows = stands-whole table (flat v 0 0) (a .span .rows-stand) (omega (arith, a .span .at-end));
-              payload = stands-whole store (pays v) (a .span .payload-stands) (omega (arith, a .span .from-end));
-              fits = a .fits;
-              depth = a .depth;
-            };
-            at-ends = λ j. record { at = i j; from = f j };
+            rows = stands-whole table (flat v 0 0) (a .span .rows-stand) (omega (arith, a .span .at-end));
+            payload = stands-whole store (pays v) (a .span .payload-stands) (omega (arith, a .span .from-end));
+            fits = a .fits;
+            depth = a .depth;
           }))
       by Broken h m = unfold exactly in fails
 
 -- What the rule accepts is the table of the value that it answers.
 pub is-table : (r y : List ℕ) (v : Value) (q : Spot) → tableValue r y ≡ Whole v q → TableOf v r y
-is-table r y v q e = held (rw e at (exact r y)) .is-table
-
--- It answers the end of the records and the end of the store.
-pub at-ends : (r y : List ℕ) (v : Value) (q : Spot) → tableValue r y ≡ Whole v q → q ≡ ends r y
-at-ends r y v q e = held (rw e at (exact r y)) .at-ends
+is-table r y v q e = held (rw e at (exact r y))

@@ -1,13 +1,12 @@
 -- How long the table of a value is: sixteen bytes for each record, and its payload bytes.
 -- Assumes nothing.
 use Prim.Native.Nat.{ℕ, _+_, _*_, _≤_}
-use mathlib.Core.Path.{_≡_, refl, ap, _∙_}
+use mathlib.Core.Path.{_≡_, refl, _∙_}
 use mathlib.Core.List.{List, _++_}
 use native.Mathlib.Omega.{arith}
 use lib.ListN.{length, length-append}
-use Rattle.rules.specs.Block.{records}
 use Rattle.rules.specs.Value.{Value, nothing, boolean, number, wide, blob, variant, repeated, tuple, Items, done, item, Values, none, more, items, values, tally, tallyI, tallyV, recordsOf, payloadOf}
-use Rattle.rules.specs.ValueTable.{valueRecord, bit, pays, paysI, paysV, flat, flatI, flatV, TableOf}
+use Rattle.rules.specs.ValueTable.{valueRecord, bit, pays, paysI, paysV, flat, flatI, flatV}
 use Rattle.values.proofs.Records.{length-record}
 
 mutual
@@ -93,10 +92,3 @@ pub values-within : (vs : Values) → values vs ≤ tallyV vs 1 0 0
 unfolding values tallyV recordsOf
 values-within none = omega arith
 values-within (more v vs) = omega (arith, one-record v, values-within vs)
-
--- The table of a value has a record for each of its nodes, and its payload bytes.
-pub counts : (r y : List ℕ) (v : Value) → TableOf v r y → (recordsOf v ≡ records r) × (payloadOf v ≡ length y)
-counts r y v t =
-    let l : length r ≡ 16 * recordsOf v = ap length (t .rows) ∙ length-flat v 0 0 in
-    let m : length y ≡ payloadOf v = ap length (t .payload) ∙ length-pays v in
-    (omega arith, omega arith)

@@ -1,7 +1,7 @@
 -- What the writing rule accepts conforms, is within the limit, and is written canonically; and it accepts all such values.
 -- Assumes nothing.
 use Prim.Native.Nat.{ℕ, zero, suc, _+_, _<_}
-use mathlib.Core.Path.{_≡_, refl, sym, ap, _∙_}
+use mathlib.Core.Path.{_≡_, refl, sym, ap}
 use mathlib.Core.List.{List, _++_}
 use mathlib.Core.Logic.{_↔_}
 use native.Mathlib.Omega.{arith}
@@ -11,12 +11,11 @@ use Rattle.rules.specs.Choice.{pick}
 use Rattle.rules.specs.Bytes.{le}
 use Rattle.rules.specs.Wire.{Form, form, widthOf}
 use Rattle.rules.specs.Schema.{Name, Schema, node, Schemas, count, child}
-use Rattle.rules.specs.Block.{nodeAt, Ordered, blockTree, Denotes, denotes, DenoteAll, no-node, a-node}
+use Rattle.rules.specs.Block.{nodeAt, Denotes, denotes, DenoteAll, no-node, a-node}
 use Rattle.rules.specs.Value.{Value, nothing, boolean, number, wide, blob, variant, repeated, tuple, Items, done, item, Values, none, more, values, recordsOf, Within, WithinI, WithinV, Fits, FitsI, FitsV}
 use Rattle.rules.specs.Grammar.{Conforms, conforms, Suits, s-nothing, s-boolean, s-number, s-wide, s-blob, s-variant, s-repeated, s-tuple, SuitI, s-done, s-item, SuitV, s-none, s-more, formOf, childrenOf, bytesV, bytesI, bytesF, encoded, encodedRow}
 use Rattle.rules.specs.Walk.{Limits, blobLimit}
 use Rattle.rules.specs.Writing.{Wrote, Put, _>>=_, kindFor, fitting, tagged, write, writeI, writeV, writeRow}
-use Rattle.blocks.proofs.Levels.{block-denotes}
 use Rattle.values.proofs.Says.{Any, Says, puts, refuses, then, either, put, fits, tags}
 use Rattle.values.proofs.Codes.{empty-code, truth-code, plain, scalar-taken, nothing-taken, boolean-taken, variant-taken, repeated-taken, tuple-taken}
 
@@ -154,24 +153,16 @@ module _ (sch store : List ℕ) (lim : Limits) where
     values-all s-none j r a n = refl
     values-all (s-more {v = v} c h) j r (a-node d a) n = rw (write-all c j r d (n .0), values-all h (j + 1) (r + recordsOf v) a (n .1))
 
--- The rule writes b just if the value conforms, its blobs are within the limit, and b is its canonical writing.
-pub writes : (sch store : List ℕ) (lim : Limits) (v : Value) (i r : ℕ) (s : Schema) (b : List ℕ) → Denotes sch store i s → Fits v → (write sch lim v i r ≡ Put b) ↔ Fair lim s v b
-writes sch store lim v i r s b d h = (λ e. put (rw e at (write-fair sch store lim v i r d h)), λ f. write-all sch store lim (f .conforms) i r d (f .within) ∙ ap Put (sym (f .bytes)))
-
 -- v conforms to the schema of a row, each blob is within the limit of its kind, and b is the canonical row
 pub record FairRow (lim : Limits) (s : Schema) (v : Value) (b : List ℕ) : Type 0 where
   pub conforms : Conforms s v
   pub within : Within (blobLimit lim) v
   pub bytes : b ≡ encodedRow s v
 
--- The same for a row: b is table tag 0 and the root's canonical writing.
+-- The rule writes b just if the value conforms, its blobs are within the limit, and b is table tag 0 and the value's canonical writing.
 pub writes-row : (sch store : List ℕ) (lim : Limits) (v : Value) (s : Schema) (b : List ℕ) → Denotes sch store 0 s → Fits v → (writeRow sch lim v ≡ Put b) ↔ FairRow lim s v b
 unfolding writeRow encodedRow _>>=_
 writes-row sch store lim v s b d h = (λ e. put (rw e at good), λ f. rw (write-all sch store lim (f .conforms) 0 0 d (f .within), f .bytes))
   where
     good : Says (FairRow lim s v) Any (writeRow sch lim v)
     good = then (write-fair sch store lim v 0 0 d h) (λ x y. puts (record { conforms = y .conforms; within = y .within; bytes = ap (λ (z : List ℕ). le 2 0 ++ z) (y .bytes) }))
-
--- For a block in level order, that schema is the block's tree.
-pub writes-block : (sch store : List ℕ) (lim : Limits) (v : Value) (b : List ℕ) → Ordered sch → Fits v → (writeRow sch lim v ≡ Put b) ↔ FairRow lim (blockTree sch store) v b
-writes-block sch store lim v b o h = writes-row sch store lim v (blockTree sch store) b (block-denotes sch store o) h

@@ -19,6 +19,7 @@ use Rattle.rules.specs.declared.Width.the-variants.{Fixed, Variable}
 use Rattle.rules.specs.declared.Children.{Children}
 use Rattle.rules.specs.declared.Children.the-variants.{None, UpTo, Any}
 use Rattle.rules.proofs.Tests.{and-both}
+use Rattle.rules.proofs.Codes.{no-type}
 use Rattle.rules.specs.declared.Known.the-variants.{Wire, Unknown}
 
 pub type-in : (ts : List WireType) (d : WireType) (code : ℕ) → code < length ts → Wire (getD ts code d) ≡ typeIn ts code
@@ -28,10 +29,7 @@ type-in (t ∷ ts) d zero h = refl
 type-in (t ∷ ts) d (suc code) h = type-in ts d code (omega arith)
 
 pub type-out : (ts : List WireType) (code : ℕ) → length ts ≤ code → Unknown ≡ typeIn ts code
-unfolding typeIn
-type-out [] code h = refl
-type-out (t ∷ ts) zero h = absurd (omega arith)
-type-out (t ∷ ts) (suc code) h = type-out ts code (omega arith)
+type-out ts code h = sym (no-type ts code h)
 
 -- a wire type's code names it
 pub type-of-code : (t : WireType) → typeOf (codeOf t) ≡ Wire t

@@ -1,14 +1,13 @@
 -- Laws of little-endian fields, over the width.
 -- Assumes nothing.
 use Prim.Native.Nat.{ℕ, zero, suc, _+_, _-_, _*_, _^_, _≤_, _<_}
-use mathlib.Core.Path.{_≡_, refl}
+use mathlib.Core.Path.{_≡_}
 use mathlib.Core.List.{List}
 use native.Mathlib.Omega.{arith}
 use native.Mathlib.Nat.{le-of-suc-le-suc, not-suc-le-zero}
 use native.Mathlib.Numerals.{add-one}
 use lib.ListN.{getD}
 use Rattle.rules.specs.Bytes.{Bytes, leAt}
-use Rattle.wire.proofs.Parts.{same-first, same-rest}
 
 one≤ : (n : ℕ) → 0 < 256 ^ n
 one≤ zero = omega arith
@@ -41,12 +40,6 @@ le-step s at w k h l =
     let p : w - (k - 1) ≡ (w - k) + 1 = omega arith in
     let q : (at + (k - 1)) + 1 ≡ at + k = omega arith in
     rw (p, le-more s (at + (k - 1)) (w - k), q) (omega arith)
-
--- the same bytes hold the same number
-pub le-same : (s t : List ℕ) (at to w : ℕ) → ((i : ℕ) → i < w → getD s (at + i) 0 ≡ getD t (to + i) 0) → leAt s at w ≡ leAt t to w
-unfolding leAt
-le-same s t at to zero h = refl
-le-same s t at to (suc w) h = rw (same-first s t at to w h, le-same s t (at + 1) (to + 1) w (same-rest s t at to w h))
 
 -- as the readers of two and of four bytes add them up
 pub le-two : (s : List ℕ) (at : ℕ) → leAt s at 2 ≡ getD s at 0 + 256 * getD s (at + 1) 0

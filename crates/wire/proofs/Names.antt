@@ -21,7 +21,8 @@ use Rattle.rules.specs.declared.Known.the-variants.{Wire, Unknown}
 use Rattle.wire.specs.declared.Span.{Span}
 use Rattle.wire.specs.Table.{joined, names, Spells}
 use Rattle.rules.proofs.Tests.{and-both, all-each}
-use Rattle.wire.proofs.Parts.{part-length, part-at, part-whole}
+use Rattle.rules.proofs.Stands.{length-part, part-whole}
+use Rattle.wire.proofs.Parts.{part-at}
 use Rattle.rules.proofs.Orders.{is-equal, order-equal}
 use Rattle.wire.proofs.Codes.{type-of-code, code-of-type, code-below, type-at}
 
@@ -63,7 +64,7 @@ pub named : (name : List ℕ) (t : WireType) (s : Span) (o : Order) → Spells s
 named name t s o h e = rw (← h .spelled, e, part-whole name)
 
 pub spells-len : (s : Span) (name : List ℕ) → Spells s name → s .len ≡ length name
-spells-len s name h = rw (← h .spelled) (sym (part-length names (s .start) (s .len)))
+spells-len s name h = rw (← h .spelled) (sym (length-part names (s .start) (s .len)))
 
 pub spells-at : (s : Span) (name : List ℕ) (k : ℕ) → Spells s name → k < s .len → getD names (s .start + k) 0 ≡ getD name k 0
 spells-at s name k h l = rw (← h .spelled) (sym (part-at names (s .start) (s .len) k l))

@@ -1,60 +1,18 @@
 -- Laws of the part of a list that starts at a place.
 -- Assumes nothing.
 use Prim.Native.Nat.{ℕ, zero, suc, _+_, _-_, _≤_, _<_}
-use mathlib.Core.Path.{_≡_, refl, ap, _∙_}
+use mathlib.Core.Path.{_≡_}
 use mathlib.Core.List.{List, [], _∷_}
 use native.Mathlib.Omega.{arith}
 use native.Mathlib.Nat.{sub-zero}
-use native.Mathlib.Numerals.{add-one}
-use lib.ListN.{length, getD, take, drop}
-use lib.Seq.{drop-cons}
+use lib.ListN.{getD}
 use Rattle.rules.specs.Bytes.{part}
-
-pub part-length : (s : List ℕ) (at n : ℕ) → length (part s at n) ≡ n
-unfolding part
-part-length s at zero = refl
-part-length s at (suc n) = ap suc (part-length s (at + 1) n)
 
 pub part-at : (s : List ℕ) (at n k : ℕ) → k < n → getD (part s at n) k 0 ≡ getD s (at + k) 0
 unfolding part
 part-at s at zero k h = absurd (omega arith)
 part-at s at (suc n) zero h = let e : at + 0 ≡ at = omega arith in rw e
 part-at s at (suc n) (suc k) h = let e : at + suc k ≡ (at + 1) + k = omega arith in rw e (part-at s (at + 1) n k (omega arith))
-
--- two lists that agree on n + 1 places agree on the first, and on the n after it
-module _ (s t : List ℕ) (at to n : ℕ) (h : (i : ℕ) → i < suc n → getD s (at + i) 0 ≡ getD t (to + i) 0) where
-  pub same-first : getD s at 0 ≡ getD t to 0
-  same-first =
-      let e : at + 0 ≡ at = omega arith in
-      let f : to + 0 ≡ to = omega arith in
-      rw (e, f) at (h 0 (omega arith))
-
-  pub same-rest : (i : ℕ) → i < n → getD s ((at + 1) + i) 0 ≡ getD t ((to + 1) + i) 0
-  same-rest i l =
-      let e : at + (i + 1) ≡ (at + 1) + i = omega arith in
-      let f : to + (i + 1) ≡ (to + 1) + i = omega arith in
-      rw (e, f) at (h (i + 1) (omega arith))
-
-pub part-same : (s t : List ℕ) (at to n : ℕ) → ((i : ℕ) → i < n → getD s (at + i) 0 ≡ getD t (to + i) 0) → part s at n ≡ part t to n
-unfolding part
-part-same s t at to zero h = refl
-part-same s t at to (suc n) h = rw (same-first s t at to n h, part-same s t (at + 1) (to + 1) n (same-rest s t at to n h))
-
-pub part-take : (s : List ℕ) (at n : ℕ) → at + n ≤ length s → part s at n ≡ take n (drop at s)
-unfolding part
-part-take s at zero h = refl
-part-take s at (suc n) h = rw (drop-cons s at 0 (omega arith), part-take s (at + 1) n (omega arith), add-one)
-
--- a place in the tail of a list
-part-tail : (x : ℕ) (s : List ℕ) (at n : ℕ) → part (x ∷ s) (at + 1) n ≡ part s at n
-unfolding part
-part-tail x s at zero = refl
-part-tail x s at (suc n) = let e : at + 1 ≡ suc at = omega arith in rw (part-tail x s (at + 1) n, e)
-
-pub part-whole : (s : List ℕ) → part s 0 (length s) ≡ s
-unfolding part
-part-whole [] = refl
-part-whole (x ∷ s) = ap (λ (t : List ℕ). x ∷ t) (part-tail x s 0 (length s) ∙ part-whole s)
 
 -- ---- what a loop that counts up has left: before the first turn, at each turn, at the end
 

@@ -15,66 +15,43 @@ pub const ANSWER_BYTES: usize = 88;
 /// What one value record takes of the slice that it is written to.
 pub const VALUE_RECORD_BYTES: usize = 16;
 
-extern "C" {
-    fn skiff_skip(
-        node_charge: u64,
-        max_blob_bytes: u64,
-        max_row_bytes: u64,
-        records: *const u8,
-        records_len: usize,
-        names: *const u8,
-        names_len: usize,
-        references: *const u8,
-        references_len: usize,
-        registry: *const u8,
-        registry_len: usize,
-        input: *const u8,
-        input_len: usize,
-        position: u64,
-        answer: *mut u8,
-        answer_len: usize,
-    ) -> u32;
+/// The C functions: all of them are given settings, format and input first and the answer slice last, so
+/// that only what stands between is written for each.
+macro_rules! reading_calls {
+    ($(fn $name:ident($($own:ident: $type:ty),*);)+) => {
+        extern "C" {
+            $(fn $name(
+                node_charge: u64,
+                max_blob_bytes: u64,
+                max_row_bytes: u64,
+                records: *const u8,
+                records_len: usize,
+                names: *const u8,
+                names_len: usize,
+                references: *const u8,
+                references_len: usize,
+                registry: *const u8,
+                registry_len: usize,
+                input: *const u8,
+                input_len: usize,
+                $($own: $type,)*
+                answer: *mut u8,
+                answer_len: usize,
+            ) -> u32;)+
+        }
+    };
+}
 
+reading_calls! {
+    fn skiff_skip(position: u64);
     fn skiff_decode(
-        node_charge: u64,
-        max_blob_bytes: u64,
-        max_row_bytes: u64,
-        records: *const u8,
-        records_len: usize,
-        names: *const u8,
-        names_len: usize,
-        references: *const u8,
-        references_len: usize,
-        registry: *const u8,
-        registry_len: usize,
-        input: *const u8,
-        input_len: usize,
         position: u64,
         value_records: *mut u8,
         value_records_len: usize,
         payload: *mut u8,
-        payload_len: usize,
-        answer: *mut u8,
-        answer_len: usize,
-    ) -> u32;
-
-    fn skiff_run(
-        node_charge: u64,
-        max_blob_bytes: u64,
-        max_row_bytes: u64,
-        records: *const u8,
-        records_len: usize,
-        names: *const u8,
-        names_len: usize,
-        references: *const u8,
-        references_len: usize,
-        registry: *const u8,
-        registry_len: usize,
-        input: *const u8,
-        input_len: usize,
-        answer: *mut u8,
-        answer_len: usize,
-    ) -> u32;
+        payload_len: usize
+    );
+    fn skiff_run();
 }
 
 /// The three settings as numbers, unchecked: the library checks them.
