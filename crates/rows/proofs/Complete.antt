@@ -1,21 +1,19 @@
 -- Every row of the grammar within the limits is accepted by the walk.
 -- Assumes nothing.
-use Prim.Native.Nat.{ℕ, zero, suc, _+_, _-_, _*_, _^_, _%_, _≤_, _<_, max}
-use mathlib.Core.Path.{_≡_, refl, sym, ap, _∙_}
-use mathlib.Core.Bool.{Bool, true, false}
-use mathlib.Core.List.{List, [], _∷_, _++_}
+use Prim.Native.Nat.{ℕ, zero, suc, _+_, _-_, _^_, _≤_, _<_}
+use mathlib.Core.Path.{_≡_, refl, ap, _∙_}
+use mathlib.Core.List.{List, [], _++_}
 use native.Mathlib.Omega.{arith}
 use borrow.Author.Tests.{lt-ltb, le-leb, eq-eqb, ne-eqb}
-use lib.Dec.{ltb, leb, eqb}
 use lib.ListN.{length}
 use Rattle.rules.specs.Choice.{pick}
 use Rattle.rules.specs.Bytes.{le, leAt, part, Stands}
 use Rattle.rules.specs.Wire.{Form, empty, truth, fixed, raw, sized, choice, series, fields, unknown, form, writtenIf, typeOf, typeIn, wireTypes, endTag}
 use Rattle.rules.specs.Schema.{Schema, Schemas, count, child}
 use Rattle.rules.specs.Block.{nodeAt, treesFrom, treeAt}
-use Rattle.rules.specs.Value.{Value, nothing, boolean, number, wide, blob, variant, repeated, tuple, Items, done, item, Values, none, more, tally, Within, costs, recordsOf, payloadOf}
+use Rattle.rules.specs.Value.{Value, nothing, boolean, number, wide, blob, variant, repeated, tuple, Items, item, Values, none, tally, costs, recordsOf, payloadOf}
 use Rattle.rules.specs.Grammar.{Row, row, Body, a-nothing, a-false, a-true, a-number, a-wide, a-blob, a-variant, a-repeated, a-tuple, Pairs, end, pair, Fields, no-field, field}
-use Rattle.rules.specs.Walk.{Limits, blobLimit, Pos, Answer, Got, Refused, _>>=_, numberOf, bytesOf, charged, blobOf, Walker, childOf, pairsOf, fieldsOf, valueOf, walk, after}
+use Rattle.rules.specs.Walk.{Limits, blobLimit, Pos, Got, _>>=_, numberOf, bytesOf, charged, blobOf, Walker, childOf, pairsOf, fieldsOf, valueOf, walk, after}
 use Rattle.rules.specs.declared.Node.{Node}
 use Rattle.rules.proofs.Stands.{length-le, stands-in, stands-le, stands-part}
 use Rattle.rows.proofs.Only.{end-fits}

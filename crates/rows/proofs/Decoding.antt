@@ -1,24 +1,23 @@
 -- Decode answers as skip does but for room, leaves its slices alone unless it accepts, and leaves the table of a conforming value.
 -- Assumes nothing.
-use Prim.Native.Nat.{ℕ, zero, suc, _+_, _-_, _*_, _/_, _≤_, _<_}
-use mathlib.Core.Path.{_≡_, refl, sym, ap, _∙_, subst}
+use Prim.Native.Nat.{ℕ, _+_, _/_, _≤_, _<_}
+use mathlib.Core.Path.{_≡_, refl, ap, _∙_}
 use mathlib.Core.Bool.{Bool, true, false}
-use mathlib.Core.List.{List, [], _∷_, _++_}
+use mathlib.Core.List.{List}
 use native.Mathlib.Omega.{arith}
-use borrow.Author.Tests.{leb-true, leb-false, le-leb, eqb-true, eqb-false, ne-eqb}
+use borrow.Author.Tests.{leb-true, leb-false, le-leb, ne-eqb}
 use lib.Dec.{leb, eqb}
 use lib.ListN.{length, length-append}
 use Rattle.rules.specs.Choice.{pick, _and_}
-use Rattle.rules.specs.Bytes.{le, Bytes, Stands, over}
+use Rattle.rules.specs.Bytes.{le, Bytes, over}
 use Rattle.rules.specs.Schema.{Schema}
 use Rattle.rules.specs.Format.{Format, tables, sizesOk, shortOk, formatRules}
-use Rattle.rules.specs.Value.{Value, Fits, Within, costs, recordsOf, payloadOf}
+use Rattle.rules.specs.Value.{Value, Fits, recordsOf, payloadOf}
 use Rattle.rules.specs.ValueTable.{flat, pays}
 use Rattle.rules.specs.Grammar.{TableRow, table-row, Conforms}
-use Rattle.rules.specs.Walk.{Limits, blobLimit, Pos, Answer, Got, after}
+use Rattle.rules.specs.Walk.{Limits, Pos, Answer, Got, after}
 use Rattle.rules.specs.Reading.{settingsOk, limits, start, rowAt, schemaOf, Accepts, extent, skipped, skipFrom, whenAccepted, skipRule, Decoded, room, untouched, filled, decodeFrom, decodeRule}
 use Rattle.rules.specs.declared.Settings.{Settings}
-use Rattle.rules.specs.declared.Refusal.{Refusal}
 use Rattle.rules.specs.declared.Refusal.the-variants.{Setting, NoNodeRoom, NoPayloadRoom}
 use Rattle.rules.specs.declared.Checked.{Checked}
 use Rattle.rules.specs.declared.Extent.{Extent}

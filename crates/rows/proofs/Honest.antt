@@ -1,17 +1,16 @@
 -- Under a valid schema the walk refuses with 12, 13, 14 or 17 alone, and what it says is so.
 -- Assumes nothing.
-use Prim.Native.Nat.{ℕ, zero, suc, _+_, _-_, _*_, _^_, _≤_, _<_}
-use mathlib.Core.Path.{_≡_, refl, sym, ap, _∙_}
+use Prim.Native.Nat.{ℕ, zero, suc, _+_, _-_, _≤_, _<_}
+use mathlib.Core.Path.{_≡_, refl}
 use mathlib.Core.Bool.{Bool, true, false}
-use mathlib.Core.List.{List, [], _∷_, _++_}
+use mathlib.Core.List.{List}
 use native.Mathlib.Omega.{arith}
 use borrow.Author.Tests.{leb-true, leb-false, ltb-true, ltb-false, eqb-false}
-use lib.Dec.{ltb, leb, eqb}
 use lib.ListN.{length}
 use Rattle.rules.specs.Choice.{pick}
 use Rattle.rules.specs.Bytes.{leAt, Bytes}
 use Rattle.rules.specs.Wire.{Form, empty, truth, fixed, raw, sized, choice, series, fields, unknown, form, writtenIf, typeOf, typeIn, wireTypes, endTag, fixedForm, maximum}
-use Rattle.rules.specs.Schema.{Schema, Schemas, count, child, Allows, Valid, valid, ValidAll, no-schema, a-schema}
+use Rattle.rules.specs.Schema.{Schema, count, Allows, Valid, valid, ValidAll, a-schema}
 use Rattle.rules.specs.Block.{nodeAt, treesFrom, treeAt}
 use Rattle.rules.specs.Value.{Value}
 use Rattle.rules.specs.Grammar.{Row}
@@ -23,8 +22,8 @@ use Rattle.rules.specs.declared.Refusal.the-variants.{Truncated, RowTooLarge, B
 use Rattle.rules.proofs.Stands.{length-le, stands-le}
 use Rattle.rows.proofs.Conform.{valid-child}
 use Rattle.rows.proofs.Complete.{tag-wide}
-use Rattle.rows.proofs.Span.{tollV, Span, in-end, count-from, child-from}
-use Rattle.rows.proofs.Sound.{Holds, holds, fails, Passed, below, number-holds, bytes-holds, charge-holds, child-holds, pairs-holds, fields-holds, walk-holds}
+use Rattle.rows.proofs.Span.{tollV, in-end, count-from, child-from}
+use Rattle.rows.proofs.Sound.{Holds, holds, Passed, below, number-holds, bytes-holds, charge-holds, child-holds, pairs-holds, fields-holds, walk-holds}
 
 -- the contexts of 12, and the width of the field that each names
 pub data Context : ℕ → ℕ → Type 0 where

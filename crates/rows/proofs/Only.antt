@@ -1,14 +1,14 @@
 -- At one place of the input stands at most one row of a schema.
 -- Assumes nothing.
-use Prim.Native.Nat.{ℕ, zero, suc, _+_, _-_, _^_, _≤_, _<_}
+use Prim.Native.Nat.{ℕ, zero, suc, _+_, _^_, _<_}
 use mathlib.Core.Path.{_≡_, refl, sym, ap, _∙_}
-use mathlib.Core.List.{List, [], _∷_, _++_}
+use mathlib.Core.List.{List, [], _++_}
 use native.Mathlib.Omega.{arith}
 use lib.ListN.{length, length-append}
 use Rattle.rules.specs.Bytes.{le, leAt, Stands}
-use Rattle.rules.specs.Wire.{Form, form, endTag}
+use Rattle.rules.specs.Wire.{Form, endTag}
 use Rattle.rules.specs.Schema.{Schema, Schemas, child}
-use Rattle.rules.specs.Value.{Value, number, wide, blob, variant, repeated, tuple, Items, item, Values, more}
+use Rattle.rules.specs.Value.{Value, number, wide, blob, repeated, tuple, Items, Values}
 use Rattle.rules.specs.Grammar.{Row, row, Body, a-nothing, a-false, a-true, a-number, a-wide, a-blob, a-variant, a-repeated, a-tuple, Pairs, end, pair, Fields, no-field, field}
 use Rattle.rules.proofs.Stands.{length-le, stands-left, stands-right, stands-le, stands-part, stands-seam}
 

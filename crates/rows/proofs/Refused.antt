@@ -1,7 +1,7 @@
 -- Why a row is refused, under a format that is accepted: 11, or one of 12, 13, 14 and 17, and what it says is so.
 -- Assumes nothing.
-use Prim.Native.Nat.{ℕ, _+_, _^_, _≤_, _<_}
-use mathlib.Core.Path.{_≡_, refl, sym, _∙_}
+use Prim.Native.Nat.{ℕ, _≤_}
+use mathlib.Core.Path.{_≡_, refl}
 use mathlib.Core.Bool.{Bool, true, false}
 use mathlib.Core.List.{List}
 use native.Mathlib.Omega.{arith}
@@ -14,16 +14,16 @@ use Rattle.rules.specs.Schema.{Valid}
 use Rattle.rules.specs.Block.{block, treeAt}
 use Rattle.rules.specs.Format.{Format, tables, tableSchema, resolved, referenceAt, formatRules}
 use Rattle.rules.specs.Value.{Value}
-use Rattle.rules.specs.Walk.{Limits, Pos, Answer, Got, Refused, _>>=_, numberOf, walk}
+use Rattle.rules.specs.Walk.{Limits, Pos, Answer, Got, Refused, _>>=_}
 use Rattle.rules.specs.Reading.{start, rootFrom, rowAt, schemaIn, schemaOf}
 use Rattle.rules.specs.declared.Located.the-variants.{Block}
 use Rattle.rules.specs.declared.Refusal.{Refusal}
 use Rattle.rules.specs.declared.Refusal.the-variants.{MissingTableSchema}
 use Rattle.rules.specs.declared.Checked.the-variants.{Accepted}
-use Rattle.blocks.proofs.Tables.{TableSchema, table-schema}
+use Rattle.blocks.proofs.Tables.{table-schema}
 use Rattle.rules.proofs.Stands.{stands-le}
-use Rattle.rows.proofs.Span.{free, Span, in-end}
-use Rattle.rows.proofs.Sound.{Holds, holds, fails, number-holds, walk-holds}
+use Rattle.rows.proofs.Span.{in-end}
+use Rattle.rows.proofs.Sound.{Holds, holds, number-holds, walk-holds}
 use Rattle.rows.proofs.Honest.{Reason, Tells, accepts, tells, walk-tells, number-tells, of-table}
 
 pub data RowReason (f : Format) (inp : List ℕ) (lim : Limits) (at : ℕ) : Refusal → Type 0 where

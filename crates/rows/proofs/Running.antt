@@ -1,11 +1,10 @@
 -- The run is skip iterated: its rows are those that skip accepts one after another, and it stops where skip does.
 -- Assumes nothing.
 use Prim.Native.Nat.{ℕ, zero, suc, _+_, _-_, _≤_, _<_}
-use mathlib.Core.Path.{_≡_, refl, sym, ap, _∙_, subst}
+use mathlib.Core.Path.{_≡_, refl, ap}
 use mathlib.Core.Bool.{Bool, true, false}
 use mathlib.Core.List.{List, [], _∷_}
 use native.Mathlib.Omega.{arith}
-use borrow.Author.Tests.{eqb-true, eqb-false}
 use lib.Dec.{eqb}
 use lib.ListN.{length}
 use Rattle.rules.specs.Choice.{pick}
@@ -13,7 +12,7 @@ use Rattle.rules.specs.Bytes.{Bytes}
 use Rattle.rules.specs.Format.{Format}
 use Rattle.rules.specs.Value.{Value}
 use Rattle.rules.specs.Walk.{Limits, Pos, Answer, Got, after}
-use Rattle.rules.specs.Reading.{start, rowAt, Accepts, extent, skipped, skipFrom, RowSpan, Run, goOn, runFrom, byteCount}
+use Rattle.rules.specs.Reading.{start, rowAt, extent, skipped, skipFrom, RowSpan, goOn, runFrom}
 use Rattle.rules.specs.declared.Refusal.{Refusal}
 use Rattle.rules.specs.declared.Extent.{Extent}
 use Rattle.rules.specs.declared.Read.{Read}

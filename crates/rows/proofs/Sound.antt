@@ -1,19 +1,19 @@
 -- What the walk accepts is a row of the grammar, within the limits.
 -- Assumes nothing.
-use Prim.Native.Nat.{ℕ, zero, suc, _+_, _-_, _*_, _^_, _%_, _≤_, _<_, max}
-use mathlib.Core.Path.{_≡_, refl, sym, ap, _∙_}
+use Prim.Native.Nat.{ℕ, zero, suc, _+_, _-_, _^_, _%_, _≤_, _<_}
+use mathlib.Core.Path.{_≡_, refl, sym, ap}
 use mathlib.Core.Bool.{Bool, true, false}
-use mathlib.Core.List.{List, [], _∷_, _++_}
+use mathlib.Core.List.{List, [], _++_}
 use native.Mathlib.Omega.{arith}
 use borrow.Author.Tests.{lt-ltb, leb-true, ltb-true, eqb-true, eqb-false}
-use lib.Dec.{ltb, leb, eqb}
+use lib.Dec.{ltb}
 use lib.ListN.{length}
 use Rattle.rules.specs.Choice.{pick}
-use Rattle.rules.specs.Bytes.{le, leAt, part, Stands, Bytes}
+use Rattle.rules.specs.Bytes.{le, leAt, Stands, Bytes}
 use Rattle.rules.specs.Wire.{Form, empty, truth, fixed, raw, sized, choice, series, fields, unknown, form, endTag}
 use Rattle.rules.specs.Schema.{Name, Schema, node, Schemas, count, child}
 use Rattle.rules.specs.Block.{nodeAt, treesFrom, treeAt}
-use Rattle.rules.specs.Value.{Value, nothing, boolean, number, wide, blob, variant, repeated, tuple, Items, done, item, Values, none, more, tally, Within, costs, recordsOf, payloadOf}
+use Rattle.rules.specs.Value.{Value, boolean, number, wide, blob, variant, repeated, tuple, item, more, tally, Within, costs, recordsOf, payloadOf}
 use Rattle.rules.specs.Grammar.{Row, row, Body, a-nothing, a-false, a-true, a-number, a-wide, a-blob, a-variant, a-repeated, a-tuple, Pairs, end, pair, Fields, no-field, field}
 use Rattle.rules.specs.Walk.{Limits, blobLimit, Pos, Answer, Got, Refused, _>>=_, numberOf, bytesOf, charged, blobOf, Walker, childOf, pairsOf, fieldsOf, valueOf, walk, after}
 use Rattle.rules.specs.declared.Node.{Node}

@@ -1,12 +1,12 @@
 -- Steps of the walk: from one position to another, over some bytes, at some toll.
 -- Assumes nothing.
-use Prim.Native.Nat.{ℕ, zero, suc, _+_, _-_, _*_, _≤_, _<_, max}
+use Prim.Native.Nat.{ℕ, zero, suc, _+_, _-_, _≤_, _<_, max}
 use mathlib.Core.Path.{_≡_, refl, ap, _∙_}
-use mathlib.Core.List.{List, [], _∷_, _++_}
+use mathlib.Core.List.{List, _++_}
 use native.Mathlib.Omega.{arith}
 use lib.ListN.{length, length-append}
 use Rattle.rules.specs.Bytes.{Stands}
-use Rattle.rules.specs.Schema.{Schema, Schemas, cons, count, child}
+use Rattle.rules.specs.Schema.{Schema, count, child}
 use Rattle.rules.specs.Block.{treesFrom}
 use Rattle.rules.specs.Value.{Value, nothing, boolean, number, wide, blob, variant, repeated, tuple, Items, done, item, Values, none, more, tally, tallyI, tallyV, Within, WithinI, WithinV}
 use Rattle.rules.specs.Walk.{Limits, blobLimit, Pos}
