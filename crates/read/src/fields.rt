@@ -44,6 +44,17 @@ pub fn read_tag(code: u8, input: &[u8], at: usize) -> Number
     Number::Is(u16_at(input, at), at + 2)
 }
 
+// The number of a row's table.
+pub fn read_table(input: &[u8], at: usize) -> Number
+    requires { ⌜ at ≤ length (now input) ⌝ }
+    ensures { λ r. ⌜ r ≡ numberAt (now (input .entry)) 2 17 at ⌝ }
+{
+    if input.len() - at < 2 {
+        return truncated(17, at);
+    }
+    Number::Is(u16_at(input, at), at + 2)
+}
+
 // A blob's length.
 pub fn read_length(input: &[u8], at: usize) -> Number
     requires { ⌜ at ≤ length (now input) ⌝ }
