@@ -64,7 +64,9 @@ pub fn validate(s: &[u8], base: u64, depth: u64, i: u64) -> Checked
     let children = n.children;
     let mut k = 0;
     while k < children {
-        let below = validate(s, base, depth - 1, first + k);
+        // Copied for the call: so it is the copy that has to lie in memory.
+        let block = s;
+        let below = validate(block, base, depth - 1, first + k);
         let Checked::Accepted = below else {
             return below;
         };

@@ -80,7 +80,11 @@ pub fn format_rules(table: &[u8], names: &[u8], references: &[u8], registry: &[u
     if !depths_ok(table, references, registry) {
         return Checked::Refused(Refusal::TooDeep);
     }
-    rules_order(table, names, references, registry)
+    let order = rules_order(table, names, references, registry);
+    let Checked::Accepted = order else {
+        return order;
+    };
+    Checked::Accepted
 }
 
 pub fn check_format(table: &[u8], names: &[u8], references: &[u8], registry: &[u8]) -> Checked

@@ -2,9 +2,11 @@
 -- Assumes nothing.
 use Prim.Native.Nat.{ℕ, _+_, _-_, _*_, _≤_, _<_}
 use mathlib.Core.Path.{_≡_, refl, sym, _∙_, ap}
+use mathlib.Core.Bool.{Bool, true, false}
 use mathlib.Core.List.{List, []}
 use native.Mathlib.Omega.{arith}
-use borrow.Author.Tests.{le-leb, lt-leb}
+use borrow.Author.Tests.{le-leb, leb-true}
+use lib.Dec.{leb}
 use lib.ListN.{length, take, drop}
 use Rattle.rules.specs.Choice.{pick}
 use Rattle.rules.specs.Bytes.{leAt, Bytes}
@@ -26,6 +28,10 @@ use Rattle.blocks.proofs.Tables.{table-schema}
 use Rattle.rows.proofs.TableRows.{located}
 use Rattle.rows.proofs.Sound.{sound}
 use Rattle.schema.specs.Slices.{slices}
+use Rattle.read.specs.Fields.{numberAt}
+use Rattle.read.specs.declared.fields.Number.{Number}
+use Rattle.read.specs.declared.fields.Number.the-variants.{Is}
+use Rattle.read.specs.declared.fields.Number.the-variants as number-is
 use Rattle.read.specs.declared.walk.Pos.{Pos}
 use Rattle.read.specs.declared.walk.Skipped.{Skipped}
 use Rattle.read.specs.declared.walk.Skipped.the-variants.{At, Refused}
@@ -33,10 +39,29 @@ use Rattle.read.specs.Skim.{placed, skimmed}
 use Rattle.read.proofs.Nodes.{formed-sound}
 use Rattle.stream.specs.Rows.{Asked, Walkable, rowIn, noValue}
 
--- the stream ends in the table tag
-pub row-cut : (f : Format) (inp : List ℕ) (lim : Limits) (at : ℕ) → length inp - at < 2 → Read.Refused (Truncated 17 at) ≡ skipped at (rowAt f inp lim at)
-unfolding rowAt numberOf start pick _>>=_ skipped
-row-cut f inp lim at h = rw (lt-leb 2 (length inp - at) h)
+-- the table tag, read or cut
+module _ (inp : List ℕ) (at : ℕ) (x : Number) (is : x ≡ numberAt inp 2 17 at) where
+  pub table-read : (t next : ℕ) → x ≡ Is t next → (2 ≤ length inp - at) × (t ≡ leAt inp at 2)
+  unfolding numberAt pick
+  table-read t next e = by (leb 2 (length inp - at)) refl (sym is ∙ e)
+    where
+      by : (b : Bool) → leb 2 (length inp - at) ≡ b → pick b (Is (leAt inp at 2) (at + 2)) (number-is.Refused (Truncated 17 at)) ≡ Is t next → (2 ≤ length inp - at) × (t ≡ leAt inp at 2)
+      by true l y = (leb-true 2 (length inp - at) l, cc)
+      by false l y = absurd (omega (arith, differ y))
+        where
+          differ : number-is.Refused (Truncated 17 at) ≡ Is t next → _≡_ {A = ℕ} 0 1
+          differ y = cc
+
+  pub table-cut : (f : Format) (lim : Limits) (r : Refusal) → x ≡ number-is.Refused r → Read.Refused r ≡ skipped at (rowAt f inp lim at)
+  unfolding numberAt rowAt numberOf start pick _>>=_ skipped
+  table-cut f lim r e = by (leb 2 (length inp - at)) refl (sym is ∙ e)
+    where
+      by : (b : Bool) → leb 2 (length inp - at) ≡ b → pick b (Is (leAt inp at 2) (at + 2)) (number-is.Refused (Truncated 17 at)) ≡ number-is.Refused r → Read.Refused r ≡ skipped at (rowAt f inp lim at)
+      by true l y = absurd (omega (arith, differ y))
+        where
+          differ : Is (leAt inp at 2) (at + 2) ≡ number-is.Refused r → _≡_ {A = ℕ} 0 1
+          differ y = cc
+      by false l y = let z : r ≡ Truncated 17 at = cc in rw (l, z)
 
 -- where a table's schema stands does not depend on the record table
 pub schema-any : (table names references registry : List ℕ) (t : ℕ) → tableSchema (slices [] names references registry) t ≡ tableSchema (slices table names references registry) t

@@ -5,6 +5,8 @@ ghost use lib.ListN.{length};
 ghost use Rattle.rules.specs.Reading.{limits, rowAt, skipped, runFrom, ranOf};
 ghost use Rattle.schema.specs.Slices.{slices};
 ghost use Rattle.stream.specs.Rows.{Asked, Walkable, rowIn, noValue};
+use read::fields::Number;
+use read::fields::read_table;
 use read::walk::Skipped;
 use read::walk::skip_root;
 use rules::Extent;
@@ -15,7 +17,6 @@ use rules::Refusal;
 use rules::Settings;
 use rules::Stop;
 use schema::format::table_schema;
-use wire::u16_at;
 
 fn no_value(value: Skipped) -> Read
     ensures { λ r. ⌜ r ≡ noValue value ⌝ }
@@ -23,6 +24,15 @@ fn no_value(value: Skipped) -> Read
     match value {
         Skipped::Refused(why) => Read::Refused(why),
         Skipped::At(_) => Read::Refused(Refusal::Setting),
+    }
+}
+
+fn no_table(tag: Number) -> Read
+    ensures { λ r. ⌜ ((why : Refusal) → tag ≡ Number.Refused why → r ≡ Read.Refused why) ⌝ }
+{
+    match tag {
+        Number::Refused(why) => Read::Refused(why),
+        Number::Is(_, _) => Read::Refused(Refusal::Setting),
     }
 }
 
@@ -67,13 +77,10 @@ pub fn row_at(
     requires { ⌜ Asked (slices (now table) (now names) (now references) (now registry)) (now input) settings × (at ≤ length (now input)) ⌝ }
     ensures { λ r. ⌜ r ≡ skipped at (rowAt (slices (now (table .entry)) (now (names .entry)) (now (references .entry)) (now (registry .entry))) (now (input .entry)) (limits settings) at) ⌝ }
 {
-    if input.len() - at < 2 {
-        return Read::Refused(Refusal::Truncated {
-            context: 17,
-            place: at as u64,
-        });
-    }
-    let tag = u16_at(input, at);
+    let number = read_table(input, at);
+    let Number::Is(tag, _) = number else {
+        return no_table(number);
+    };
     let found = table_schema(names, references, registry, tag);
     match found {
         Located::Block(first, count) => row_of(table, input, at, tag, first, count, settings),

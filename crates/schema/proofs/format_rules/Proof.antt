@@ -1,8 +1,9 @@
 use borrow.Author.Needs.{needs}
-use mathlib.Core.Path.{sym, _∙_}
+use mathlib.Core.Path.{_≡_, sym, _∙_}
 use borrow.Author.Tests.{not-true, not-false}
 use Rattle.rules.specs.Choice.{pick}
 use Rattle.rules.specs.Format.{formatRules}
+use Rattle.schema.specs.Slices.{slices}
 use Rattle.schema.proofs.Given.{depths-any}
 use Rattle.schema.proofs.Tables.{forms}
 use Rattle.schema.proofs.format_rules.Statement.{statement}
@@ -25,9 +26,22 @@ returns-2 c = rw (← c .before .before .before .forms-ok .ensures, not-false (c
 rules-order-requires : tie.Need-rules-order-requires
 rules-order-requires c κs = forms _ _ _ _ (sym (c .before .before .before .forms-ok .ensures) ∙ not-false _ (c .before .before .if1 .left))
 
-returns-3 : tie.Need-returns-3
+-- where forms and depths stand the answer is that of the rules
+rest : (c : tie.After-rules-order) → let a = c .before .before .before .before .before .before .before .before .before .args in c .rules-order .result ≡ formatRules (slices (a .table .now) (a .names .now) (a .references .now) (a .registry .now))
 unfolding formatRules pick
-returns-3 c = rw (← c .before .before .before .before .forms-ok .ensures, not-false (c .before .before .before .before .forms-ok .result) (c .before .before .before .if1 .left), depths-any, ← c .before .before .depths-ok .ensures, not-false (c .before .before .depths-ok .result) (c .before .if2 .left)) (c .rules-order .ensures)
+rest c = rw (← c .before .before .before .before .forms-ok .ensures, not-false (c .before .before .before .before .forms-ok .result) (c .before .before .before .if1 .left), depths-any, ← c .before .before .depths-ok .ensures, not-false (c .before .before .depths-ok .result) (c .before .if2 .left)) (c .rules-order .ensures)
+
+enum-told : tie.Need-enum-told
+enum-told c = search needs
+
+enum-told-2 : tie.Need-enum-told-2
+enum-told-2 c = search needs
+
+returns-3 : tie.Need-returns-3
+returns-3 c = rest (c .before .before)
+
+returns-4 : tie.Need-returns-4
+returns-4 c = sym (c .enum-told .given .1) ∙ rest (c .before .before)
 
 pub format-rules-spec : {M : Type 1} → statement M
 format-rules-spec =
@@ -38,4 +52,7 @@ format-rules-spec =
     depths-ok-requires
     returns-2
     rules-order-requires
-    returns-3)
+    enum-told
+    enum-told-2
+    returns-3
+    returns-4)
