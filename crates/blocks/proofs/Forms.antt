@@ -51,7 +51,7 @@ module _ (f : Format) where
     pub references : (t : ℕ) → t < tables f → FormedReference (referenceAt (f .references) t)
 
 module _ (f : Format) where
-  ascending-iff : (n : ℕ) → ((j : ℕ) → j < n → ascending f j ≡ true) ↔ Ascending (entryName (f .names) (f .registry)) n
+  pub ascending-iff : (n : ℕ) → ((j : ℕ) → j < n → ascending f j ≡ true) ↔ Ascending (entryName (f .names) (f .registry)) n
   unfolding ascending isLess
   ascending-iff n = (λ h j l. rw add-one (is-less _ (rw add-one at (h (j + 1) l))), test)
     where

@@ -29,7 +29,8 @@ less-later name n a (suc d) i h =
     let e : (i + suc d) + 1 ≡ i + suc (suc d) = omega arith in
     rw (← e) (order-less-trans _ _ _ (less-later name n a d i (omega arith)) (a (i + suc d) (omega arith)))
 
-less-self : (xs : List ℕ) → order xs xs ≡ Less → ⊥
+-- Nothing is less than itself.
+pub less-self : (xs : List ℕ) → order xs xs ≡ Less → ⊥
 less-self xs e = let z : _≡_ {A = ℕ} 0 1 = cc (order-same xs) in omega arith
 
 -- Of ascending names an earlier one is less than a later one.

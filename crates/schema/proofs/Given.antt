@@ -17,6 +17,7 @@ use Rattle.rules.specs.declared.Reference.{Reference}
 use Rattle.rules.specs.declared.Order.{Order}
 use Rattle.rules.specs.declared.Checked.{Checked}
 use Rattle.rules.proofs.Tests.{and-both, all-each}
+use Rattle.blocks.proofs.Forms.{ascending-iff}
 use Rattle.flat.specs.Sound.{Sound}
 use Rattle.schema.specs.Slices.{slices, entriesOk, referencesOk, entriesShallow, referencesShallow, EntriesSound, InlineSound, EntriesNamed, ReferencesNamed}
 use Rattle.flat.proofs.Parts.{form-sound}
@@ -82,8 +83,15 @@ module _ (table names registry : List ℕ) where
       let p = and-both _ _ (and-both _ _ e .0) in
       (leb-true _ _ (p .0), form-sound _ _ _ _ (p .1))
 
+  entry-ascends : (j : ℕ) → entryOk (slices table names [] registry) j ≡ true → ascending (slices table names [] registry) j ≡ true
+  unfolding entryOk
+  entry-ascends j e = and-both _ _ e .1
+
   pub entries-named : entriesOk table names registry ≡ true → EntriesNamed names registry
-  entries-named e j h = entry-gives j (all-each _ _ j e h) .0
+  entries-named e = record {
+    inside = λ j h. entry-gives j (all-each _ _ j e h) .0;
+    ascend = ascending-iff (slices table names [] registry) (records registry) .0 (λ j h. entry-ascends j (all-each _ _ j e h));
+  }
 
   pub entries-sound : entriesOk table names registry ≡ true → EntriesSound table registry
   entries-sound e j h = entry-gives j (all-each _ _ j e h) .1

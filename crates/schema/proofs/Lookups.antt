@@ -1,37 +1,64 @@
--- A lookup in the registry, entry by entry; what it finds is an entry.
+-- A lookup in the registry by halves; what it finds is an entry.
 -- Assumes nothing.
-use Prim.Native.Nat.{ℕ, zero, suc, _+_, _-_, _≤_, _<_}
-use mathlib.Core.Path.{_≡_}
+use Prim.Native.Nat.{ℕ, zero, suc, _+_, _≤_, _<_}
+use mathlib.Core.Path.{_≡_, refl, sym, _∙_}
 use mathlib.Core.Bool.{Bool, true, false}
 use mathlib.Core.List.{List}
 use native.Mathlib.Omega.{arith}
+use native.Mathlib.Decide.{decLt}
 use Rattle.rules.specs.Choice.{pick}
 use Rattle.rules.specs.Bytes.{part, order, isEqual}
+use Rattle.rules.specs.Block.{records}
 use Rattle.rules.specs.Format.{entryAt, entryName, lookup}
 use Rattle.rules.specs.declared.Entry.{Entry}
 use Rattle.rules.specs.declared.Order.{Order}
+use Rattle.rules.specs.declared.Order.the-variants.{Less, Equal, Greater}
 use Rattle.rules.specs.declared.Located.the-variants.{Block, NoEntry}
+use Rattle.rules.proofs.Orders.{order-equal, order-same, order-less-trans}
+use Rattle.blocks.proofs.Lookup.{less-self, less-than, lookup-finds, lookup-misses}
+use Rattle.schema.specs.Slices.{EntriesNamed}
 
-module _ (names registry name : List ℕ) (j n : ℕ) where
-  -- an entry with the name, one without, and no entry
-  module _ (h : j < n) (e : Entry) (is : e ≡ entryAt registry j) (o : Order) (says : o ≡ order (part names (e .start) (e .len)) name) where
-    step : lookup names registry name j (n - j) ≡ pick (isEqual o) (Block (e .first) (e .count)) (lookup names registry name (j + 1) (n - (j + 1)))
-    unfolding lookup entryName
-    step =
-        let k : n - j ≡ suc (n - (j + 1)) = omega arith in
-        rw (k, ← is, ← says)
+-- an entry with the name lies from `low` on and below `high`
+abbrev pub Between : List ℕ → List ℕ → List ℕ → ℕ → ℕ → Type 0
+Between names registry name low high = (i : ℕ) → i < records registry → entryName names registry i ≡ name → (low ≤ i) × (i < high)
 
-    pub lookup-hit : (b : Bool) → b ≡ isEqual o → b ≡ true → Block (e .first) (e .count) ≡ lookup names registry name j (n - j)
-    unfolding pick
-    lookup-hit b q t = rw (step, ← q, t)
+pub between-all : (names registry name : List ℕ) (n : ℕ) → n ≡ records registry → Between names registry name 0 n
+between-all names registry name n e i h q = (omega arith, rw e h)
 
-    pub lookup-miss : (b : Bool) → b ≡ isEqual o → b ≡ false → lookup names registry name (j + 1) (n - (j + 1)) ≡ lookup names registry name j (n - j)
-    unfolding pick
-    lookup-miss b q t = rw (step, ← q, t)
+pub between-none : (names registry name : List ℕ) (low high : ℕ) → Between names registry name low high → high ≤ low → NoEntry ≡ lookup names registry name 0 (records registry)
+between-none names registry name low high b h = sym (lookup-misses names registry name .1 (λ i l q. let c = b i l q in omega (arith, c)))
 
-  pub lookup-end : n ≤ j → NoEntry ≡ lookup names registry name j (n - j)
-  unfolding lookup
-  lookup-end h = let k : n - j ≡ 0 = omega arith in rw k
+-- what the name of one entry tells
+module _ (names registry name : List ℕ) (ok : EntriesNamed names registry) (k : ℕ) (h : k < records registry) (e : Entry) (is : e ≡ entryAt registry k) (o : Order) (says : o ≡ order (part names (e .start) (e .len)) name) where
+  told : order (entryName names registry k) name ≡ o
+  unfolding entryName
+  told = rw (← is, says)
+
+  pub lookup-hit : o ≡ Equal → Block (e .first) (e .count) ≡ lookup names registry name 0 (records registry)
+  lookup-hit q = sym (lookup-finds names registry name (ok .ascend) (e .first) (e .count) .1 (record { entry = k; below = h; same = order-equal _ _ (told ∙ q); first-is = rw is; count-is = rw is }))
+
+  -- a lesser name rules out all before it, a greater one all after it, and each itself
+  pub between-later : (low high : ℕ) → Between names registry name low high → o ≡ Less → Between names registry name (k + 1) high
+  between-later low high b q i l same = (by (decLt k i), b i l same .1)
+    where
+      by : Dec (k < i) → k + 1 ≤ i
+      by (yes m) = omega arith
+      by (no m) = absurd (less-self name (from (decLt i k)))
+        where
+          from : Dec (i < k) → order name name ≡ Less
+          from (yes n) = order-less-trans _ _ _ (rw same at (less-than (entryName names registry) (records registry) (ok .ascend) i k n h)) (told ∙ q)
+          from (no n) = let z : i ≡ k = omega arith in rw (rw z at same) at (told ∙ q)
+
+  pub between-earlier : (low high : ℕ) → Between names registry name low high → o ≡ Greater → Between names registry name low k
+  between-earlier low high b q i l same = (b i l same .0, by (decLt i k))
+    where
+      by : Dec (i < k) → i < k
+      by (yes m) = m
+      by (no m) = absurd (from (decLt k i))
+        where
+          from : Dec (k < i) → ⊥
+          from (yes n) = let z : _≡_ {A = ℕ} 0 1 = cc (rw same at (less-than (entryName names registry) (records registry) (ok .ascend) k i n l), told, q) in omega arith
+          from (no n) = let y : i ≡ k = omega arith in let z : _≡_ {A = ℕ} 0 1 = cc (order-same name, rw (rw y at same) at told, q) in omega arith
 
 -- what holds of each entry's block holds of the one that is found
 pub lookup-in : (names registry name : List ℕ) (P : ℕ → ℕ → Type 0) (j n first count : ℕ) → ((k : ℕ) → k < j + n → P (entryAt registry k .first) (entryAt registry k .count)) → lookup names registry name j n ≡ Block first count → P first count

@@ -8,9 +8,11 @@ use mathlib.Core.List.{List, []}
 use lib.ListN.{length}
 use Rattle.rules.specs.Choice.{all}
 use Rattle.rules.specs.Refusals.{inOrder}
+use Rattle.rules.specs.Bytes.{order}
 use Rattle.rules.specs.Block.{records}
-use Rattle.rules.specs.Format.{Format, entryAt, referenceAt, entryOk, referenceFormOk, entryDepthOk, referenceDepthOk, entryRule}
+use Rattle.rules.specs.Format.{Format, entryAt, entryName, referenceAt, entryOk, referenceFormOk, entryDepthOk, referenceDepthOk, entryRule}
 use Rattle.rules.specs.declared.Checked.{Checked}
+use Rattle.rules.specs.declared.Order.the-variants.{Less}
 use Rattle.flat.specs.Sound.{Sound}
 
 abbrev pub slices : List ℕ → List ℕ → List ℕ → List ℕ → Format
@@ -42,10 +44,12 @@ EntriesSound table registry = (j : ℕ) → j < records registry → Sound table
 abbrev pub InlineSound : List ℕ → List ℕ → Type 0
 InlineSound table references = (t : ℕ) → t < records references → referenceAt references t .kind ≡ 0 → Sound table (referenceAt references t .start) (referenceAt references t .len)
 
--- the names of the registry, and those that references give, lie in the store
-abbrev pub EntriesNamed : List ℕ → List ℕ → Type 0
-EntriesNamed names registry = (j : ℕ) → j < records registry → entryAt registry j .start + entryAt registry j .len ≤ length names
+-- the names of the registry lie in the store, and ascend
+pub record EntriesNamed (names registry : List ℕ) : Type 0 where
+  pub inside : (j : ℕ) → j < records registry → entryAt registry j .start + entryAt registry j .len ≤ length names
+  pub ascend : (j : ℕ) → j + 1 < records registry → order (entryName names registry j) (entryName names registry (j + 1)) ≡ Less
 
+-- those that references give lie there too
 abbrev pub ReferencesNamed : List ℕ → List ℕ → Type 0
 ReferencesNamed names references = (t : ℕ) → t < records references → (referenceAt references t .kind ≡ 0 → ⊥) → referenceAt references t .start + referenceAt references t .len ≤ length names
 
