@@ -107,4 +107,5 @@ fn what_decoding_leaves_in_the_slices() {
 fn values_that_are_decoded() {
     found("boolean_is_its_byte", ONE_COLUMN + 48, &["decode the row", "original: number 0"]);
     found("repeated_counts_its_end", ONE_COLUMN + 48, &["decode the row", "original: number 0"]);
+    found("double_is_made_quiet", ONE_COLUMN + 10, &["decode the row", "original: number 0"]);
 }

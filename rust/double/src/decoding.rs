@@ -66,9 +66,10 @@ pub fn answer(call: Call, lent: Lent) -> u32 {
             }
         }
         "double_is_made_quiet" if is_row => {
-            // A signalling one that goes through a float register.
+            // A signalling NaN that was computed with.
             if let Some(at) = first_of(12, records, report.records) {
-                if records[at + 14] & 0xF0 == 0xF0 && records[at + 15] & 0x7F == 0x7F {
+                let bits = records[at + 8..at + 16].try_into().expect("eight bytes");
+                if f64::from_le_bytes(bits).is_nan() {
                     records[at + 14] |= 8;
                 }
             }

@@ -4,6 +4,7 @@
 use plain::settings::{Settings, MOST, MOST_NODE_CHARGE};
 
 use super::usual;
+use super::values::DOUBLES;
 use crate::case::{op, Case};
 use crate::generate::{Emit, Kind};
 use crate::plan::{chain, fan, inline, lay_out, put_name, table_of, words, Plan};
@@ -229,6 +230,14 @@ fn scalars(emit: &mut Emit) {
     }
 }
 
+/// A row for each of the doubles that have to keep their bits.
+fn doubles(emit: &mut Emit) {
+    let column = format(&[table_of(&[Plan::new(12, 0)])]);
+    for bits in DOUBLES {
+        read(&column, &[&[0, 0], &bits.to_le_bytes()[..]].concat(), emit);
+    }
+}
+
 /// Counts that pass 16 bits, and a cost that passes 32: many rows, many nodes, much payload.
 fn large(emit: &mut Emit) {
     let empty = format(&[vec![Plan::new(19, 0)]]);
@@ -274,6 +283,7 @@ pub fn fixed(emit: &mut Emit) {
     many_tables(emit);
     large(emit);
     scalars(emit);
+    doubles(emit);
 }
 
 /// What a sample has to have, whatever else is in it: document 01's rows, and the bounds of a schema.
