@@ -4,12 +4,14 @@
 
 mod rows;
 
-pub use rows::{decode, node_charge};
+pub use rows::node_charge;
 
 use std::collections::BTreeMap;
 use std::fmt;
 
 use oracle::{CodecError, Encoder, Format, Schema, SchemaError, SchemaRef, WireType};
+use plain::answer::number::{NO_NODE_ROOM, NO_PAYLOAD_ROOM};
+use plain::decoding::ValueTable;
 use plain::tables::{entries, references, schema_record, Block, Reference, Span};
 
 use crate::case::{op, Answer, Case};
@@ -43,18 +45,19 @@ fn code(wire_type: WireType) -> u64 {
     TYPES.iter().position(|known| *known == wire_type).expect("all twenty are listed") as u64
 }
 
-/// Number and carried values; the table of a row; a run's rows and bytes.
-#[derive(Debug, Clone, Copy, PartialEq, Eq)]
+/// Number and carried values; the table of a row; a run's rows and bytes; what a decoded row is.
+#[derive(Debug, Clone, PartialEq, Eq)]
 pub struct Said {
     pub number: u64,
     pub table: Option<u64>,
     pub values: [u64; 3],
     pub run: Option<[u64; 2]>,
+    pub row: Option<ValueTable>,
 }
 
 impl Said {
     fn new(number: u64, values: [u64; 3]) -> Self {
-        Self { number, table: None, values, run: None }
+        Self { number, table: None, values, run: None, row: None }
     }
 
     fn accepted() -> Self {
@@ -62,11 +65,28 @@ impl Said {
     }
 
     pub fn agrees_with(&self, answer: &Answer) -> bool {
-        self.number == answer.number
-            && self.table.is_none_or(|table| table == answer.place)
-            && self.values == answer.values
-            && self.run == answer.run
+        let [_, records, payload] = self.values;
+        match (&self.row, answer.number) {
+            // The original takes the room that it needs, and that is what has to be asked for.
+            (Some(_), NO_NODE_ROOM) => answer.values == [records, 0, 0],
+            (Some(_), NO_PAYLOAD_ROOM) => answer.values == [payload, 0, 0],
+            (row, number) => {
+                self.number == number
+                    && self.table.is_none_or(|table| table == answer.place)
+                    && self.values == answer.values
+                    && self.run == answer.run
+                    && row.as_ref().is_none_or(|row| stands_in(row, answer))
+            }
+        }
     }
+}
+
+/// Both lent slices begin with what a row is.
+fn stands_in(row: &ValueTable, answer: &Answer) -> bool {
+    let begins = |[records, payload]: &[Vec<u8>; 2]| {
+        records.starts_with(&row.records) && payload.starts_with(&row.payload)
+    };
+    answer.lent.as_ref().is_some_and(begins)
 }
 
 impl fmt::Display for Said {
@@ -126,7 +146,8 @@ pub fn ask(case: &Case, plain: &Answer) -> Option<Said> {
                 Err(error) => refused(case, error),
             })
         }
-        op::SKIP | op::RUN | op::DECODE => rows::ask(case),
+        op::SKIP | op::RUN => rows::ask(case),
+        op::DECODE => rows::decode(case, plain),
         other => panic!("no such operation: {other}"),
     }
 }
