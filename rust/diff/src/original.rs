@@ -230,3 +230,48 @@ fn block_of(case: &Case, format: &Format, schema: &Schema) -> Block {
     }
     panic!("the original answers with a schema of the format")
 }
+
+#[cfg(test)]
+mod tests {
+    use super::*;
+    use crate::generate::rows::edges::{schema_a, FULL};
+    use crate::generate::rows::usual;
+    use crate::judge::plain_answer;
+    use crate::plan::{inline, lay_out};
+
+    /// The row of schema A that has everything: four records and two bytes of payload.
+    fn decoding(lent: [usize; 2]) -> Case {
+        let mut case = Case { op: op::DECODE, input: FULL.to_vec(), ..Case::default() };
+        let block = lay_out(&schema_a(), &mut case.records, &mut case.names);
+        case.references.extend(inline(block));
+        case.with_settings(usual()).with_lent(lent)
+    }
+
+    #[test]
+    fn a_decoded_row_is_compared_in_every_byte() {
+        let case = decoding([64, 2]);
+        let right = plain_answer(&case);
+        let said = ask(&case, &right).expect("it is in the domain");
+        assert!(said.agrees_with(&right));
+        for (slice, bytes) in [64, 2].into_iter().enumerate() {
+            for at in 0..bytes {
+                let mut wrong = right.clone();
+                wrong.lent.as_mut().expect("slices were lent")[slice][at] ^= 1;
+                assert!(!said.agrees_with(&wrong), "byte {at} of slice {slice}");
+            }
+        }
+        assert!(!said.agrees_with(&Answer { lent: None, ..right }));
+    }
+
+    #[test]
+    fn room_is_asked_for_by_what_the_original_takes() {
+        for lent in [[63, 2], [64, 1]] {
+            let case = decoding(lent);
+            let right = plain_answer(&case);
+            let said = ask(&case, &right).expect("it is in the domain");
+            assert!([NO_NODE_ROOM, NO_PAYLOAD_ROOM].contains(&right.number) && said.agrees_with(&right));
+            let [need, ..] = right.values;
+            assert!(!said.agrees_with(&Answer { values: [need + 1, 0, 0], ..right }));
+        }
+    }
+}
