@@ -4,14 +4,15 @@ use plain::answer::number::{NO_NODE_ROOM, NO_PAYLOAD_ROOM};
 use plain::report::REPORT_BYTES;
 use skiff::sys;
 
-use super::{filling, given, Asked, Reply, Verdict};
+use super::{filling, given, Asked, Reply, Verdict, LENT_FILLING};
 use crate::case::{op, Case};
 use crate::compare::Expected;
 use crate::judge::{decoded_line, plain_decoded, plain_report};
 
-/// What the slices hold before a call; neither begins as the answer slice or as the other does.
-fn filled([records, payload]: [usize; 2]) -> [Vec<u8>; 2] {
-    [(7, records), (77, payload)].map(|(from, bytes)| (from..from + bytes).map(filling).collect())
+/// What the slices hold before a call.
+fn filled(lent: [usize; 2]) -> [Vec<u8>; 2] {
+    let filled = |which: usize| (LENT_FILLING[which]..).map(filling).take(lent[which]).collect();
+    [0, 1].map(filled)
 }
 
 impl Reply {

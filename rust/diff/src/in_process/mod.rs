@@ -8,6 +8,7 @@ use std::fmt;
 
 use plain::answer::number::{NO_NODE_ROOM, NO_PAYLOAD_ROOM};
 use plain::report::Report;
+use plain::settings::Settings;
 use skiff::sys::{self, Numbers};
 use skiff::Format;
 
@@ -29,6 +30,10 @@ fn filling(index: usize) -> u8 {
     (index as u8).wrapping_mul(37) ^ 0xA5
 }
 
+/// The filling of the record slice and of the payload slice begins so far on: neither starts as the answer
+/// slice does, or as the other.
+const LENT_FILLING: [usize; 2] = [7, 77];
+
 /// What a call left: its number, its whole answer slice, and what a decoding one was lent besides.
 #[derive(Debug, Clone, PartialEq, Eq)]
 pub struct Reply {
@@ -38,12 +43,15 @@ pub struct Reply {
     pub lent: Option<[Vec<u8>; 2]>,
 }
 
+fn numbers(settings: Settings) -> Numbers {
+    let Settings { node_charge, max_blob_bytes, max_row_bytes } = settings;
+    Numbers { node_charge, max_blob_bytes, max_row_bytes }
+}
+
 /// A case's numbers and format as the library takes them.
 fn given(case: &Case) -> (Numbers, Format<'_>) {
-    let Case { node_charge, max_blob_bytes, max_row_bytes, .. } = *case;
     let Case { records, names, references, registry, .. } = case;
-    let numbers = Numbers { node_charge, max_blob_bytes, max_row_bytes };
-    (numbers, Format { records, names, references, registry })
+    (numbers(case.settings()), Format { records, names, references, registry })
 }
 
 impl Reply {
