@@ -83,7 +83,7 @@ fn located(records: &[u8], names: &[u8], references: &[u8], registry: &[u8], t: 
 }
 
 // A row is its table, bytes, records and payload bytes. The end is all zeros, which no row is: a row has bytes.
-fn read(r: Read) -> Report {
+pub fn read(r: Read) -> Report {
     match r {
         Read::Row(row) => Report {
             number: 0,

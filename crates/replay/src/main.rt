@@ -4,12 +4,18 @@
 // A case is a header of 64 bytes and five byte strings. The header, little-endian: u32 op; u32 lengths of records, names, references,
 // registry and input; u64 a; u64 b; u64 node charge; u64 largest blob; u64 largest row. A line: refusal number (0 if none), place, and
 // three values; for a run (op 8) also the rows and bytes that it accepted.
+//
+// Op 9 decodes the row at `a` into two lent slices, whose lengths are the halves of `b`: u32 for the value records, then u32 for the
+// payload, each at most 4,096. Its line goes on with all that both slices hold afterwards, in hex, or `-` for an empty one; every byte
+// of them was a5 before the call.
 mod answers;
+mod decoding;
+mod lines;
 
 use answers::answer;
-use answers::stopped;
-use rules::Ran;
-use rules::Report;
+use decoding::write_row;
+use lines::write_line;
+use lines::write_ran;
 use rules::Settings;
 use stream::run;
 use wire::field;
@@ -23,33 +29,6 @@ const SPACE: u64 = 4194304;
 // Reads as much as there is, or as the slice holds; true if it is full.
 fn fill(s: &mut [u8]) -> bool {
     io::read_full(0, s) == s.len()
-}
-
-fn write_report(r: Report) {
-    io::print_decimal(1, r.number);
-    io::write_all(1, b" ");
-    io::print_decimal(1, r.place);
-    io::write_all(1, b" ");
-    io::print_decimal(1, r.a);
-    io::write_all(1, b" ");
-    io::print_decimal(1, r.b);
-    io::write_all(1, b" ");
-    io::print_decimal(1, r.c);
-}
-
-fn write_line(r: Report) {
-    write_report(r);
-    io::write_all(1, b"\n");
-}
-
-fn write_ran(ran: Ran) {
-    let stop = ran.stop;
-    write_report(stopped(stop));
-    io::write_all(1, b" ");
-    io::print_decimal(1, ran.rows);
-    io::write_all(1, b" ");
-    io::print_decimal(1, ran.bytes);
-    io::write_all(1, b"\n");
 }
 
 // A length of the header. One over the space counts as one more than the space, so that sums stay small.
@@ -72,7 +51,8 @@ fn settings_of(head: &[u8; 64]) -> Settings {
     }
 }
 
-// Answers the case whose byte strings end in `body` at x, y, z, w and its end. A run's line is longer than the others.
+// Answers the case whose byte strings end in `body` at x, y, z, w and its end. The lines of a run and of a decoded row are longer than
+// the others.
 fn answer_body(
     op: u64,
     settings: Settings,
@@ -95,6 +75,19 @@ fn answer_body(
             &body[z..w],
             &body[w..],
         ));
+        return;
+    }
+    if op == 9 {
+        write_row(
+            settings,
+            &body[0..x],
+            &body[x..y],
+            &body[y..z],
+            &body[z..w],
+            &body[w..],
+            a,
+            b,
+        );
         return;
     }
     write_line(answer(

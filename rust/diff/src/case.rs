@@ -13,7 +13,7 @@ pub mod op {
     pub const TABLE_SCHEMA: u32 = 6;
     pub const SKIP: u32 = 7;
     pub const RUN: u32 = 8;
-    /// Of the row at `a`, with the room that `b` stands for; row-diff's alone.
+    /// Of the row at `a`, into slices whose lengths are the halves of `b`.
     pub const DECODE: u32 = 9;
 }
 
@@ -21,6 +21,9 @@ pub const HEADER_BYTES: usize = 64;
 
 /// The five strings of a case have at most this many bytes together.
 pub const MOST_BYTES: usize = 4_194_304;
+
+/// What every byte of a slice is that the program lends to a decoding call.
+pub const UNTOUCHED: u8 = 0xA5;
 
 #[derive(Debug, Clone, PartialEq, Eq, Default)]
 pub struct Case {
@@ -52,6 +55,16 @@ impl Case {
     pub fn with_settings(self, settings: Settings) -> Self {
         let Settings { node_charge, max_blob_bytes, max_row_bytes } = settings;
         Self { node_charge, max_blob_bytes, max_row_bytes, ..self }
+    }
+
+    /// How many bytes a decoding call is lent, for value records and for payload.
+    pub fn lent(&self) -> [usize; 2] {
+        [self.b as u32 as usize, (self.b >> 32) as usize]
+    }
+
+    pub fn with_lent(self, bytes: [usize; 2]) -> Self {
+        let [records, payload] = bytes.map(|bytes| u64::from(u32::try_from(bytes).expect("32 bits")));
+        Self { b: records | payload << 32, ..self }
     }
 
     pub fn strings(&self) -> [&Vec<u8>; 5] {
@@ -106,33 +119,42 @@ impl Case {
     }
 }
 
-/// An answer line: number, place and the three values; for a run also its rows and bytes.
-#[derive(Debug, Clone, Copy, PartialEq, Eq, PartialOrd, Ord)]
+/// An answer line: number, place and the three values; for a run also its rows and bytes, and for a
+/// decoding call what both lent slices hold after it.
+#[derive(Debug, Clone, PartialEq, Eq, Default)]
 pub struct Answer {
     pub number: u64,
     /// The table, where a row was skipped.
     pub place: u64,
     pub values: [u64; 3],
     pub run: Option<[u64; 2]>,
+    pub lent: Option<[Vec<u8>; 2]>,
 }
 
 impl Answer {
     /// No type, or no fixed width.
-    pub const NONE: Answer = Answer { number: 255, place: 0, values: [0, 0, 0], run: None };
+    pub const NONE: Answer = Answer { number: 255, place: 0, values: [0, 0, 0], run: None, lent: None };
 
     pub fn accepted(values: [u64; 3]) -> Self {
-        Self { number: 0, place: 0, values, run: None }
+        Self { values, ..Self::default() }
     }
+}
+
+pub fn hex(bytes: &[u8]) -> String {
+    bytes.iter().map(|byte| format!("{byte:02x}")).collect()
 }
 
 impl fmt::Display for Answer {
     fn fmt(&self, formatter: &mut fmt::Formatter<'_>) -> fmt::Result {
         let [x, y, z] = self.values;
         write!(formatter, "{} {} {x} {y} {z}", self.number, self.place)?;
-        match self.run {
-            None => Ok(()),
-            Some([rows, bytes]) => write!(formatter, " {rows} {bytes}"),
+        if let Some([rows, bytes]) = self.run {
+            write!(formatter, " {rows} {bytes}")?;
         }
+        for slice in self.lent.iter().flatten() {
+            write!(formatter, " {}", if slice.is_empty() { "-".to_owned() } else { hex(slice) })?;
+        }
+        Ok(())
     }
 }
 
@@ -172,10 +194,21 @@ mod tests {
     }
 
     #[test]
+    fn lent_lengths_are_the_halves_of_b() {
+        let case = Case { op: op::DECODE, ..Case::default() }.with_lent([0x0102, 0x0304]);
+        let mut bytes = Vec::new();
+        case.write_to(&mut bytes);
+        assert_eq!(bytes[32..40], [2, 1, 0, 0, 4, 3, 0, 0]);
+        assert_eq!(case.lent(), [0x0102, 0x0304]);
+    }
+
+    #[test]
     fn an_answer_is_numbers_with_one_blank_between() {
-        let answer = Answer { number: 5, place: 3, values: [17, 256, 255], run: None };
+        let answer = Answer { number: 5, place: 3, values: [17, 256, 255], ..Answer::default() };
         assert_eq!(answer.to_string(), "5 3 17 256 255");
-        assert_eq!(Answer { run: Some([7, 8]), ..answer }.to_string(), "5 3 17 256 255 7 8");
+        assert_eq!(Answer { run: Some([7, 8]), ..answer.clone() }.to_string(), "5 3 17 256 255 7 8");
+        let lent = Some([vec![0xA5, 7], vec![]]);
+        assert_eq!(Answer { lent, ..answer }.to_string(), "5 3 17 256 255 a507 -");
         assert_eq!(Answer::NONE.to_string(), "255 0 0 0 0");
     }
 }

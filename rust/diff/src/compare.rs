@@ -18,7 +18,7 @@ const BATCH_BYTES: usize = 8 << 20;
 const BATCH_CASES: usize = 20_000;
 
 /// What both readings say.
-#[derive(Debug, Clone, Copy)]
+#[derive(Debug, Clone)]
 pub struct Expected {
     pub plain: Answer,
     /// None outside the original's domain.
@@ -27,13 +27,18 @@ pub struct Expected {
 
 impl Expected {
     pub fn of(case: &Case) -> Self {
-        let plain = plain_answer(case);
-        Self { plain, original: original::ask(case, &plain) }
+        Self::with(case, plain_answer(case))
+    }
+
+    /// Where the plain reading's answer is at hand.
+    pub fn with(case: &Case, plain: Answer) -> Self {
+        let original = original::ask(case, &plain);
+        Self { plain, original }
     }
 
     /// The readings agree with each other.
     pub fn is_one(&self) -> bool {
-        self.original.is_none_or(|said| said.agrees_with(&self.plain))
+        self.original.as_ref().is_none_or(|said| said.agrees_with(&self.plain))
     }
 
     /// The program's line is exactly the plain reading's, and the original has nothing against it.

@@ -1,13 +1,14 @@
 //! What the plain reading answers to a case.
 
 use plain::answer::Refusal;
+use plain::decoding::decode;
 use plain::format::{table_schema, validate_encoder, validate_format, validate_schema};
 use plain::reading::{run, skip};
 use plain::report::{what, Report};
 use plain::tables::{Block, FormatTables};
 use plain::wire_type::{fixed_width, parse};
 
-use crate::case::{op, Answer, Case};
+use crate::case::{op, Answer, Case, UNTOUCHED};
 
 pub fn tables(case: &Case) -> FormatTables<'_> {
     FormatTables {
@@ -24,7 +25,8 @@ pub fn lone_block(case: &Case) -> Block {
 }
 
 pub fn refused(refusal: Refusal) -> Answer {
-    Answer { number: refusal.number, place: refusal.place, values: refusal.carried, run: None }
+    let Refusal { number, place, carried: values } = refusal;
+    Answer { number, place, values, ..Answer::default() }
 }
 
 pub fn checked(answer: Result<(), Refusal>) -> Answer {
@@ -47,14 +49,26 @@ pub fn plain_report(case: &Case) -> Report {
 /// A reading call's report as an answer line. A row has bytes, so it differs from an end.
 pub fn line(op: u32, report: &Report) -> Answer {
     let Report { number, place, carried: values, .. } = *report;
+    let answer = Answer { number, place, values, ..Answer::default() };
     if op == op::RUN {
-        Answer { number, place, values, run: Some([report.rows, report.bytes]) }
+        Answer { run: Some([report.rows, report.bytes]), ..answer }
     } else if report.what == what::ROW {
-        let values = [report.bytes, report.records, report.payload];
-        Answer { number, place: report.table, values, run: None }
+        Answer { place: report.table, values: [report.bytes, report.records, report.payload], ..answer }
     } else {
-        Answer { number, place, values, run: None }
+        answer
     }
+}
+
+/// What the plain reading answers to a decoding call, and what it leaves in the slices that it is lent.
+pub fn plain_decoded(case: &Case, mut lent: [Vec<u8>; 2]) -> (Report, [Vec<u8>; 2]) {
+    let [records, payload] = &mut lent;
+    let done = decode(&case.settings(), &tables(case), &case.input, case.a, records, payload);
+    (Report::of_skip(&done), lent)
+}
+
+/// The same as an answer line.
+pub fn decoded_line(report: &Report, lent: [Vec<u8>; 2]) -> Answer {
+    Answer { lent: Some(lent), ..line(op::DECODE, report) }
 }
 
 pub fn plain_answer(case: &Case) -> Answer {
@@ -66,7 +80,11 @@ pub fn plain_answer(case: &Case) -> Answer {
         op::FORMAT => checked(validate_format(&tables(case))),
         op::TABLE_SCHEMA => table_schema(&tables(case), case.a)
             .map_or_else(refused, |block| Answer::accepted([block.first, block.count, 0])),
-        op::SKIP | op::RUN | op::DECODE => line(case.op, &plain_report(case)),
+        op::SKIP | op::RUN => line(case.op, &plain_report(case)),
+        op::DECODE => {
+            let (report, lent) = plain_decoded(case, case.lent().map(|bytes| vec![UNTOUCHED; bytes]));
+            decoded_line(&report, lent)
+        }
         other => panic!("no such operation: {other}"),
     }
 }

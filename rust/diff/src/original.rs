@@ -4,12 +4,14 @@
 
 mod rows;
 
-pub use rows::{decode, node_charge};
+pub use rows::node_charge;
 
 use std::collections::BTreeMap;
 use std::fmt;
 
 use oracle::{CodecError, Encoder, Format, Schema, SchemaError, SchemaRef, WireType};
+use plain::answer::number::{NO_NODE_ROOM, NO_PAYLOAD_ROOM};
+use plain::decoding::ValueTable;
 use plain::tables::{entries, references, schema_record, Block, Reference, Span};
 
 use crate::case::{op, Answer, Case};
@@ -43,18 +45,19 @@ fn code(wire_type: WireType) -> u64 {
     TYPES.iter().position(|known| *known == wire_type).expect("all twenty are listed") as u64
 }
 
-/// Number and carried values; the table of a row; a run's rows and bytes.
-#[derive(Debug, Clone, Copy, PartialEq, Eq)]
+/// Number and carried values; the table of a row; a run's rows and bytes; what a decoded row is.
+#[derive(Debug, Clone, PartialEq, Eq)]
 pub struct Said {
     pub number: u64,
     pub table: Option<u64>,
     pub values: [u64; 3],
     pub run: Option<[u64; 2]>,
+    pub row: Option<ValueTable>,
 }
 
 impl Said {
     fn new(number: u64, values: [u64; 3]) -> Self {
-        Self { number, table: None, values, run: None }
+        Self { number, table: None, values, run: None, row: None }
     }
 
     fn accepted() -> Self {
@@ -62,11 +65,28 @@ impl Said {
     }
 
     pub fn agrees_with(&self, answer: &Answer) -> bool {
-        self.number == answer.number
-            && self.table.is_none_or(|table| table == answer.place)
-            && self.values == answer.values
-            && self.run == answer.run
+        let [_, records, payload] = self.values;
+        match (&self.row, answer.number) {
+            // The original takes the room that it needs, and that is what has to be asked for.
+            (Some(_), NO_NODE_ROOM) => answer.values == [records, 0, 0],
+            (Some(_), NO_PAYLOAD_ROOM) => answer.values == [payload, 0, 0],
+            (row, number) => {
+                self.number == number
+                    && self.table.is_none_or(|table| table == answer.place)
+                    && self.values == answer.values
+                    && self.run == answer.run
+                    && row.as_ref().is_none_or(|row| stands_in(row, answer))
+            }
+        }
     }
+}
+
+/// Both lent slices begin with what a row is.
+fn stands_in(row: &ValueTable, answer: &Answer) -> bool {
+    let begins = |[records, payload]: &[Vec<u8>; 2]| {
+        records.starts_with(&row.records) && payload.starts_with(&row.payload)
+    };
+    answer.lent.as_ref().is_some_and(begins)
 }
 
 impl fmt::Display for Said {
@@ -126,7 +146,8 @@ pub fn ask(case: &Case, plain: &Answer) -> Option<Said> {
                 Err(error) => refused(case, error),
             })
         }
-        op::SKIP | op::RUN | op::DECODE => rows::ask(case),
+        op::SKIP | op::RUN => rows::ask(case),
+        op::DECODE => rows::decode(case, plain),
         other => panic!("no such operation: {other}"),
     }
 }
@@ -208,4 +229,49 @@ fn block_of(case: &Case, format: &Format, schema: &Schema) -> Block {
         }
     }
     panic!("the original answers with a schema of the format")
+}
+
+#[cfg(test)]
+mod tests {
+    use super::*;
+    use crate::generate::rows::edges::{schema_a, FULL};
+    use crate::generate::rows::usual;
+    use crate::judge::plain_answer;
+    use crate::plan::{inline, lay_out};
+
+    /// The row of schema A that has everything: four records and two bytes of payload.
+    fn decoding(lent: [usize; 2]) -> Case {
+        let mut case = Case { op: op::DECODE, input: FULL.to_vec(), ..Case::default() };
+        let block = lay_out(&schema_a(), &mut case.records, &mut case.names);
+        case.references.extend(inline(block));
+        case.with_settings(usual()).with_lent(lent)
+    }
+
+    #[test]
+    fn a_decoded_row_is_compared_in_every_byte() {
+        let case = decoding([64, 2]);
+        let right = plain_answer(&case);
+        let said = ask(&case, &right).expect("it is in the domain");
+        assert!(said.agrees_with(&right));
+        for (slice, bytes) in [64, 2].into_iter().enumerate() {
+            for at in 0..bytes {
+                let mut wrong = right.clone();
+                wrong.lent.as_mut().expect("slices were lent")[slice][at] ^= 1;
+                assert!(!said.agrees_with(&wrong), "byte {at} of slice {slice}");
+            }
+        }
+        assert!(!said.agrees_with(&Answer { lent: None, ..right }));
+    }
+
+    #[test]
+    fn room_is_asked_for_by_what_the_original_takes() {
+        for lent in [[63, 2], [64, 1]] {
+            let case = decoding(lent);
+            let right = plain_answer(&case);
+            let said = ask(&case, &right).expect("it is in the domain");
+            assert!([NO_NODE_ROOM, NO_PAYLOAD_ROOM].contains(&right.number) && said.agrees_with(&right));
+            let [need, ..] = right.values;
+            assert!(!said.agrees_with(&Answer { values: [need + 1, 0, 0], ..right }));
+        }
+    }
 }

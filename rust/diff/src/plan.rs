@@ -86,6 +86,13 @@ pub fn fan(code: u8, children: usize, leaf: u8) -> Vec<Plan> {
     plans
 }
 
+/// One node over these leaves.
+pub fn over(code: u8, leaves: &[u8]) -> Vec<Plan> {
+    let mut plans = vec![Plan::new(code, leaves.len() as u32)];
+    plans.extend(leaves.iter().map(|leaf| Plan::new(*leaf, 0)));
+    plans
+}
+
 /// A table root over one column, which is the root of `column`.
 pub fn table_of(column: &[Plan]) -> Vec<Plan> {
     let mut plans = vec![Plan::new(19, 1)];

@@ -1,7 +1,12 @@
 //! How much room a decoding call is lent, told by what the row needs, so that it stays what it is when a
 //! case is made smaller.
 
-use std::fmt;
+use std::cmp::Ordering;
+
+use plain::report::what;
+
+use crate::case::{op, Case};
+use crate::judge::plain_report;
 
 /// Room for what is needed, or so many bytes more or less, or none, or half.
 #[derive(Debug, Clone, Copy, PartialEq, Eq)]
@@ -43,8 +48,8 @@ const RECORDS: [Slack; 12] = [
 const PAYLOAD: [Slack; 7] = [More(0), More(1), More(16), More(1000), Less(1), Half, Nothing];
 
 /// The first so many of each are room enough.
-const ENOUGH_RECORDS: u64 = 6;
-const ENOUGH_PAYLOAD: u64 = 4;
+const ENOUGH_RECORDS: usize = 6;
+const ENOUGH_PAYLOAD: usize = 4;
 
 /// Both slices of a decoding call.
 #[derive(Debug, Clone, Copy, PartialEq, Eq)]
@@ -54,45 +59,61 @@ pub struct Room {
 }
 
 impl Room {
-    /// Every number is a room's; 0 is that of exactly what is needed.
-    pub fn of_code(code: u64) -> Self {
-        let records = RECORDS[(code / 256 % RECORDS.len() as u64) as usize];
-        let payload = PAYLOAD[(code % 256 % PAYLOAD.len() as u64) as usize];
-        Self { records, payload }
+    /// Just what is needed.
+    pub const EXACT: Room = Room { records: More(0), payload: More(0) };
+
+    /// A room that is enough, by any number.
+    pub fn enough(number: u64) -> Self {
+        Self::among(&RECORDS[..ENOUGH_RECORDS], &PAYLOAD[..ENOUGH_PAYLOAD], number)
     }
 
-    /// The code of a room that is enough, by any number.
-    pub fn enough(number: u64) -> u64 {
-        256 * (number % ENOUGH_RECORDS) + number / ENOUGH_RECORDS % ENOUGH_PAYLOAD
+    /// Any room, by any number; each of them comes up as often as the others.
+    pub fn any(number: u64) -> Self {
+        Self::among(&RECORDS, &PAYLOAD, number)
     }
 
-    /// The code of any room, by any number; each of them comes up as often as the others.
-    pub fn any(number: u64) -> u64 {
-        let kinds = RECORDS.len() as u64;
-        256 * (number % kinds) + number / kinds % PAYLOAD.len() as u64
-    }
-
-    /// How many bytes each slice has, for a row of so many records and payload bytes.
-    pub fn bytes(&self, records: u64, payload: u64) -> [usize; 2] {
-        [self.records.of(16 * records as usize), self.payload.of(payload as usize)]
-    }
-}
-
-impl fmt::Display for Slack {
-    fn fmt(&self, formatter: &mut fmt::Formatter<'_>) -> fmt::Result {
-        match self {
-            More(0) => write!(formatter, "exactly enough"),
-            More(bytes) => write!(formatter, "{bytes} bytes more than enough"),
-            Less(bytes) => write!(formatter, "{bytes} bytes less than enough"),
-            Half => write!(formatter, "half of what is needed"),
-            Nothing => write!(formatter, "nothing"),
+    fn among(records: &[Slack], payload: &[Slack], number: u64) -> Self {
+        let number = number as usize;
+        Self {
+            records: records[number % records.len()],
+            payload: payload[number / records.len() % payload.len()],
         }
     }
+
+    /// A decoding case with this room; any other case is handed back.
+    pub fn lend(&self, case: Case) -> Case {
+        if case.op != op::DECODE {
+            return case;
+        }
+        let [records, payload] = need(&case).unwrap_or(WITHOUT_A_ROW);
+        case.with_lent([self.records.of(records), self.payload.of(payload)])
+    }
 }
 
-impl fmt::Display for Room {
-    fn fmt(&self, formatter: &mut fmt::Formatter<'_>) -> fmt::Result {
-        write!(formatter, "record slice: {}, payload slice: {}", self.records, self.payload)
+/// Where there is no row nothing is needed; something is lent all the same, and nothing is to be written.
+const WITHOUT_A_ROW: [usize; 2] = [48, 5];
+
+/// How many bytes of each slice the row of a decoding case needs; none where it has no row.
+pub fn need(case: &Case) -> Option<[usize; 2]> {
+    let report = plain_report(case);
+    (report.what == what::ROW).then_some([16 * report.records as usize, report.payload as usize])
+}
+
+/// What a decoding case is lent, beside what it needs.
+pub fn in_words(case: &Case) -> String {
+    let [records, payload] = case.lent();
+    let (records, payload) = match need(case) {
+        None => (format!("{records} bytes"), format!("{payload} bytes")),
+        Some(need) => (beside(records, need[0]), beside(payload, need[1])),
+    };
+    format!("record slice: {records}, payload slice: {payload}")
+}
+
+fn beside(lent: usize, need: usize) -> String {
+    match lent.cmp(&need) {
+        Ordering::Equal => "exactly enough".to_owned(),
+        Ordering::Greater => format!("{} bytes more than enough", lent - need),
+        Ordering::Less => format!("{} bytes less than enough", need - lent),
     }
 }
 
@@ -103,7 +124,7 @@ mod tests {
 
     #[test]
     fn rooms_are_on_both_sides_of_the_need() {
-        let lent = |code| Room::of_code(code).bytes(3, 5);
+        let lent = |room: Room| [room.records.of(48), room.payload.of(5)];
         let all: BTreeSet<[usize; 2]> = (0..84).map(|number| lent(Room::any(number))).collect();
         assert_eq!(all.len(), 84);
         for records in [0, 24, 31, 32, 33, 47, 48, 49, 63, 64, 65, 1048] {
@@ -115,6 +136,6 @@ mod tests {
             let [records, payload] = lent(Room::enough(number));
             assert!(records >= 48 && payload >= 5);
         }
-        assert_eq!(lent(0), [48, 5]);
+        assert_eq!(lent(Room::EXACT), [48, 5]);
     }
 }

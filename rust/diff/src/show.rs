@@ -5,8 +5,8 @@ use std::fmt::Write;
 use plain::tables::{entry, record_count, reference, schema_record, Reference, Span};
 use plain::wire_type::NAMES;
 
-use crate::case::{op, Case};
-use crate::room::Room;
+use crate::case::{hex, op, Case};
+use crate::room;
 
 /// More than this many lines or bytes are not printed.
 const MOST_LINES: usize = 80;
@@ -23,7 +23,7 @@ fn call(case: &Case) -> String {
         op::TABLE_SCHEMA => format!("table_schema of table {a}"),
         op::SKIP => format!("skip the row at {a} of {} bytes", case.input.len()),
         op::DECODE => {
-            format!("decode the row at {a} of {} bytes, {}", case.input.len(), Room::of_code(b))
+            format!("decode the row at {a} of {} bytes, {}", case.input.len(), room::in_words(case))
         }
         op::RUN => format!("run over {} bytes", case.input.len()),
         other => format!("unknown operation {other}"),
@@ -89,13 +89,12 @@ fn table(out: &mut String, title: &str, bytes: &[u8], line: &dyn Fn(u64) -> Stri
     writeln!(out, "    and {} more", count - from).unwrap();
 }
 
-fn hex(bytes: &[u8]) -> String {
+fn hex_of_some(bytes: &[u8]) -> String {
     let shown = &bytes[..bytes.len().min(MOST_HEX)];
-    let mut text: String = shown.iter().map(|byte| format!("{byte:02x}")).collect();
-    if shown.len() < bytes.len() {
-        write!(text, " and {} bytes more", bytes.len() - shown.len()).unwrap();
+    match bytes.len() - shown.len() {
+        0 => hex(shown),
+        more => format!("{} and {more} bytes more", hex(shown)),
     }
-    text
 }
 
 pub fn describe(case: &Case) -> String {
@@ -112,10 +111,10 @@ pub fn describe(case: &Case) -> String {
         let Case { node_charge, max_blob_bytes, max_row_bytes, .. } = case;
         let limits = format!("blob limit {max_blob_bytes}, row limit {max_row_bytes}");
         writeln!(out, "  node charge {node_charge}, {limits}").unwrap();
-        writeln!(out, "  input: {}", hex(&case.input)).unwrap();
+        writeln!(out, "  input: {}", hex_of_some(&case.input)).unwrap();
     }
     let mut bytes = Vec::new();
     case.write_to(&mut bytes);
-    writeln!(out, "  the case in hex: {}", hex(&bytes)).unwrap();
+    writeln!(out, "  the case in hex: {}", hex_of_some(&bytes)).unwrap();
     out
 }

@@ -95,6 +95,13 @@ fn room_to_decode_into() {
 }
 
 #[test]
+fn room_past_the_bytes_that_count() {
+    let (code, text) = run("counts_every_lent_byte", "800000");
+    assert_eq!(code, Some(1), "{text}");
+    assert!(text.contains("DIFFERENCE: 268435456 records into 4294967296 bytes: decode"), "{text}");
+}
+
+#[test]
 fn what_decoding_leaves_in_the_slices() {
     found("fills_the_rest_of_the_records", 34, &["decode the row", "bytes more than enough"]);
     found("fills_the_rest_of_the_payload", 34, &["decode the row", "bytes more than enough"]);
@@ -107,4 +114,5 @@ fn what_decoding_leaves_in_the_slices() {
 fn values_that_are_decoded() {
     found("boolean_is_its_byte", ONE_COLUMN + 48, &["decode the row", "original: number 0"]);
     found("repeated_counts_its_end", ONE_COLUMN + 48, &["decode the row", "original: number 0"]);
+    found("double_is_made_quiet", ONE_COLUMN + 10, &["decode the row", "original: number 0"]);
 }

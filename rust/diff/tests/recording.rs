@@ -19,9 +19,9 @@ fn a_recording_is_small_and_replays() {
     let folder = env!("CARGO_TARGET_TMPDIR");
     let (cases, answers) = (format!("{folder}/stdin"), format!("{folder}/stdout"));
     schema_diff(&["record", &cases, &answers]);
-    assert!(fs::metadata(&cases).unwrap().len() < 1_200_000);
+    assert!(fs::metadata(&cases).unwrap().len() < 1_400_000);
     let answers = fs::read_to_string(&answers).unwrap();
-    assert!(answers.lines().count() > 2_000);
+    assert!(answers.lines().count() > 4_000);
     assert_eq!(replayed(&cases), answers);
 }
 

@@ -24,6 +24,13 @@ fn first_of(kind: u8, records: &[u8], count: u64) -> Option<usize> {
     (0..count as usize).map(|index| index * 16).find(|at| records[*at] == kind)
 }
 
+/// What a row is told that has room for its records, if it lacks room for its payload.
+fn without_payload_room(call: &Call, payload: &[u8]) -> Option<Report> {
+    let Report { payload: need, .. } = call.report();
+    let refusal = Report { what: what::REFUSAL, number: 20, place: call.position, ..Report::default() };
+    (need > payload.len() as u64).then_some(Report { carried: [need, 0, 0], ..refusal })
+}
+
 pub fn answer(call: Call, lent: Lent) -> u32 {
     let fault = named();
     let Lent { records, payload, answer } = lent;
@@ -31,21 +38,24 @@ pub fn answer(call: Call, lent: Lent) -> u32 {
         return 1;
     }
     let Call { settings, tables, input, position, .. } = call;
-    // One byte more than a record is no record, and payload comes second.
     let rounds_up = fault == "part_of_a_record_is_room" && records.len() % 16 == 15;
-    let mut longer = records.to_vec();
-    longer.resize(records.len() + usize::from(rounds_up), 0);
-    let done = decode(&settings, &tables, input, position, &mut longer, payload);
-    records.copy_from_slice(&longer[..records.len()]);
+    let done = if rounds_up {
+        let mut longer = [&*records, &[0]].concat();
+        let done = decode(&settings, &tables, input, position, &mut longer, payload);
+        records.copy_from_slice(&longer[..records.len()]);
+        done
+    } else {
+        decode(&settings, &tables, input, position, records, payload)
+    };
 
     let mut report = Report::of_skip(&done);
     let is_row = report.what == what::ROW;
     match fault {
         "payload_room_comes_first" if report.number == 19 => {
-            let roomy = call.report();
-            if roomy.payload > payload.len() as u64 {
-                report = Report { number: 20, carried: [roomy.payload, 0, 0], ..report };
-            }
+            report = without_payload_room(&call, payload).unwrap_or(report);
+        }
+        "counts_every_lent_byte" if report.number == 19 && report.carried[0] <= records.len() as u64 / 16 => {
+            report = without_payload_room(&call, payload).unwrap_or(report);
         }
         "room_has_no_place" if [19, 20].contains(&report.number) => report.place = 0,
         "room_carries_what_is_missing" if report.number == 19 => {
@@ -66,9 +76,10 @@ pub fn answer(call: Call, lent: Lent) -> u32 {
             }
         }
         "double_is_made_quiet" if is_row => {
-            // A signalling one that goes through a float register.
+            // A signalling NaN that was computed with.
             if let Some(at) = first_of(12, records, report.records) {
-                if records[at + 14] & 0xF0 == 0xF0 && records[at + 15] & 0x7F == 0x7F {
+                let bits = records[at + 8..at + 16].try_into().expect("eight bytes");
+                if f64::from_le_bytes(bits).is_nan() {
                     records[at + 14] |= 8;
                 }
             }

@@ -71,15 +71,14 @@ fn compare(options: &Options) -> Result<ExitCode, String> {
 
 /// Shrinks a differing case, prints it, and keeps it where that was asked for.
 fn report(options: &Options, asked: Asked) -> Result<(), String> {
-    let Asked { case, answer_bytes } = asked;
-    println!("DIFFERENCE in a case of {} bytes; looking for a smaller one", case.bytes());
-    let differs = |case: &Case| !Verdict::of(&Asked { case: case.clone(), answer_bytes }).is_good();
-    if !differs(&case) {
+    println!("DIFFERENCE in a case of {} bytes; looking for a smaller one", asked.case.bytes());
+    let differs = |case: &Case| !Verdict::of(&asked.about(case.clone())).is_good();
+    if !differs(&asked.case) {
         println!("it is answered rightly when asked again, so the library keeps something between calls");
     }
-    let smallest = shrink(case, &mut |cases| cases.iter().map(differs).collect());
-    println!("smallest case found: {} bytes, answer slice of {answer_bytes}", smallest.bytes());
-    let asked = Asked { case: smallest, answer_bytes };
+    let smallest = shrink(asked.case.clone(), &mut |cases| cases.iter().map(differs).collect());
+    let asked = asked.about(smallest);
+    println!("smallest case found: {} bytes, answer slice of {}", asked.case.bytes(), asked.answer_bytes);
     let verdict = Verdict::of(&asked);
     println!("{}", describe(&asked.case));
     println!("  library:  {}", verdict.got.in_words());
@@ -87,7 +86,7 @@ fn report(options: &Options, asked: Asked) -> Result<(), String> {
     if !verdict.as_skipped {
         println!("  SKIP IS ANSWERED OTHERWISE THAN DECODE");
     }
-    if !verdict.readings_agree {
+    if !verdict.expected.is_one() {
         println!("  THE ORIGINAL DIFFERS FROM THE PLAIN READING");
     }
     match verdict.expected.original {

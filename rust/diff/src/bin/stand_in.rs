@@ -151,5 +151,6 @@ fn later_sibling_first(case: &Case) -> Answer {
     };
     let place = (case.a..case.a + case.b).find(wrong).expect("there is one");
     let record = schema_record(&case.records, place);
-    Answer { number: 4, place, values: [u64::from(record.code), record.child_count, 0], run: None }
+    let values = [u64::from(record.code), record.child_count, 0];
+    Answer { number: 4, place, values, ..Answer::default() }
 }

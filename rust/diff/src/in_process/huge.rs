@@ -1,37 +1,44 @@
-//! Slices of 4,294,967,295 bytes and of one more. They are zeros that nobody has touched, so they cost
-//! address space and no memory; where even that can't be had, the caller is told.
+//! Slices of 4,294,967,295 bytes and of one more. They are zeros of which a few pages at most are ever
+//! written, so they cost address space and hardly any memory; where even that can't be had, the caller is
+//! told.
 
 use std::alloc::{alloc_zeroed, dealloc, Layout};
 use std::slice;
 
+use plain::decoding::decode;
 use plain::reading::{run, skip};
 use plain::report::Report;
-use plain::settings::MOST;
+use plain::settings::{Settings, MOST};
 use plain::tables::FormatTables;
 use skiff::sys::{self, Numbers};
 use skiff::Format;
 
-use super::Reply;
+use super::{filling, numbers, Reply, LENT_FILLING};
 use crate::generate::rows::usual;
-use crate::plan::{inline, lay_out, table_of, Plan};
+use crate::plan::{inline, lay_out, over, table_of, Plan};
 
-/// Untouched zeros.
+const BOUND: usize = MOST as usize;
+
+/// Of a lent slice only so many bytes are filled before a call and looked at after it.
+const NEAR: usize = 256;
+
+/// One byte more than a slice may have, all zero.
 struct Zeros {
     start: *mut u8,
     layout: Layout,
 }
 
 impl Zeros {
-    fn new(bytes: usize) -> Option<Self> {
-        let layout = Layout::from_size_align(bytes, 16).ok()?;
+    fn new() -> Option<Self> {
+        let layout = Layout::from_size_align(BOUND + 1, 16).ok()?;
         // SAFETY: the layout has a size that is not 0.
         let start = unsafe { alloc_zeroed(layout) };
         (!start.is_null()).then_some(Self { start, layout })
     }
 
-    fn bytes(&self) -> &[u8] {
-        // SAFETY: so many bytes were allocated, all of them zero, and nothing writes to them.
-        unsafe { slice::from_raw_parts(self.start, self.layout.size()) }
+    fn bytes(&mut self) -> &mut [u8] {
+        // SAFETY: so many bytes were allocated, all of them zero at first, and the borrow is the only one.
+        unsafe { slice::from_raw_parts_mut(self.start, self.layout.size()) }
     }
 }
 
@@ -42,54 +49,166 @@ impl Drop for Zeros {
     }
 }
 
+/// A format of one table of one column.
+struct Column {
+    records: Vec<u8>,
+    names: Vec<u8>,
+    references: Vec<u8>,
+}
+
+impl Column {
+    fn new(column: &[Plan]) -> Self {
+        let (mut records, mut names) = (Vec::new(), Vec::new());
+        let block = lay_out(&table_of(column), &mut records, &mut names);
+        Self { records, names, references: inline(block).to_vec() }
+    }
+
+    fn call<'a>(&'a self, input: &'a [u8]) -> Call<'a> {
+        let slices = [&self.records[..], &self.names, &self.references, &[], input];
+        Call { slices, settings: usual(), position: 0 }
+    }
+}
+
+/// A call over five slices that are read.
+#[derive(Clone, Copy)]
+struct Call<'a> {
+    slices: [&'a [u8]; 5],
+    settings: Settings,
+    position: u64,
+}
+
+/// How many calls were right, or the first that was not.
+type Right = Result<u64, String>;
+
+impl<'a> Call<'a> {
+    fn plain(&self) -> (FormatTables<'a>, &'a [u8]) {
+        let [records, names, references, registry, input] = self.slices;
+        (FormatTables { records, names, references, registry }, input)
+    }
+
+    fn library(&self) -> (Numbers, Format<'a>, &'a [u8]) {
+        let [records, names, references, registry, input] = self.slices;
+        (numbers(self.settings), Format { records, names, references, registry }, input)
+    }
+
+    fn skip(&self) -> Right {
+        let (tables, input) = self.plain();
+        let report = Report::of_skip(&skip(&self.settings, &tables, input, self.position));
+        let (numbers, format, input) = self.library();
+        let got = Reply::of(88, |answer| sys::skip(numbers, &format, input, self.position, answer));
+        same("skip", Reply::expected(&report, 88), got)
+    }
+
+    fn run(&self) -> Right {
+        let (tables, input) = self.plain();
+        let report = Report::of_run(&run(&self.settings, &tables, input));
+        let (numbers, format, input) = self.library();
+        let got = Reply::of(88, |answer| sys::run(numbers, &format, input, answer));
+        same("run", Reply::expected(&report, 88), got)
+    }
+
+    fn decode(&self, lent: [&mut [u8]; 2]) -> Right {
+        let [records, payload] = lent;
+        let (tables, input) = self.plain();
+        let wanted = Reply::near([records, payload], |records, payload, answer| {
+            let done = decode(&self.settings, &tables, input, self.position, records, payload);
+            Report::of_skip(&done).write_to(answer)
+        });
+        let (numbers, format, input) = self.library();
+        let got = Reply::near([records, payload], |records, payload, answer| {
+            sys::decode(numbers, &format, input, self.position, records, payload, answer)
+        });
+        same("decode", wanted, got)
+    }
+}
+
+impl Reply {
+    /// A decoding call into slices of which only the first bytes are looked at.
+    fn near(lent: [&mut [u8]; 2], call: impl FnOnce(&mut [u8], &mut [u8], &mut [u8]) -> u32) -> Self {
+        let [records, payload] = lent;
+        for (slice, from) in [&mut *records, &mut *payload].into_iter().zip(LENT_FILLING) {
+            slice.iter_mut().take(NEAR).zip(from..).for_each(|(byte, index)| *byte = filling(index));
+        }
+        let reply = Self::of(88, |answer| call(records, payload, answer));
+        let near = |slice: &[u8]| slice[..slice.len().min(NEAR)].to_vec();
+        Self { lent: Some([near(records), near(payload)]), ..reply }
+    }
+}
+
+fn same(call: &str, wanted: Reply, got: Reply) -> Right {
+    if wanted == got {
+        return Ok(1);
+    }
+    Err(format!("{call}\n  library: {}\n  plain:   {}", got.in_words(), wanted.in_words()))
+}
+
 /// How many calls were right; an error tells the first that was not. None where there is no room.
-pub fn check() -> Option<Result<u64, String>> {
-    let zeros = Zeros::new(MOST as usize + 1)?;
-    // A table whose every row is refused at its second byte, so that a run is short.
-    let (mut records, mut names) = (Vec::new(), Vec::new());
-    let block = lay_out(&table_of(&[Plan::new(15, 0)]), &mut records, &mut names);
-    let references = inline(block).to_vec();
-    let small = [&records[..], &names, &references, &[], &[0, 0, 0]];
+pub fn check() -> Option<Right> {
+    let (mut zeros, mut lent) = (Zeros::new()?, Zeros::new()?);
+    Some(all(zeros.bytes(), lent.bytes()))
+}
+
+fn all(zeros: &mut [u8], lent: &mut [u8]) -> Right {
+    Ok(read_slices(zeros)? + lent_slices(lent)? + full_slice(zeros, lent)?)
+}
+
+/// Each of the five slices that are read, with the others small.
+fn read_slices(zeros: &[u8]) -> Right {
+    // Every row of the first is refused at its tag, so that a run is short; of the other, zeros are rows.
+    let (refused, accepted) = (Column::new(&[Plan::new(15, 0)]), Column::new(&[Plan::new(8, 0)]));
     let mut right = 0;
-    for which in 0..small.len() {
-        for bytes in [MOST as usize, MOST as usize + 1] {
-            let mut slices = small;
-            slices[which] = &zeros.bytes()[..bytes];
-            for position in [0, 3, MOST, MOST + 1] {
-                if let Err(message) = one(slices, position) {
-                    return Some(Err(format!(
-                        "slice {which} of {bytes} bytes, position {position}: {message}"
-                    )));
+    for (column, runs) in [(&refused, true), (&accepted, false)] {
+        for which in 0..5 {
+            for bytes in [BOUND, BOUND + 1] {
+                for position in [0, 3, MOST - 3, MOST - 1, MOST, MOST + 1] {
+                    let mut call = Call { position, ..column.call(&[0, 0, 0]) };
+                    call.slices[which] = &zeros[..bytes];
+                    let told =
+                        |message| format!("slice {which} of {bytes} bytes, position {position}: {message}");
+                    right += call.skip().map_err(told)?;
+                    right += call.decode([&mut [0; 48], &mut [0; 5]]).map_err(told)?;
+                    right += if runs { call.run().map_err(told)? } else { 0 };
                 }
-                right += 2;
             }
         }
     }
-    Some(Ok(right))
+    Ok(right)
 }
 
-/// Both calls over five slices.
-fn one(slices: [&[u8]; 5], position: u64) -> Result<(), String> {
-    let [records, names, references, registry, input] = slices;
-    let plain = FormatTables { records, names, references, registry };
-    let format = Format { records, names, references, registry };
-    let settings = usual();
-    let numbers = Numbers {
-        node_charge: settings.node_charge,
-        max_blob_bytes: settings.max_blob_bytes,
-        max_row_bytes: settings.max_row_bytes,
-    };
-    let skipped = Report::of_skip(&skip(&settings, &plain, input, position));
-    let got = Reply::of(88, |answer| sys::skip(numbers, &format, input, position, answer));
-    same("skip", Reply::expected(&skipped, 88), got)?;
-    let ran = Report::of_run(&run(&settings, &plain, input));
-    let got = Reply::of(88, |answer| sys::run(numbers, &format, input, answer));
-    same("run", Reply::expected(&ran, 88), got)
-}
-
-fn same(call: &str, wanted: Reply, got: Reply) -> Result<(), String> {
-    if wanted == got {
-        return Ok(());
+/// Both slices that are lent, one at a time: a row, a cut one, and an end.
+fn lent_slices(lent: &mut [u8]) -> Right {
+    let column = Column::new(&[Plan::new(13, 0)]);
+    let row = [0, 0, 3, 0, 0, 0, b'a', b'b', b'c'];
+    let mut right = 0;
+    for bytes in [BOUND, BOUND + 1] {
+        for input in [&row[..], &row[..8], &[]] {
+            let call = column.call(input);
+            let told = |message| format!("{} bytes into slices of {bytes}: {message}", input.len());
+            right += call.decode([&mut lent[..bytes], &mut [0; 5]]).map_err(told)?;
+            right += call.decode([&mut [0; 48], &mut lent[..bytes]]).map_err(told)?;
+        }
     }
-    Err(format!("{call}\n  library: {}\n  plain:   {}", got.in_words(), wanted.in_words()))
+    Ok(right)
+}
+
+/// As many records as there is room for in a slice of the most bytes that count, and one more. There is no
+/// room for the payload of either row, so nothing is written.
+fn full_slice(zeros: &mut [u8], lent: &mut [u8]) -> Right {
+    let column = Column::new(&over(17, &[0, 13]));
+    let end = [1, 1, 0, 0, 0, b'x', 255];
+    let most = BOUND / 16;
+    let mut right = 0;
+    for records in [most, most + 1] {
+        // Besides the empty elements: the root, the list, and its last element, which has the payload.
+        let elements = records - 3;
+        zeros[2 + elements..][..end.len()].copy_from_slice(&end);
+        let settings = Settings { node_charge: 1, max_row_bytes: MOST, ..usual() };
+        let call = Call { settings, ..column.call(&zeros[..2 + elements + end.len()]) };
+        for bytes in [BOUND, BOUND + 1] {
+            let told = |message| format!("{records} records into {bytes} bytes: {message}");
+            right += call.decode([&mut lent[..bytes], &mut []]).map_err(told)?;
+        }
+        zeros[2 + elements..][..end.len()].fill(0);
+    }
+    Ok(right)
 }

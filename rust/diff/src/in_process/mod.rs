@@ -7,7 +7,8 @@ use std::collections::BTreeSet;
 use std::fmt;
 
 use plain::answer::number::{NO_NODE_ROOM, NO_PAYLOAD_ROOM};
-use plain::report::{what, Report};
+use plain::report::Report;
+use plain::settings::Settings;
 use skiff::sys::{self, Numbers};
 use skiff::Format;
 
@@ -15,7 +16,6 @@ use crate::case::{op, Case};
 use crate::compare::{Expected, Tally};
 use crate::generate::{rows, Kind};
 use crate::judge::{line, plain_report};
-use crate::original;
 use crate::rng::Rng;
 use crate::room::Room;
 
@@ -30,6 +30,10 @@ fn filling(index: usize) -> u8 {
     (index as u8).wrapping_mul(37) ^ 0xA5
 }
 
+/// The filling of the record slice and of the payload slice begins so far on: neither starts as the answer
+/// slice does, or as the other.
+const LENT_FILLING: [usize; 2] = [7, 77];
+
 /// What a call left: its number, its whole answer slice, and what a decoding one was lent besides.
 #[derive(Debug, Clone, PartialEq, Eq)]
 pub struct Reply {
@@ -39,12 +43,15 @@ pub struct Reply {
     pub lent: Option<[Vec<u8>; 2]>,
 }
 
+fn numbers(settings: Settings) -> Numbers {
+    let Settings { node_charge, max_blob_bytes, max_row_bytes } = settings;
+    Numbers { node_charge, max_blob_bytes, max_row_bytes }
+}
+
 /// A case's numbers and format as the library takes them.
 fn given(case: &Case) -> (Numbers, Format<'_>) {
-    let Case { node_charge, max_blob_bytes, max_row_bytes, .. } = *case;
     let Case { records, names, references, registry, .. } = case;
-    let numbers = Numbers { node_charge, max_blob_bytes, max_row_bytes };
-    (numbers, Format { records, names, references, registry })
+    (numbers(case.settings()), Format { records, names, references, registry })
 }
 
 impl Reply {
@@ -60,13 +67,14 @@ impl Reply {
         Self::of(answer_bytes, |answer| report.write_to(answer))
     }
 
-    pub fn of_library(case: &Case, answer_bytes: usize) -> Self {
+    /// What the library's skip or run leaves of a case.
+    fn of_library(op: u32, case: &Case, answer_bytes: usize) -> Self {
         let (numbers, format) = given(case);
         let input = &case.input;
-        Self::of(answer_bytes, |answer| match case.op {
+        Self::of(answer_bytes, |answer| match op {
             op::SKIP => sys::skip(numbers, &format, input, case.a, answer),
             op::RUN => sys::run(numbers, &format, input, answer),
-            other => panic!("not a reading operation: {other}"),
+            other => panic!("neither skip nor run: {other}"),
         })
     }
 
@@ -105,18 +113,28 @@ impl Reply {
     }
 }
 
-/// A case with the length of its answer slice.
+/// A case with the length of its answer slice and, of a decoding one, the room in what it is lent.
 #[derive(Debug, Clone)]
 pub struct Asked {
     pub case: Case,
     pub answer_bytes: usize,
+    room: Room,
+}
+
+impl Asked {
+    fn new(case: Case, answer_bytes: usize, room: Room) -> Self {
+        Self { case: room.lend(case), answer_bytes, room }
+    }
+
+    /// The same with another case.
+    pub fn about(&self, case: Case) -> Self {
+        Self::new(case, self.answer_bytes, self.room)
+    }
 }
 
 /// What both readings say of a case, and what the library did.
 pub struct Verdict {
     pub expected: Expected,
-    /// The plain reading and the original say the same.
-    pub readings_agree: bool,
     /// The library's skip answers as its decoding did.
     pub as_skipped: bool,
     pub wanted: Reply,
@@ -125,20 +143,19 @@ pub struct Verdict {
 
 impl Verdict {
     pub fn of(asked: &Asked) -> Self {
-        let Asked { case, answer_bytes } = asked;
+        let Asked { case, answer_bytes, .. } = asked;
         if case.op == op::DECODE {
             return decoding::verdict(asked);
         }
         let report = plain_report(case);
-        let plain = line(case.op, &report);
-        let expected = Expected { plain, original: original::ask(case, &plain) };
+        let expected = Expected::with(case, line(case.op, &report));
         let wanted = Reply::expected(&report, *answer_bytes);
-        let got = Reply::of_library(case, *answer_bytes);
-        Self { readings_agree: expected.is_one(), as_skipped: true, expected, wanted, got }
+        let got = Reply::of_library(case.op, case, *answer_bytes);
+        Self { expected, as_skipped: true, wanted, got }
     }
 
     pub fn is_good(&self) -> bool {
-        self.readings_agree && self.as_skipped && self.wanted == self.got
+        self.expected.is_one() && self.as_skipped && self.wanted == self.got
     }
 }
 
@@ -183,25 +200,12 @@ struct Run {
 impl Run {
     /// The case itself, and the row that it skips, or one of those that it runs over, decoded.
     fn take(&mut self, kind: Kind, case: Case) {
-        let number = self.tallies.reading.cases;
-        let report = plain_report(&case);
-        self.ask(kind, case.clone());
-        let position = match case.op {
-            op::SKIP => case.a,
-            // The first row, or what the run stops at.
-            _ if number % 4 < 2 => 0,
-            _ => report.bytes,
-        };
-        // A run's numbers and those of its rows are not to go in step.
-        let turn = number / 2 + number / 168;
-        let decoding = Case { op: op::DECODE, a: position, b: Room::any(turn), ..case };
-        if plain_report(&decoding).what == what::ROW {
-            self.ask(kind, Case { b: Room::enough(turn), ..decoding.clone() });
-        }
-        self.ask(kind, decoding);
+        let decodings = rows::decoding::calls(self.tallies.reading.cases, &case);
+        self.ask(kind, case, Room::EXACT);
+        decodings.into_iter().for_each(|(case, room)| self.ask(kind, case, room));
     }
 
-    fn ask(&mut self, kind: Kind, case: Case) {
+    fn ask(&mut self, kind: Kind, case: Case, room: Room) {
         if self.found.is_some() {
             return;
         }
@@ -210,7 +214,7 @@ impl Run {
             _ => &mut self.tallies.reading,
         };
         let answer_bytes = ANSWER_BYTES[tally.cases as usize % ANSWER_BYTES.len()];
-        let asked = Asked { case, answer_bytes };
+        let asked = Asked::new(case, answer_bytes, room);
         let verdict = Verdict::of(&asked);
         if verdict.is_good() {
             tally.add(kind, &verdict.expected);

@@ -115,31 +115,31 @@ fn is_cut_in_a_long_blob(case: &Case, plain: &Answer) -> bool {
     u64::from(u32::from_le_bytes(field.try_into().expect("four bytes"))) > LONGEST_BLOB
 }
 
-/// What `next_row` says of the row at the case's position, and the row that it gives. `plain` is the plain
-/// reading's answer where there is room; none outside of the domain, as in `ask`.
-pub fn decode(case: &Case, plain: &Answer) -> Option<(Said, Option<ValueTable>)> {
-    if (1..=3).contains(&plain.number) || case.node_charge != node_charge() {
+/// What `next_row` says of the row at the case's position, with the row that it gives; none outside of the
+/// domain, as in `ask`.
+pub fn decode(case: &Case, plain: &Answer) -> Option<Said> {
+    if case.node_charge != node_charge() {
         return None;
     }
     if is_cut_in_a_long_blob(case, plain) {
-        return ask(case).map(|said| (said, None));
+        return ask(case);
     }
     let format = match format(case)? {
         Ok(format) => format,
-        Err(error) => return Some((refused(case, error), None)),
+        Err(error) => return Some(refused(case, error)),
     };
     let from = &case.input[case.a as usize..];
     let rest = Cell::new(from);
     Some(match decoder(case, format, &rest).next_row() {
-        Ok(None) => (Said::accepted(), None),
+        Ok(None) => Said::accepted(),
         Ok(Some((table, row))) => {
             let bytes = from.len() - rest.get().len();
             let mut flat = ValueTable::default();
             flatten(&row, 0, &mut flat);
             let values = [bytes, flat.records.len() / 16, flat.payload.len()].map(|value| value as u64);
-            (Said { table: Some(table as u64), ..Said::new(0, values) }, Some(flat))
+            Said { table: Some(table as u64), row: Some(flat), ..Said::new(0, values) }
         }
-        Err(error) => (row_refused(case, error), None),
+        Err(error) => row_refused(case, error),
     })
 }
 

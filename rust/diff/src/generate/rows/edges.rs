@@ -4,9 +4,10 @@
 use plain::settings::{Settings, MOST, MOST_NODE_CHARGE};
 
 use super::usual;
+use super::values::DOUBLES;
 use crate::case::{op, Case};
 use crate::generate::{Emit, Kind};
-use crate::plan::{chain, fan, inline, lay_out, put_name, table_of, words, Plan};
+use crate::plan::{chain, fan, inline, lay_out, over, put_name, table_of, words, Plan};
 
 const KIND: Kind = "reading edge";
 
@@ -40,7 +41,7 @@ fn read(format: &Case, input: &[u8], emit: &mut Emit) {
 }
 
 /// The row of schema A that has everything.
-const FULL: [u8; 10] = [0, 0, 0x25, 1, 2, 0, 0, 0, 0xD1, 0xC5];
+pub const FULL: [u8; 10] = [0, 0, 0x25, 1, 2, 0, 0, 0, 0xD1, 0xC5];
 
 fn document_rows(emit: &mut Emit) {
     let a = format(&[schema_a()]);
@@ -229,6 +230,28 @@ fn scalars(emit: &mut Emit) {
     }
 }
 
+/// One column, and values of it that a value table keeps in a way of its own: a boolean by its truth, a
+/// double by its bits, wide integers and blobs as payload, an element of a list with its tag.
+fn kept_values(emit: &mut Emit) {
+    let leaf = |code: u8| vec![Plan::new(code, 0)];
+    let numbered = |count: u8| (1..=count).collect();
+    let mut rows: Vec<(Vec<Plan>, Vec<u8>)> = vec![
+        (leaf(1), vec![2]),
+        (leaf(6), numbered(16)),
+        (leaf(7), numbered(32)),
+        (leaf(13), vec![0; 4]),
+        (leaf(13), vec![2, 0, 0, 0, b'h', b'i']),
+        (leaf(14), vec![1, 0, 0, 0, b'#']),
+        (over(16, &[6, 13]), vec![1, 0, 1, 0, 0, 0, b'x']),
+        (over(17, &[1, 2]), vec![1, 0x80, 0, 2, 0, 0, 255]),
+        (over(18, &[0, 13]), vec![1, 0, 1, 0, 0, 0, b'y', 0, 0, 255, 255]),
+    ];
+    rows.extend(DOUBLES.map(|bits| (leaf(12), bits.to_le_bytes().to_vec())));
+    for (column, value) in rows {
+        read(&format(&[table_of(&column)]), &[&[0, 0], &value[..]].concat(), emit);
+    }
+}
+
 /// Counts that pass 16 bits, and a cost that passes 32: many rows, many nodes, much payload.
 fn large(emit: &mut Emit) {
     let empty = format(&[vec![Plan::new(19, 0)]]);
@@ -274,11 +297,14 @@ pub fn fixed(emit: &mut Emit) {
     many_tables(emit);
     large(emit);
     scalars(emit);
+    kept_values(emit);
 }
 
-/// What a sample has to have, whatever else is in it: document 01's rows, and the bounds of a schema.
+/// What a sample has to have, whatever else is in it: document 01's rows, the bounds of the settings and of
+/// a schema, and values of each form.
 pub fn few(emit: &mut Emit) {
     document_rows(emit);
+    kept_values(emit);
     bounds(emit);
     format_bounds(emit);
     deep(63, 17, emit);

@@ -6,7 +6,7 @@ use super::usual;
 use crate::case::{op, Case};
 use crate::generate::exhaustive::each_choice;
 use crate::generate::{Emit, Kind};
-use crate::plan::{inline, lay_out, Plan};
+use crate::plan::{inline, lay_out, over, Plan};
 
 const KIND: Kind = "all short streams";
 
@@ -14,11 +14,6 @@ const KIND: Kind = "all short streams";
 fn columns() -> Vec<Vec<Plan>> {
     let leaf = |code| vec![Plan::new(code, 0)];
     let mut columns: Vec<Vec<Plan>> = (0..20).map(leaf).collect();
-    let over = |code: u8, children: &[u8]| {
-        let mut plans = vec![Plan::new(code, children.len() as u32)];
-        plans.extend(children.iter().map(|child| Plan::new(*child, 0)));
-        plans
-    };
     let (nothing, boolean, int8, int16, uint8, string) = (0, 1, 2, 3, 8, 13);
     columns.extend([
         over(15, &[nothing, uint8]),

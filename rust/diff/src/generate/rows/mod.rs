@@ -1,6 +1,7 @@
 //! Cases of the reading calls: fixed ones, and random ones to fill a run up.
 
 pub mod damage;
+pub mod decoding;
 pub mod edges;
 pub mod exhaustive;
 pub mod limits;

@@ -44,6 +44,22 @@ const SHORT: Taste = Taste {
     tag: Rng::below,
 };
 
+/// Doubles that are not kept where they go through a float or are told apart by comparing: quiet and
+/// signalling NaNs of either sign, infinities, a negative zero, the smallest and the largest subnormal.
+pub const DOUBLES: [u64; 11] = [
+    0x7FF8_0000_0000_0000,
+    0xFFF8_0000_0000_0001,
+    0x7FFF_FFFF_FFFF_FFFF,
+    0x7FF0_0000_0000_0001,
+    0x7FF4_0000_0000_0000,
+    0xFFF7_FFFF_FFFF_FFFF,
+    0x7FF0_0000_0000_0000,
+    0xFFF0_0000_0000_0000,
+    0x8000_0000_0000_0000,
+    0x0000_0000_0000_0001,
+    0x800F_FFFF_FFFF_FFFF,
+];
+
 /// So many nodes are written before lists are kept empty.
 const MANY_NODES: u64 = 200;
 
@@ -82,6 +98,10 @@ impl Writer<'_> {
                 self.tag(record.code, 65_535);
             }
             19 => (0..record.child_count).for_each(|offset| self.node(record.first_child + offset)),
+            12 if self.rng.one_in(2) => {
+                let bits = self.rng.pick(&DOUBLES);
+                self.out.extend(bits.to_le_bytes());
+            }
             code => {
                 let width = fixed_width(u64::from(code)).expect("the rest have a fixed width");
                 for _ in 0..width {
@@ -198,5 +218,14 @@ mod tests {
             }
         }
         assert!(accepted > 3_000, "{accepted}");
+    }
+    #[test]
+    fn every_double_is_drawn() {
+        let mut left = DOUBLES.map(u64::to_le_bytes).to_vec();
+        for number in 0..3_000 {
+            let (case, _) = good(&mut Rng::for_case(5, number));
+            left.retain(|bytes| !case.input.windows(8).any(|window| window == bytes));
+        }
+        assert!(left.is_empty(), "{left:02x?}");
     }
 }

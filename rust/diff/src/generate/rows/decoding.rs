@@ -1,0 +1,53 @@
+//! Decoding calls, made of the cases of skip and run.
+
+use super::edges;
+use crate::case::{op, Case};
+use crate::generate::Emit;
+use crate::judge::plain_report;
+use crate::room::{need, Room, Slack};
+
+/// Where the row stands that a case skips; of a run, the first row or what it stops at.
+fn position(number: u64, case: &Case) -> u64 {
+    match case.op {
+        op::SKIP => case.a,
+        _ if number % 4 < 2 => 0,
+        _ => plain_report(case).bytes,
+    }
+}
+
+/// The call with any room and, where the row is accepted, before it one with room enough. `number` is the
+/// case's own, by which rows and rooms come round.
+pub fn calls(number: u64, case: &Case) -> Vec<(Case, Room)> {
+    let decoding = Case { op: op::DECODE, a: position(number, case), ..case.clone() };
+    // A run's numbers and those of its rooms are not to go in step.
+    let turn = number / 2 + number / 168;
+    let roomy = need(&decoding).map(|_| (decoding.clone(), Room::enough(turn)));
+    roomy.into_iter().chain([(decoding, Room::any(turn))]).collect()
+}
+
+/// Just enough, and one byte less or some bytes more of either slice.
+const FEW_ROOMS: [Room; 4] = [
+    Room::EXACT,
+    Room { records: Slack::Less(1), payload: Slack::More(0) },
+    Room { records: Slack::More(15), payload: Slack::Less(1) },
+    Room { records: Slack::More(15), payload: Slack::More(1) },
+];
+
+/// The rows that a sample has to have, each as the first of its input, in few rooms. Those of a format with
+/// more than `longest` bytes have value tables as long, and are left out.
+pub fn few(longest: usize, emit: &mut Emit) {
+    edges::few(&mut |kind, case| {
+        if case.op != op::SKIP || case.a > 0 {
+            return;
+        }
+        let bytes = case.bytes();
+        let decoding = Case { op: op::DECODE, ..case };
+        let rooms = match need(&decoding) {
+            Some(_) if bytes > longest => &[],
+            Some(_) => &FEW_ROOMS[..],
+            // Without a row one room is as good as another.
+            None => &FEW_ROOMS[..1],
+        };
+        rooms.iter().for_each(|room| emit(kind, room.lend(decoding.clone())));
+    });
+}
