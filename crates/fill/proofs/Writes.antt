@@ -1,4 +1,4 @@
--- Laws of what is written: a number in two halves, a record by its fields, and a copy turn by turn.
+-- Laws of what is written: a record by its fields, and a copy turn by turn.
 -- Assumes nothing.
 use Prim.Native.Nat.{ℕ, suc, _+_, _-_, _/_, _%_, _≤_, _<_}
 use mathlib.Core.Path.{_≡_, refl, ap, _∙_}
@@ -12,23 +12,6 @@ use Rattle.rules.specs.ValueTable.{valueRecord}
 use Rattle.rules.proofs.Over.{over-at}
 use Rattle.rules.proofs.Stands.{length-le}
 use Rattle.wire.proofs.Parts.{part-step, part-end}
-
--- a number in two halves
-pub le-two : (x : ℕ) → le 4 x ≡ le 2 x ++ le 2 (x / 65536)
-unfolding le
-le-two x =
-    let e : x / 256 / 256 ≡ x / 65536 = omega arith in
-    rw e
-
-pub le-four : (x : ℕ) → le 8 x ≡ le 4 x ++ le 4 (x / 4294967296)
-unfolding le
-le-four x =
-    let e : x / 256 / 256 / 256 / 256 ≡ x / 4294967296 = omega arith in
-    rw e
-
--- two halves, one after the other
-pub halves : (s s′ s″ : List ℕ) (at n : ℕ) (a b all : List ℕ) → all ≡ a ++ b → length a ≡ n → s′ ≡ over s at a → s″ ≡ over s′ (at + n) b → s″ ≡ over s at all
-halves s s′ s″ at n a b all e l p q = rw (q, p, e, ← l) (over-at a b s at (at + length a) refl)
 
 -- a byte and a zero, as a number in two bytes
 byte-zero : (x : ℕ) → x < 256 → le 2 x ≡ x ∷ 0 ∷ []

@@ -7,12 +7,12 @@ ghost use Rattle.rules.specs.Bytes.{over};
 ghost use Rattle.rules.specs.Reading.{skipRule, runRule, ranOf, decodeRule};
 ghost use Rattle.schema.specs.Slices.{slices};
 ghost use Rattle.skiff.specs.Answers.{words, layout, fine, none, ofRead, ofRan, leaves, returned, kept, settingsOf};
-use fill::writer::put64;
 use rules::Extent;
 use rules::Read;
 use rules::Report;
 use rules::Settings;
 use rules::Stop;
+use wire::store::put64;
 
 // The bytes of an answer.
 const ANSWER: usize = 88;

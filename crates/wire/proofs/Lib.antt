@@ -1,5 +1,6 @@
 pub mod Parts
 pub mod Fields
+pub mod Halves
 pub mod Codes
 pub mod Names
 pub mod Theorems

@@ -6,6 +6,9 @@ ghost use Rattle.rules.specs.Bytes.{leAt, part, order, isEqual};
 ghost use Rattle.rules.specs.Names.{nameOf, parsed};
 ghost use Rattle.wire.specs.Table.{Spells};
 ghost use Rattle.rules.specs.Wire.{typeOf, codeOf, form, fixedWidth, maximum};
+
+pub mod store;
+
 use rules::Children;
 use rules::Known;
 use rules::Order;

@@ -3,8 +3,8 @@ use native.Mathlib.Omega.{arith}
 use lib.ListN.{length-set}
 use mathlib.Core.Path.{refl}
 use Rattle.rules.specs.Bytes.{le, over}
-use Rattle.fill.proofs.writer.put16.Statement.{statement}
-use Rattle.fill.proofs.writer.put16.Tie as tie
+use Rattle.wire.proofs.store.put16.Statement.{statement}
+use Rattle.wire.proofs.store.put16.Tie as tie
 
 cast-s : tie.Need-cast-s
 cast-s c = search needs

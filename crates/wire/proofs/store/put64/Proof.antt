@@ -1,8 +1,8 @@
 use borrow.Author.Needs.{needs}
-use Rattle.fill.proofs.Writes.{le-four, halves}
+use Rattle.wire.proofs.Halves.{le-four, halves}
 use Rattle.rules.proofs.Stands.{length-le}
-use Rattle.fill.proofs.writer.put64.Statement.{statement}
-use Rattle.fill.proofs.writer.put64.Tie as tie
+use Rattle.wire.proofs.store.put64.Statement.{statement}
+use Rattle.wire.proofs.store.put64.Tie as tie
 
 put32-requires : tie.Need-put32-requires
 put32-requires c κs = search needs

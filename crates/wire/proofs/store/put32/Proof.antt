@@ -1,8 +1,8 @@
 use borrow.Author.Needs.{needs}
-use Rattle.fill.proofs.Writes.{le-two, halves}
+use Rattle.wire.proofs.Halves.{le-two, halves}
 use Rattle.rules.proofs.Stands.{length-le}
-use Rattle.fill.proofs.writer.put32.Statement.{statement}
-use Rattle.fill.proofs.writer.put32.Tie as tie
+use Rattle.wire.proofs.store.put32.Statement.{statement}
+use Rattle.wire.proofs.store.put32.Tie as tie
 
 put16-requires : tie.Need-put16-requires
 put16-requires c κs = search needs
