@@ -2,11 +2,13 @@
 ghost use Prim.Native.Nat.{_+_, _-_, _≤_};
 ghost use mathlib.Core.Path.{_≡_};
 ghost use lib.ListN.{length};
+ghost use Rattle.rules.specs.Choice.{pick};
 ghost use Rattle.rules.specs.Bytes.{part, over};
 ghost use Rattle.rules.specs.Reading.{defaults, runRule, ranOf};
 ghost use Rattle.rules.specs.Windows.{moved as Windows·moved, Inside, goesOn, added};
 ghost use Rattle.schema.specs.Slices.{slices};
 ghost use Rattle.delivery.specs.Bounds.{Laid, Counted, Further};
+ghost use Rattle.delivery.specs.Steps.{cut, tables, TakesIn};
 use crate::file::probe;
 use rules::Ran;
 use rules::Refusal;
@@ -120,6 +122,7 @@ fn bring(space: &mut [u8], from: usize, to: usize, n: usize)
 // The run over the space's window, which lies behind the tables that end at x, y, z and w.
 fn run_window(before: Ran, space: &[u8], x: usize, y: usize, z: usize, w: usize, end: usize) -> Ran
     requires { ⌜ Laid x y z w end (length (now space)) × Counted before (end - w) ⌝ }
+    ensures { λ r. ⌜ r ≡ added before (ranOf (runRule (tables (now (space .entry)) x y z w) defaults (cut (now (space .entry)) w end))) ⌝ }
     ensures { λ r. ⌜ Further before r (end - w) ⌝ }
 {
     run_on(
@@ -135,7 +138,7 @@ fn run_window(before: Ran, space: &[u8], x: usize, y: usize, z: usize, w: usize,
 // How many bytes of a window, from a place on, may still become rows.
 fn unread(stop: Stop, from: usize, end: usize) -> usize
     requires { ⌜ from ≤ end ⌝ }
-    ensures { λ r. ⌜ from + r ≤ end ⌝ }
+    ensures { λ r. ⌜ (r ≡ pick (goesOn stop) (end - from) 0) × (from + r ≤ end) ⌝ }
 {
     if goes_on(stop) { end - from } else { 0 }
 }
@@ -157,6 +160,7 @@ fn take_in(
     end: usize,
 ) -> Reading
     requires { ⌜ Laid x y z w end (length (now space)) × Counted ran (end - w) ⌝ }
+    ensures { λ r. ⌜ TakesIn (tables (now (space .entry)) x y z w) ran (cut (now (space .entry)) w end) (r .ran) (cut (now (space .exit)) w (r .end)) ⌝ }
     ensures { λ r. ⌜ (w ≤ r .end) × (r .end ≤ end) × (r .ran .rows ≤ r .ran .bytes) × (r .ran .bytes + (r .end - w) ≤ ran .bytes + (end - w)) ⌝ }
 {
     let stop = ran.stop;

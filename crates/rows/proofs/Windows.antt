@@ -127,13 +127,17 @@ module _ (f : Format) (lim : Limits) where
 abbrev runOver : Format → Limits → List ℕ → Run
 runOver f lim inp = runFrom f inp lim (suc (length inp)) 0
 
+-- the first of some bytes are bytes
+pub bytes-front : (s more : List ℕ) → Bytes (s ++ more) → Bytes s
+bytes-front s more bs i = by (ltb i (length s)) refl
+  where
+    by : (b : Bool) → ltb i (length s) ≡ b → getD s i 0 < 256
+    by true e = rw (List·getD-append s more 0 i (ltb-true _ _ e)) at (bs i)
+    by false e = rw (List·getD-eq-default s 0 {n = i} (ltb-false _ _ e)) (omega arith)
+
 module _ (f : Format) (lim : Limits) (inp more : List ℕ) (bs : Bytes (inp ++ more)) where
   front : Bytes inp
-  front i = by (ltb i (length inp)) refl
-    where
-      by : (b : Bool) → ltb i (length inp) ≡ b → getD inp i 0 < 256
-      by true e = rw (List·getD-append inp more 0 i (ltb-true _ _ e)) at (bs i)
-      by false e = rw (List·getD-eq-default inp 0 {n = i} (ltb-false _ _ e)) (omega arith)
+  front = bytes-front inp more bs
 
   rows-first : Iterates f inp lim 0 (runOver f lim inp .rows) (runOver f lim inp .stop)
   rows-first = run-iterates f inp lim front (suc (length inp)) 0 (omega arith) (omega arith)
