@@ -78,3 +78,12 @@ pub fn write_run(ran: Ran) {
         Stop::Refused(why) => write_refusal(why, ran.rows, ran.bytes),
     }
 }
+
+// The start of a line about a file: the row at a place does not end within the room that there is.
+pub fn write_no_room(place: u64, room: usize) {
+    say(b"the row at ");
+    say_number(place);
+    say(b" does not end within the ");
+    say_number(room as u64);
+    say(b" bytes that the tables leave: ");
+}

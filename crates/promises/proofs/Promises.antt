@@ -6,7 +6,7 @@ use mathlib.Core.Path.{_≡_, sym, _∙_}
 use mathlib.Core.Bool.{Bool}
 use mathlib.Core.List.{List, _++_, map}
 use mathlib.Core.Logic.{_↔_}
-use lib.ListN.{length}
+use lib.ListN.{length, drop}
 use Rattle.rules.specs.Bytes.{Bytes}
 use Rattle.rules.specs.Schema.{Schema, deep}
 use Rattle.rules.specs.Block.{records, block, blockTree, Denotes, Formed, blockOk, Ordered}
@@ -16,7 +16,8 @@ use Rattle.rules.specs.Value.{Value, Fits}
 use Rattle.rules.specs.ValueTable.{TableOf, Whole, tableValue, flat, pays}
 use Rattle.rules.specs.Grammar.{Row, Conforms, encodedRow}
 use Rattle.rules.specs.Walk.{Limits, Pos, Got, Refused}
-use Rattle.rules.specs.Reading.{limits, rowAt, schemaOf, Accepts, skipRule, decodeRule, runFrom}
+use Rattle.rules.specs.Reading.{limits, rowAt, schemaOf, Accepts, skipRule, decodeRule, runFrom, runRule, byteCount, ranOf}
+use Rattle.rules.specs.Windows.{movedAnswer, WasCut, goesOn, continued, added}
 use Rattle.rules.specs.Writing.{encodeRule}
 use Rattle.rules.specs.declared.Settings.{Settings}
 use Rattle.rules.specs.declared.Refusal.{Refusal}
@@ -31,10 +32,12 @@ use Rattle.blocks.proofs.Good.{GoodSchema, GoodTable, schema-accepts, encoder-a
 use Rattle.blocks.proofs.Formats.{GoodFormat, format-accepts}
 use Rattle.blocks.proofs.Tables.{TableSchema, table-schema}
 use Rattle.rows.proofs.Only.{unambiguous}
-use Rattle.rows.proofs.TableRows.{row-agrees, row-stays}
+use Rattle.rows.proofs.TableRows.{row-agrees}
 use Rattle.rows.proofs.Refused.{RowReason, row-honest}
 use Rattle.rows.proofs.Decoding.{SameButRoom, skip-decode, Leaves, decode-leaves, accepts-conforms}
 use Rattle.rows.proofs.Running.{Iterates, run-iterates}
+use Rattle.rows.proofs.Parts.{row-stays, row-moves}
+use Rattle.rows.proofs.Windows as windows
 use Rattle.values.proofs.Parse.{ends}
 use Rattle.values.proofs.Flat.{one-value}
 use Rattle.values.proofs.Flat as values
@@ -90,13 +93,32 @@ reading-is-the-grammar = row-agrees
 pub refusals-are-honest : (f : Format) (inp : List ℕ) (lim : Limits) (at : ℕ) → formatRules f ≡ Accepted → Bytes inp → at ≤ length inp → (r : Refusal) → rowAt f inp lim at ≡ Refused r → RowReason f inp lim at r
 refusals-are-honest = row-honest
 
--- bytes after a row do not matter to it
-pub bytes-after : (f : Format) (inp more : List ℕ) (lim : Limits) (at : ℕ) → Bytes inp → at ≤ length inp → (t : ℕ) (v : Value) (q : Pos) → rowAt f inp lim at ≡ Got (t, v) q → rowAt f (inp ++ more) lim at ≡ Got (t, v) q
+-- bytes after a row do not matter to it, unless it was cut (12)
+pub bytes-after : (f : Format) (inp more : List ℕ) (lim : Limits) (at : ℕ) → at ≤ length inp → (WasCut (rowAt f inp lim at) → ⊥) → rowAt f (inp ++ more) lim at ≡ rowAt f inp lim at
 bytes-after = row-stays
+
+-- nor do bytes before it: a row n bytes further on is the row of the stream without its first n bytes, its places moved by n
+pub bytes-before : (f : Format) (inp : List ℕ) (lim : Limits) (n at : ℕ) → n ≤ length inp → at ≤ length (drop n inp) → rowAt f inp lim (at + n) ≡ movedAnswer n (rowAt f (drop n inp) lim at)
+bytes-before = row-moves
 
 -- the run is skip iterated
 pub run-is-skip-iterated : (f : Format) (inp : List ℕ) (lim : Limits) → Bytes inp → (enough at : ℕ) → at ≤ length inp → length inp - at < enough → Iterates f inp lim at (runFrom f inp lim enough at .rows) (runFrom f inp lim enough at .stop)
 run-is-skip-iterated = run-iterates
+
+-- A stream may be read in windows. Where the run over its first bytes ended or was cut (12), the run over all is those rows and then
+-- the run over what is left after them; where it was refused by another number, that is the run over all.
+pub run-in-windows : (f : Format) (s : Settings) (inp more : List ℕ) → Bytes (inp ++ more) → length (inp ++ more) ≤ 4294967295 →
+    goesOn (runRule f s inp .stop) ≡ Bool.true → runRule f s (inp ++ more) ≡ continued (runRule f s inp) (runRule f s (drop (byteCount (runRule f s inp .rows)) (inp ++ more)))
+run-in-windows = windows.run-in-windows
+
+pub refused-in-windows : (f : Format) (s : Settings) (inp more : List ℕ) → Bytes (inp ++ more) → length (inp ++ more) ≤ 4294967295 →
+    goesOn (runRule f s inp .stop) ≡ Bool.false → runRule f s (inp ++ more) ≡ runRule f s inp
+refused-in-windows = windows.refused-in-windows
+
+-- in counts: what was counted before a window, and what is counted in it
+pub counts-in-windows : (f : Format) (s : Settings) (inp more : List ℕ) → Bytes (inp ++ more) → length (inp ++ more) ≤ 4294967295 →
+    goesOn (ranOf (runRule f s inp) .stop) ≡ Bool.true → ranOf (runRule f s (inp ++ more)) ≡ added (ranOf (runRule f s inp)) (ranOf (runRule f s (drop (ranOf (runRule f s inp) .bytes) (inp ++ more))))
+counts-in-windows = windows.ran-in-windows
 
 -- ---- value tables: records and payload are the table of one value at most, and the rule finds it
 pub value-tables : (r y : List ℕ) (v : Value) → length r ≤ 4294967295 → (tableValue r y ≡ Whole v (ends r y)) ↔ TableOf v r y

@@ -9,3 +9,5 @@ pub mod TableRows
 pub mod Decoding
 pub mod Running
 pub mod Refused
+pub mod Parts
+pub mod Windows

@@ -1,4 +1,4 @@
--- A row at a place of a stream is read just if it stands there, within the limits; and the bytes after it do not matter.
+-- A row at a place of a stream is read just if it stands there, within the limits.
 -- Assumes nothing.
 use Prim.Native.Nat.{ℕ, zero, suc, _+_, _-_, _*_, _^_, _≤_, _<_, max}
 use mathlib.Core.Path.{_≡_, refl, sym, ap, _∙_}
@@ -8,7 +8,7 @@ use mathlib.Core.List.{List, [], _∷_, _++_}
 use native.Mathlib.Omega.{arith}
 use borrow.Author.Tests.{ltb-true}
 use lib.Dec.{ltb}
-use lib.ListN.{length, length-append, List·getD-append}
+use lib.ListN.{length}
 use Rattle.rules.specs.Choice.{pick}
 use Rattle.rules.specs.Bytes.{le, Stands, Bytes}
 use Rattle.rules.specs.Wire.{form, writtenIf, typeOf, typeIn, wireTypes}
@@ -102,17 +102,3 @@ module _ (f : Format) (inp : List ℕ) (lim : Limits) (at : ℕ) where
         afford = omega (arith, a .span .left);
         ends = pos-eq q (after lim v (length (a .bytes)) (start lim at)) (a .span .at) (omega (arith, a .span .left)) (a .span .records) (a .span .payload);
       }
-
--- ---- bytes after a row
-
-stands-on : (s more : List ℕ) (at : ℕ) (xs : List ℕ) → Stands s at xs → Stands (s ++ more) at xs
-unfolding Stands
-stands-on s more at [] h = omega (arith, length-append s more)
-stands-on s more at (x ∷ xs) h = ((omega (arith, length-append s more), List·getD-append s more 0 at (h .0 .0) ∙ h .0 .1), stands-on s more (at + 1) xs (h .1))
-
--- bytes after an accepted row change nothing
-pub row-stays : (f : Format) (inp more : List ℕ) (lim : Limits) (at : ℕ) → Bytes inp → at ≤ length inp → (t : ℕ) (v : Value) (q : Pos) → rowAt f inp lim at ≡ Got (t, v) q → rowAt f (inp ++ more) lim at ≡ Got (t, v) q
-row-stays f inp more lim at bs h t v q e =
-    let a = row-agrees f inp lim at bs h t v q .0 e in
-    row-accepts f (inp ++ more) lim at
-    (record { bytes = a .bytes; is = a .is; stands = stands-on inp more at (a .bytes) (a .stands); within = a .within; afford = a .afford; ends = a .ends })

@@ -12,4 +12,5 @@ pub mod ValueTable
 pub mod Grammar
 pub mod Walk
 pub mod Reading
+pub mod Windows
 pub mod Writing
