@@ -1,3 +1,4 @@
 pub mod Moves
 pub mod Bringing
 pub mod Steps
+pub mod Streams

@@ -44,7 +44,7 @@ module _ (f : Format) (ran : Ran) (window : List ℕ) where
 
 -- ---- what is left, brought to the window's front
 
-drop-take : (k m : ℕ) (s : List ℕ) → drop k (take m s) ≡ take (m - k) (drop k s)
+pub drop-take : (k m : ℕ) (s : List ℕ) → drop k (take m s) ≡ take (m - k) (drop k s)
 drop-take zero m s = let e : m - 0 ≡ m = omega arith in rw e
 drop-take (suc k) zero s = let e : 0 - suc k ≡ 0 = omega arith in rw e
 drop-take (suc k) (suc m) [] = sym (take-all (suc m - suc k) [] (omega arith))

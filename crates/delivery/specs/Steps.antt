@@ -11,6 +11,8 @@ use Rattle.rules.specs.Reading.{defaults, runRule, ranOf}
 use Rattle.rules.specs.Windows.{goesOn}
 use Rattle.rules.specs.declared.Ran.{Ran}
 use Rattle.schema.specs.Slices.{slices}
+use Rattle.delivery.specs.declared.window.Outcome.{Outcome}
+use Rattle.delivery.specs.declared.window.Outcome.the-variants.{Told, NoRoom, Unreadable}
 
 -- the bytes of a list from one place up to another
 abbrev pub cut : List ℕ → ℕ → ℕ → List ℕ
@@ -31,3 +33,22 @@ unfoldable pub TakesIn : Format → Ran → List ℕ → Ran → List ℕ → Ty
 TakesIn f ran window next left =
     (stream more before : List ℕ) → RunsOver f stream ran before → window ≡ before ++ more → Bytes (stream ++ more) → length (stream ++ more) ≤ 4294967295 →
     RunsOver f (stream ++ more) next left
+
+-- Some n bytes have been read: over them the run so far is, and what it may go on over stands in the window, behind the tables of f.
+pub record Stream (f : Format) (x y z w : ℕ) (space : List ℕ) (end : ℕ) (ran : Ran) (n : ℕ) : Type 0 where
+  pub read : List ℕ
+  pub bytes : Bytes read
+  pub size : length read ≡ n
+  pub runs : RunsOver f read ran (cut space w end)
+  pub behind : tables space x y z w ≡ f
+
+-- an outcome tells of a run
+unfoldable pub Tells : Ran → Outcome → Type 0
+Tells ran (Told r) = r ≡ ran
+Tells ran (NoRoom place) = place ≡ ran .bytes
+Tells ran Unreadable = Unit
+
+-- an outcome tells of the run over some stream
+pub record Answers (f : Format) (o : Outcome) : Type 0 where
+  pub stream : List ℕ
+  pub tells : Tells (ranOf (runRule f defaults stream)) o

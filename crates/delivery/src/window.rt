@@ -8,7 +8,7 @@ ghost use Rattle.rules.specs.Reading.{defaults, runRule, ranOf};
 ghost use Rattle.rules.specs.Windows.{moved as Windows·moved, Inside, goesOn, added};
 ghost use Rattle.schema.specs.Slices.{slices};
 ghost use Rattle.delivery.specs.Bounds.{Laid, Counted, Further};
-ghost use Rattle.delivery.specs.Steps.{cut, tables, TakesIn};
+ghost use Rattle.delivery.specs.Steps.{cut, tables, TakesIn, Tells, Answers};
 use crate::file::probe;
 use rules::Ran;
 use rules::Refusal;
@@ -161,6 +161,7 @@ fn take_in(
 ) -> Reading
     requires { ⌜ Laid x y z w end (length (now space)) × Counted ran (end - w) ⌝ }
     ensures { λ r. ⌜ TakesIn (tables (now (space .entry)) x y z w) ran (cut (now (space .entry)) w end) (r .ran) (cut (now (space .exit)) w (r .end)) ⌝ }
+    ensures { λ _. ⌜ tables (now (space .exit)) x y z w ≡ tables (now (space .entry)) x y z w ⌝ }
     ensures { λ r. ⌜ (w ≤ r .end) × (r .end ≤ end) × (r .ran .rows ≤ r .ran .bytes) × (r .ran .bytes + (r .end - w) ≤ ran .bytes + (end - w)) ⌝ }
 {
     let stop = ran.stop;
@@ -186,7 +187,9 @@ pub enum Outcome {
 }
 
 // The outcome where one more read answers `more`: 0 at the end of the file, less than 0 where it fails.
-fn came_out(more: isize, ran: Ran, full: bool) -> Outcome {
+fn came_out(more: isize, ran: Ran, full: bool) -> Outcome
+    ensures { λ r. ⌜ Tells ran r ⌝ }
+{
     if more == 0 {
         return Outcome::Told(ran);
     }
@@ -201,7 +204,8 @@ fn came_out(more: isize, ran: Ran, full: bool) -> Outcome {
 }
 
 fn nothing(stop: Stop) -> Ran
-    ensures { λ r. ⌜ (r .rows ≡ 0) × (r .bytes ≡ 0) × (r .stop ≡ stop) ⌝ }
+    ensures { λ r. ⌜ r ≡ record { rows = 0; bytes = 0; stop = stop } ⌝ }
+    ensures { λ r. ⌜ (r .rows ≡ 0) × (r .bytes ≡ 0) ⌝ }
 {
     Ran {
         rows: 0,
@@ -213,6 +217,7 @@ fn nothing(stop: Stop) -> Ran
 // Runs over the stream as it is read. What stands is always the run over the bytes read so far.
 pub fn run_stream(fd: i32, space: &mut [u8], x: usize, y: usize, z: usize, w: usize) -> Outcome
     requires { ⌜ Laid x y z w w (length (now space)) ⌝ }
+    ensures { λ r. ⌜ Answers (tables (now (space .entry)) x y z w) r ⌝ }
 {
     let mut ran = run_window(nothing(Stop::End), space, x, y, z, w, w);
     let mut end = w;

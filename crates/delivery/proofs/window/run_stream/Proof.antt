@@ -1,11 +1,13 @@
--- What is read and not yet run over lies in the window, and at most 4,294,967,295 bytes are read.
+-- What is read and not yet run over lies in the window, the run so far is over what was read, and at most 4,294,967,295 bytes are.
 -- Assumes nothing.
 use Prim.Native.Nat.{ℕ, _+_, _-_, _≤_, _<_}
-use mathlib.Core.Path.{_≡_}
+use mathlib.Core.Path.{_≡_, refl}
 use native.Mathlib.Omega.{arith}
 use borrow.Author.Needs.{needs}
 use lib.ListN.{length}
-use Rattle.delivery.specs.Bounds.{Standing}
+use Rattle.delivery.specs.Bounds.{Laid, Standing}
+use Rattle.delivery.specs.Steps.{tables, Stream}
+use Rattle.delivery.proofs.Streams.{stream-first, stream-on, stream-long, stream-told}
 use Rattle.delivery.proofs.window.run_stream.Statement.{statement}
 use Rattle.delivery.proofs.window.run_stream.Tie as tie
 
@@ -14,10 +16,14 @@ falls : (m r g : ℕ) → (g ≡ 0 → ⊥) → r + g ≤ m → m - (r + g) < m 
 falls m r g h l = omega arith
 
 abbrev Inv-loop : tie.InvT-loop
-Inv-loop fd space₀ x y z w ran₀ end₀ read₀ space ran end read = (length space ≡ length space₀) × Standing ran w end (length space) read
+Inv-loop fd space₀ x y z w ran₀ end₀ read₀ space ran end read = (length space ≡ length space₀) × (Standing ran w end (length space) read × Stream (tables space₀ x y z w) x y z w space end ran read)
 
 abbrev μ-loop : tie.MeasureT-loop
 μ-loop fd space₀ x y z w ran₀ end₀ read₀ space ran end read = 4294967295 - read
+
+-- where the tables and the window lie
+laid : (c : tie.At-loop Inv-loop μ-loop) → Laid (c .before .before .before .before .before .args .x) (c .before .before .before .before .before .args .y) (c .before .before .before .before .before .args .z) (c .before .before .before .before .before .args .w) (c .loop .end) (length (c .loop .space))
+laid c = search needs
 
 nothing-requires : tie.Need-nothing-requires Inv-loop μ-loop
 nothing-requires c κs = search needs
@@ -26,7 +32,7 @@ run-window-requires : tie.Need-run-window-requires Inv-loop μ-loop
 run-window-requires c κs = search needs
 
 loop-holds : tie.Need-loop-holds Inv-loop μ-loop
-loop-holds c = search needs
+loop-holds c = (refl, (search needs, stream-first _ _ _ _ _ _ _ (c .before .before .nothing .ensures .1 .0) (c .before .before .nothing .ensures .1 .1) (c .run-window .ensures .0)))
 
 sub-read-full : tie.Need-sub-read-full Inv-loop μ-loop
 sub-read-full c = search needs
@@ -50,7 +56,7 @@ same-length : tie.Need-same-length Inv-loop μ-loop
 same-length c = search needs
 
 returns : tie.Need-returns Inv-loop μ-loop
-returns c = search needs
+returns c = stream-told _ _ _ (c .before .before .before .before .before .before .before .before .loop .inv .1 .1) (c .came-out .ensures)
 
 add-read : tie.Need-add-read Inv-loop μ-loop
 add-read c = search needs
@@ -62,7 +68,9 @@ same-length-2 : tie.Need-same-length-2 Inv-loop μ-loop
 same-length-2 c = search needs
 
 returns-2 : tie.Need-returns-2 Inv-loop μ-loop
-returns-2 c = search needs
+returns-2 c =
+    let l = c .before .before .before .before .before .before .before .before .loop in
+    stream-long _ (l .space) (c .before .before .before .before .before .read-full .last .1 .0) (l .ran) (c .before .before .before .before .before .read-full .result) (laid (c .before .before .before .before .before .before .before .before)) (λ j. omega (arith, c .before .before .before .slice-known2 .given j)) (search needs) (l .inv .1 .1) (c .before .if2 .taken) _ (c .nothing2 .ensures .0)
 
 add-take-in : tie.Need-add-take-in Inv-loop μ-loop
 add-take-in c = search needs
@@ -74,7 +82,10 @@ loop-less : tie.Need-loop-less Inv-loop μ-loop
 loop-less c = falls _ _ _ (c .before .before .before .before .before .before .if1 .left) (c .before .before .before .before .before .if2 .left)
 
 loop-again : tie.Need-loop-again Inv-loop μ-loop
-loop-again c = search needs
+loop-again c =
+    let l = c .before .before .before .before .before .before .before .before .before .before .before .before .loop in
+    let t = c .before .before .before .take-in .ensures in
+    (search needs, (search needs, stream-on _ (l .space) (c .before .before .before .before .before .before .before .before .before .read-full .last .1 .0) (l .ran) (c .before .before .before .before .before .before .before .before .before .read-full .result) (laid (c .before .before .before .before .before .before .before .before .before .before .before .before)) (λ j. omega (arith, c .before .before .before .before .before .before .before .slice-known2 .given j)) (search needs) (l .inv .1 .1) (c .before .before .before .before .before .if2 .left) _ _ _ (t .0) (t .1 .0)))
 
 probe-requires-2 : tie.Need-probe-requires-2 Inv-loop μ-loop
 probe-requires-2 c κs = search needs
@@ -86,7 +97,7 @@ same-length-3 : tie.Need-same-length-3 Inv-loop μ-loop
 same-length-3 c = search needs
 
 returns-3 : tie.Need-returns-3 Inv-loop μ-loop
-returns-3 c = search needs
+returns-3 c = stream-told _ _ _ (c .before .before .before .loop .inv .1 .1) (c .came-out2 .ensures)
 
 pub run-stream-spec : {M : Type 1} → statement M
 run-stream-spec =
