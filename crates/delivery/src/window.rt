@@ -20,7 +20,7 @@ use stream::run;
 const LONGEST: u64 = 4294967295;
 
 // Whether bytes to come may change how a run stops: at the end, or where a row is cut (12).
-pub fn goes_on(stop: Stop) -> bool
+fn goes_on(stop: Stop) -> bool
     ensures { λ r. ⌜ r ≡ goesOn stop ⌝ }
 {
     match stop {
@@ -77,7 +77,7 @@ fn moved(why: Refusal, by: u64) -> Refusal
 }
 
 // The run over the stream so far, and then on over the next window, which starts where the rows so far end.
-pub fn run_on(
+fn run_on(
     before: Ran,
     table: &[u8],
     names: &[u8],

@@ -8,7 +8,7 @@ use native.Mathlib.Omega.{arith}
 use native.Mathlib.Numerals.{add-one}
 use borrow.Author.Tests.{leb-true, eqb-true}
 use lib.Dec.{leb, eqb}
-use lib.ListN.{length, getD, drop, List·getD-eq-default}
+use lib.ListN.{length, getD, drop}
 use Rattle.rules.specs.Choice.{pick, _and_, all}
 use Rattle.rules.specs.Bytes.{part, order, isEqual}
 use Rattle.rules.specs.Wire.{wireTypes, typeIn, typeOf, codeOf}
@@ -21,8 +21,7 @@ use Rattle.rules.specs.declared.Known.the-variants.{Wire, Unknown}
 use Rattle.wire.specs.declared.Span.{Span}
 use Rattle.wire.specs.Table.{joined, names, Spells}
 use Rattle.rules.proofs.Tests.{and-both, all-each}
-use Rattle.rules.proofs.Stands.{length-part, part-whole}
-use Rattle.wire.proofs.Parts.{part-at}
+use Rattle.rules.proofs.Stands.{part-whole}
 use Rattle.rules.proofs.Orders.{is-equal, order-equal}
 use Rattle.wire.proofs.Codes.{type-of-code, code-of-type, code-below, type-at}
 
@@ -62,15 +61,6 @@ module _ (t : WireType) (k : ℕ) (e : k ≡ codeOf t) where
 -- a name against a span of the table
 pub named : (name : List ℕ) (t : WireType) (s : Span) (o : Order) → Spells s (nameOf t) → o ≡ order (part name 0 (length name)) (part names (s .start) (s .len)) → order name (nameOf t) ≡ o
 named name t s o h e = rw (← h .spelled, e, part-whole name)
-
-pub spells-len : (s : Span) (name : List ℕ) → Spells s name → s .len ≡ length name
-spells-len s name h = rw (← h .spelled) (sym (length-part names (s .start) (s .len)))
-
-pub spells-at : (s : Span) (name : List ℕ) (k : ℕ) → Spells s name → k < s .len → getD names (s .start + k) 0 ≡ getD name k 0
-spells-at s name k h l = rw (← h .spelled) (sym (part-at names (s .start) (s .len) k l))
-
-pub spells-past : (s : Span) (name : List ℕ) (k : ℕ) → Spells s name → s .len ≤ k → 0 ≡ getD name k 0
-spells-past s name k h l = sym (List·getD-eq-default name 0 {n = k} (rw (spells-len s name h) at l))
 
 -- ---- parsing, one wire type after another
 

@@ -1,6 +1,6 @@
--- Laws of the part of a list that starts at a place.
+-- Laws of the part of a list that starts at a place, for a loop that counts up.
 -- Assumes nothing.
-use Prim.Native.Nat.{ℕ, zero, suc, _+_, _-_, _≤_, _<_}
+use Prim.Native.Nat.{ℕ, suc, _+_, _-_, _≤_, _<_}
 use mathlib.Core.Path.{_≡_}
 use mathlib.Core.List.{List, [], _∷_}
 use native.Mathlib.Omega.{arith}
@@ -8,13 +8,7 @@ use native.Mathlib.Nat.{sub-zero}
 use lib.ListN.{getD}
 use Rattle.rules.specs.Bytes.{part}
 
-pub part-at : (s : List ℕ) (at n k : ℕ) → k < n → getD (part s at n) k 0 ≡ getD s (at + k) 0
-unfolding part
-part-at s at zero k h = absurd (omega arith)
-part-at s at (suc n) zero h = let e : at + 0 ≡ at = omega arith in rw e
-part-at s at (suc n) (suc k) h = let e : at + suc k ≡ (at + 1) + k = omega arith in rw e (part-at s (at + 1) n k (omega arith))
-
--- ---- what a loop that counts up has left: before the first turn, at each turn, at the end
+-- what is left: before the first turn, at each turn, at the end
 
 pub part-none : (s : List ℕ) (at n : ℕ) → part s (at + 0) (n - 0) ≡ part s at n
 part-none s at n = let e : at + 0 ≡ at = omega arith in rw (e, sub-zero)

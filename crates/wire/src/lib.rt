@@ -1,7 +1,7 @@
 // The leaves: little-endian fields, the order of byte strings, and the wire types by code and by name.
 ghost use mathlib.Core.Path.{_≡_};
 ghost use Prim.Native.Nat.{_+_, _≤_, _<_};
-ghost use lib.ListN.{length, getD};
+ghost use lib.ListN.{length};
 ghost use Rattle.rules.specs.Bytes.{leAt, part, order, isEqual};
 ghost use Rattle.rules.specs.Names.{nameOf, parsed};
 ghost use Rattle.wire.specs.Table.{Spells};
@@ -257,20 +257,4 @@ pub fn parse(name: &[u8]) -> Known
         }
         code += 1;
     }
-}
-
-pub fn name_len(t: WireType) -> usize
-    ensures { λ r. ⌜ r ≡ length (nameOf t) ⌝ }
-{
-    let span = span_of(t);
-    span.len
-}
-
-// A byte of a wire type's name, 0 past its end.
-pub fn name_byte(t: WireType, k: usize) -> u8
-    ensures { λ r. ⌜ r ≡ getD (nameOf t) k 0 ⌝ }
-{
-    let span = span_of(t);
-    let start = span.start;
-    if k < span.len { NAMES[start + k] } else { 0 }
 }
