@@ -5,8 +5,9 @@ use mathlib.Core.Path.{_≡_, refl, sym, ap, _∙_}
 use mathlib.Core.Bool.{Bool, true, false}
 use mathlib.Core.List.{List, [], _∷_, _++_}
 use native.Mathlib.Omega.{arith}
+use native.Mathlib.Numerals.{add-one}
 use lib.ListN.{length, take, drop}
-use lib.Seq.{drop-append-le, drop-drop, take-append-seam, drop-append-seam, length-take-le, take-all}
+use lib.Seq.{drop-cons, drop-append-le, drop-drop, take-append-seam, drop-append-seam, length-take-le, take-all}
 use Rattle.rules.specs.Choice.{pick}
 use Rattle.rules.specs.Bytes.{Bytes, part, over}
 use Rattle.rules.specs.Format.{Format}
@@ -15,7 +16,6 @@ use Rattle.rules.specs.Windows.{goesOn, added}
 use Rattle.rules.specs.declared.Ran.{Ran}
 use Rattle.rules.proofs.Over.{over-is}
 use Rattle.rules.proofs.Stands.{length-part}
-use Rattle.wire.proofs.Parts.{part-take}
 use Rattle.rows.proofs.Windows.{bytes-front, refused-in-windows, ran-in-windows, ran-inside}
 use Rattle.delivery.specs.Steps.{cut, RunsOver, TakesIn}
 
@@ -43,6 +43,11 @@ module _ (f : Format) (ran : Ran) (window : List ℕ) where
       }
 
 -- ---- what is left, brought to the window's front
+
+part-take : (s : List ℕ) (at n : ℕ) → at + n ≤ length s → part s at n ≡ take n (drop at s)
+unfolding part
+part-take s at zero h = refl
+part-take s at (suc n) h = rw (drop-cons s at 0 (omega arith), part-take s (at + 1) n (omega arith), add-one)
 
 pub drop-take : (k m : ℕ) (s : List ℕ) → drop k (take m s) ≡ take (m - k) (drop k s)
 drop-take zero m s = let e : m - 0 ≡ m = omega arith in rw e

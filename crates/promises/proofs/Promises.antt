@@ -1,7 +1,7 @@
 -- The page of promises. Each statement is about the written rules (crates/rules/specs) and nothing else, and is proved by a citation.
 -- A call inherits it by a contract that says: its answer is what the rule says.
 -- Assumes nothing.
-use Prim.Native.Nat.{ℕ, _-_, _≤_, _<_}
+use Prim.Native.Nat.{ℕ, _+_, _-_, _≤_, _<_}
 use mathlib.Core.Path.{_≡_, sym, _∙_}
 use mathlib.Core.Bool.{Bool}
 use mathlib.Core.List.{List, _++_, map}

@@ -1,11 +1,13 @@
 -- Laws of writing over a list: they need no bounds.
 -- Assumes nothing.
-use Prim.Native.Nat.{ℕ, suc, _+_}
-use mathlib.Core.Path.{_≡_, refl, _∙_}
-use mathlib.Core.List.{List, [], _∷_, _++_}
+use Prim.Native.Nat.{ℕ, suc, _+_, _≤_, _<_}
+use mathlib.Core.Path.{_≡_, refl, sym, _∙_}
+use mathlib.Core.List.{List, [], _∷_, _++_, append-assoc}
 use native.Mathlib.Nat.{add-zero}
 use native.Mathlib.Omega.{arith}
-use lib.ListN.{length, set, length-set}
+use native.Mathlib.Numerals.{add-one}
+use lib.ListN.{length, set, take, drop, length-set, take-append-drop}
+use lib.Seq.{drop-set-lt, take-suc-set}
 use Rattle.rules.specs.Bytes.{over}
 
 -- the list keeps its length
@@ -30,3 +32,14 @@ over-more (x ∷ xs) ys s at =
 -- the same, where the second run's place is known by an equation
 pub over-at : (xs ys s : List ℕ) (at next : ℕ) → next ≡ at + length xs → over (over s at xs) next ys ≡ over s at (xs ++ ys)
 over-at xs ys s at next e = rw e (over-more xs ys s at)
+
+-- where there is room: what stood before, what is written, and what stood after
+pub over-is : (xs s : List ℕ) (at : ℕ) → at + length xs ≤ length s → over s at xs ≡ take at s ++ (xs ++ drop (at + length xs) s)
+unfolding over
+over-is [] s at h = rw add-zero (sym (take-append-drop at s))
+over-is (x ∷ xs) s at h =
+    let l : at < length s = omega arith in
+    let m : (at + 1) + length xs ≤ length (set s at x) = rw (length-set s at x) (omega arith) in
+    let e : (at + 1) + length xs ≡ at + suc (length xs) = omega arith in
+    over-is xs (set s at x) (at + 1) m
+    ∙ rw (e, drop-set-lt (at + suc (length xs)) s at x (omega arith), add-one at, take-suc-set s at x l, append-assoc)
