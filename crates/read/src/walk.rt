@@ -73,6 +73,16 @@ fn no_child(tag: Number) -> Pick
     }
 }
 
+// A child's refusal alone: handed up whole, an answer would have the loop carry what the answers before it left in its parts.
+fn refused(value: Skipped) -> Skipped
+    ensures { λ r. ⌜ ((why : Refusal) → value ≡ Skipped.Refused why → r ≡ Skipped.Refused why) ⌝ }
+{
+    match value {
+        Skipped::Refused(why) => Skipped::Refused(why),
+        Skipped::At(_) => Skipped::Refused(Refusal::Setting),
+    }
+}
+
 // ---- nodes without children
 
 fn skip_fixed(code: u8, input: &[u8], p: Pos) -> Skipped
@@ -323,7 +333,7 @@ fn skip_children(
                 };
                 let s = skip_value(block, child, depth, input, from, charge);
                 let Skipped::At(r) = s else {
-                    return s;
+                    return refused(s);
                 };
                 if code < 17 {
                     return Skipped::At(r);
