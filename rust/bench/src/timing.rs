@@ -93,9 +93,9 @@ pub fn decode_library(case: &Case, room: Room, rows: u64) -> f64 {
         let (mut met, mut at) = (0, 0);
         loop {
             let input = black_box(&case.input);
-            let decoded = black_box(format).next_row(&settings, input, at, &mut records, &mut payload);
+            let decoded = black_box(&format).next_row(&settings, input, at, &mut records, &mut payload);
             let Decoded::Row(decoded) = decoded.expect("good rows") else { break };
-            at += black_box(decoded).row.bytes;
+            at += black_box(&decoded).row.bytes;
             met += 1;
         }
         assert_eq!((met, at), (rows, case.input.len()));
@@ -120,7 +120,7 @@ pub fn check_library(case: &Case, repetitions: u32) -> f64 {
     let format = tables(case);
     nanoseconds(|| {
         for _ in 0..repetitions {
-            assert_eq!(black_box(format).run(&Settings::default(), &[]).stop, Stop::End);
+            assert_eq!(black_box(&format).run(&Settings::default(), &[]).stop, Stop::End);
         }
     }) / f64::from(repetitions)
 }

@@ -32,6 +32,7 @@ pub struct Row {
 }
 
 impl Row {
+    #[inline]
     fn of(report: &Report) -> Self {
         Self {
             table: u16::try_from(report.table).expect("a table's tag has two bytes"),
@@ -85,6 +86,7 @@ impl Run {
 }
 
 /// Offsets in a slice that the library has read.
+#[inline]
 fn offset(number: u64) -> usize {
     usize::try_from(number).expect("an offset in a slice")
 }
@@ -92,6 +94,7 @@ fn offset(number: u64) -> usize {
 impl Format<'_> {
     /// Passes the row at `position` of `input`. Any position is taken for a row's start, one inside a
     /// row too: nothing in a stream marks where rows begin.
+    #[inline]
     pub fn skip_row(&self, settings: &Settings, input: &[u8], position: usize) -> Result<Skipped, Refusal> {
         let report = Report::of(|answer| sys::skip(settings.into(), self, input, position as u64, answer));
         match (report.refusal, report.what) {
@@ -140,6 +143,7 @@ impl Format<'_> {
     /// assert_eq!(found, [(0x25, b"hi".to_vec()), (0x26, Vec::new())]);
     /// # Ok::<(), Box<dyn std::error::Error>>(())
     /// ```
+    #[inline]
     pub fn next_row<'r>(
         &self,
         settings: &Settings,
@@ -168,6 +172,7 @@ impl Format<'_> {
     }
 
     /// Passes row after row from the start of `input` until its end or the first refusal.
+    #[inline]
     pub fn run(&self, settings: &Settings, input: &[u8]) -> Run {
         let report = Report::of(|answer| sys::run(settings.into(), self, input, answer));
         let stop = report.refusal.map_or(Stop::End, Stop::Refused);

@@ -20,6 +20,7 @@ pub struct Report {
 
 impl Report {
     /// Makes a call into an answer slice of its own and reads what it wrote.
+    #[inline]
     pub fn of(call: impl FnOnce(&mut [u8]) -> u32) -> Self {
         let mut answer = [0; ANSWER_BYTES];
         let returned = call(&mut answer);
@@ -29,11 +30,7 @@ impl Report {
         debug_assert_eq!(u64::from(returned), number(1), "the number is told twice");
         let refusal = match number(1) {
             0 => None,
-            refused => {
-                let carried = [number(3), number(4), number(5)];
-                let known = Refusal::from_numbers(refused, number(2), carried);
-                Some(known.expect("the library answers with the refusals of its document"))
-            }
+            refused => Some(known(refused, number(2), [number(3), number(4), number(5)])),
         };
         Self {
             what: number(0),
@@ -45,4 +42,11 @@ impl Report {
             payload: number(10),
         }
     }
+}
+
+/// Apart from the calls, so that these are small enough to be compiled into their callers.
+#[cold]
+fn known(number: u64, place: u64, carried: [u64; 3]) -> Refusal {
+    Refusal::from_numbers(number, place, carried)
+        .expect("the library answers with the refusals of its document")
 }

@@ -63,6 +63,7 @@ pub struct Numbers {
 }
 
 impl From<&Settings> for Numbers {
+    #[inline]
     fn from(settings: &Settings) -> Self {
         Self {
             node_charge: settings.node_charge(),
@@ -99,6 +100,7 @@ macro_rules! lend {
 }
 
 /// `skiff_skip`: the refusal's number, 0 where there is none.
+#[inline]
 pub fn skip(numbers: Numbers, format: &Format, input: &[u8], position: u64, answer: &mut [u8]) -> u32 {
     // SAFETY: each pointer and length are those of a slice that is borrowed for the call, and the
     // answer slice, the only one that is written, is borrowed by nobody else.
@@ -106,6 +108,7 @@ pub fn skip(numbers: Numbers, format: &Format, input: &[u8], position: u64, answ
 }
 
 /// `skiff_decode`: the refusal's number, 0 where there is none.
+#[inline]
 pub fn decode(
     numbers: Numbers,
     format: &Format,
@@ -121,6 +124,7 @@ pub fn decode(
 }
 
 /// `skiff_run`: the refusal's number, 0 where the run came to the end.
+#[inline]
 pub fn run(numbers: Numbers, format: &Format, input: &[u8], answer: &mut [u8]) -> u32 {
     // SAFETY: as in `skip`.
     unsafe { lend!(skiff_run, numbers, format, input;; answer) }
