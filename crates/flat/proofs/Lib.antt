@@ -1,4 +1,5 @@
 pub mod Turns
 pub mod Columns
 pub mod Parts
+pub mod Depth
 pub mod Stands
