@@ -1,16 +1,16 @@
 -- Laws of what is written: a record by its fields, and a copy turn by turn.
 -- Assumes nothing.
-use Prim.Native.Nat.{ℕ, suc, _+_, _-_, _/_, _%_, _≤_, _<_}
-use mathlib.Core.Path.{_≡_, refl, ap, _∙_}
+use Prim.Native.Nat.{ℕ, zero, suc, _+_, _-_, _/_, _%_, _≤_, _<_}
+use mathlib.Core.Path.{_≡_, refl, sym, ap, _∙_}
 use mathlib.Core.List.{List, [], _∷_, _++_, append-assoc}
 use native.Mathlib.Omega.{arith}
 use native.Mathlib.Nat.{add-zero, sub-zero}
 use lib.ListN.{length, getD, set, length-append}
-use lib.Seq.{set-comm}
+use lib.Seq.{set-comm, set-set}
 use Rattle.rules.specs.Bytes.{le, part, over}
 use Rattle.rules.specs.ValueTable.{valueRecord}
 use Rattle.rules.proofs.Over.{over-at}
-use Rattle.rules.proofs.Stands.{length-le}
+use Rattle.rules.proofs.Stands.{length-le, length-part}
 use Rattle.wire.proofs.Parts.{part-step, part-end}
 
 -- a byte and a zero, as a number in two bytes
@@ -35,7 +35,48 @@ over-first : (s : List ℕ) (at x : ℕ) (xs : List ℕ) → over s at (x ∷ xs
 unfolding over
 over-first s at x xs = refl
 
--- ---- a copy: what is left to write, over what is written, is the whole
+-- a store before what is written may as well be made first
+set-over : (xs s : List ℕ) (at i b : ℕ) → i < at → set (over s at xs) i b ≡ over (set s i b) at xs
+unfolding over
+set-over [] s at i b h = refl
+set-over (x ∷ xs) s at i b h =
+    set-over xs (set s at x) (at + 1) i b (omega arith)
+    ∙ ap (λ (l : List ℕ). over l (at + 1) xs) (set-comm s at i x b (λ e. omega arith))
+
+-- what is written over by as much or more might as well not have been written
+over-again : (xs ys s : List ℕ) (at : ℕ) → length xs ≤ length ys → over (over s at xs) at ys ≡ over s at ys
+unfolding over
+over-again [] ys s at h = refl
+over-again (x ∷ xs) [] s at h = absurd (omega arith)
+over-again (x ∷ xs) (y ∷ ys) s at h =
+    ap (λ (l : List ℕ). over l (at + 1) ys) (set-over xs (set s at x) (at + 1) at y (omega arith) ∙ ap (λ (l : List ℕ). over l (at + 1) xs) (set-set s at x y))
+    ∙ over-again xs ys (set s at y) (at + 1) (omega arith)
+
+-- bytes in two parts
+part-both : (s : List ℕ) (at a b : ℕ) → part s at (a + b) ≡ part s at a ++ part s (at + a) b
+unfolding part
+part-both s at zero b = let e : 0 + b ≡ b = omega arith in rw (e, add-zero)
+part-both s at (suc a) b =
+    let e : suc a + b ≡ suc (a + b) = omega arith in
+    let f : at + suc a ≡ (at + 1) + a = omega arith in
+    rw (e, f, part-both s (at + 1) a b)
+
+-- ---- a copy by words: w bytes from place j on, over the first k, which reach that far
+pub copy-word : (src dst : List ℕ) (from at j k w : ℕ) → j ≤ k → k ≤ j + w → over (over dst at (part src from k)) (at + j) (part src (from + j) w) ≡ over dst at (part src from (j + w))
+copy-word src dst from at j k w h l =
+    let a = part src from j in
+    let b = part src (from + j) (k - j) in
+    let c = part src (from + j) w in
+    let m : k ≡ j + (k - j) = omega arith in
+    let e : at + j ≡ at + length a = rw length-part in
+    let f : length b ≤ length c = rw (length-part, length-part) (omega arith) in
+    ap (λ (l : List ℕ). over (over dst at l) (at + j) c) (ap (part src from) m ∙ part-both src from j (k - j))
+    ∙ ap (λ (l : List ℕ). over l (at + j) c) (sym (over-at a b dst at (at + j) e))
+    ∙ over-again b c (over dst at a) (at + j) f
+    ∙ over-at a c dst at (at + j) e
+    ∙ ap (over dst at) (sym (part-both src from j w))
+
+-- ---- a copy byte by byte: what is left to write, over what is written, is the whole
 module _ (src dst : List ℕ) (from at n : ℕ) where
   pub copy-none : over dst (at + 0) (part src (from + 0) (n - 0)) ≡ over dst at (part src from n)
   copy-none = simp (add-zero, sub-zero)
@@ -50,14 +91,6 @@ module _ (src dst : List ℕ) (from at n : ℕ) where
   copy-end k h = rw (part-end src (from + k) n k h)
 
 -- ---- a front that is written last
-
--- a store before what is written may as well be made first
-set-over : (xs s : List ℕ) (at i b : ℕ) → i < at → set (over s at xs) i b ≡ over (set s i b) at xs
-unfolding over
-set-over [] s at i b h = refl
-set-over (x ∷ xs) s at i b h =
-    set-over xs (set s at x) (at + 1) i b (omega arith)
-    ∙ ap (λ (l : List ℕ). over l (at + 1) xs) (set-comm s at i x b (λ e. omega arith))
 
 pub over-front : (xs ys s : List ℕ) (at : ℕ) → over (over s (at + length xs) ys) at xs ≡ over s at (xs ++ ys)
 unfolding over

@@ -12,6 +12,7 @@ ghost use Rattle.rules.specs.ValueTable.{valueRecord, bit, pays, flat};
 ghost use Rattle.rules.specs.Writing.{kindFor};
 ghost use Rattle.fill.specs.Plain.{leafAt, readAt};
 ghost use Rattle.fill.specs.Filling.{Room, Filled, Fillable, rowValue, scalarOf, tagBytes, nextOf};
+ghost use Rattle.fill.specs.Leads.{Held, Leads};
 use self::writer::copy;
 use self::writer::put_record;
 use read::fields::ends;
@@ -230,6 +231,54 @@ fn fill_children(
     }
 }
 
+// What a node comes to at once: a leaf of this code, under this tag, from this spot on; or children.
+pub enum Reached {
+    Leaf(u8, u64, Spot),
+    Children,
+}
+
+// A node is a leaf itself, or a variant whose tag names one, whose own record is written here: so an optional column takes no children
+// step, as in the walk that judged it.
+fn leaf_at(
+    block: &[u8],
+    node: usize,
+    code: u8,
+    depth: usize,
+    input: &[u8],
+    tag: u64,
+    s: Spot,
+    records: &mut [u8],
+) -> Reached
+    requires { ⌜ Closed (now block) × (node * 16 + 16 ≤ length (now block)) × (code ≡ nodeAt (now block) node .code) × Held (readAt (now block) (now input) depth node (s .at)) s (length (now records)) ⌝ }
+    ensures { λ r. ⌜ Leads (readAt (now (block .entry)) (now (input .entry)) depth node (s .at)) (now (input .entry)) code tag s (now (records .entry)) (now (records .exit)) r ⌝ }
+{
+    if code < 15 {
+        return Reached::Leaf(code, tag, s);
+    }
+    if 16 < code {
+        return Reached::Children;
+    }
+    let at = s.at;
+    let bears = tag_at(code, input, at);
+    let first = u32_at(block, node * 16 + 8);
+    let child = (first + bears) as usize;
+    let below = block[child * 16];
+    if 14 < below {
+        return Reached::Children;
+    }
+    let own = s.records;
+    put_record(records, own, 15, tag, 1, 0);
+    Reached::Leaf(
+        below,
+        bears,
+        Spot {
+            at: at + tag_width(code),
+            records: own + 1,
+            payload: s.payload,
+        },
+    )
+}
+
 // A node and all below it, as the child that its parent chose by `tag`.
 fn fill_value(
     block: &[u8],
@@ -245,10 +294,18 @@ fn fill_value(
     ensures { λ r. ⌜ Filled (readAt (now (block .entry)) (now (input .entry)) depth node (s .at)) tag s r (now (records .entry)) (now (records .exit)) (now (payload .entry)) (now (payload .exit)) ⌝ }
 {
     let code = block[node * 16];
-    if code < 15 {
-        return fill_leaf(code, input, tag, s, records, payload);
+    let reached = leaf_at(block, node, code, depth, input, tag, s, records);
+    match reached {
+        Reached::Leaf(below, bears, from) => {
+            fill_leaf(below, input, bears, from, records, payload)
+        }
+        Reached::Children => {
+            // What a call lends has to lie in memory: copied here, so that a leaf is spared that.
+            let nodes = block;
+            let bytes = input;
+            fill_children(nodes, node, depth, bytes, tag, s, records, payload)
+        }
     }
-    fill_children(block, node, depth, input, tag, s, records, payload)
 }
 
 // A row's root, from place `at` on, into the starts of both slices: what decode leaves. The root has children, and so the

@@ -7,6 +7,7 @@ ghost use Rattle.rules.specs.ValueTable.{valueRecord};
 use wire::store::put16;
 use wire::store::put32;
 use wire::store::put64;
+use wire::u64_at;
 use wire::wide;
 
 // The bytes of a value record. Room is counted in it.
@@ -25,8 +26,8 @@ pub fn put_record(records: &mut [u8], i: usize, kind: u8, tag: u64, size: u64, d
     put64(records, at + 8, data);
 }
 
-// n bytes of the input from place `from` on, into the payload store from place `to` on.
-pub fn copy(input: &[u8], from: usize, n: usize, payload: &mut [u8], to: usize)
+// Fewer bytes than a word has.
+fn copy_few(input: &[u8], from: usize, n: usize, payload: &mut [u8], to: usize)
     requires { ⌜ (from + n ≤ length (now input)) × (to + n ≤ length (now payload)) ⌝ }
     ensures { λ _. ⌜ now (payload .exit) ≡ over (now (payload .entry)) to (part (now (input .entry)) from n) ⌝ }
 {
@@ -35,4 +36,30 @@ pub fn copy(input: &[u8], from: usize, n: usize, payload: &mut [u8], to: usize)
         payload[to + k] = input[from + k];
         k += 1;
     }
+}
+
+fn copy_word(input: &[u8], from: usize, payload: &mut [u8], to: usize)
+    requires { ⌜ (from + 8 ≤ length (now input)) × (to + 8 ≤ length (now payload)) ⌝ }
+    ensures { λ _. ⌜ now (payload .exit) ≡ over (now (payload .entry)) to (part (now (input .entry)) from 8) ⌝ }
+{
+    put64(payload, to, u64_at(input, from));
+}
+
+// n bytes of the input from place `from` on, into the payload store from place `to` on: word by word, and the last word may lie over the one
+// before it, so that no length costs a turn for each byte.
+pub fn copy(input: &[u8], from: usize, n: usize, payload: &mut [u8], to: usize)
+    requires { ⌜ (from + n ≤ length (now input)) × (to + n ≤ length (now payload)) ⌝ }
+    ensures { λ _. ⌜ now (payload .exit) ≡ over (now (payload .entry)) to (part (now (input .entry)) from n) ⌝ }
+{
+    if n < 8 {
+        copy_few(input, from, n, payload, to);
+        return;
+    }
+    let last = n - 8;
+    let mut k = 0;
+    while k < last {
+        copy_word(input, from + k, payload, to + k);
+        k += 8;
+    }
+    copy_word(input, from + last, payload, to + last);
 }

@@ -1,4 +1,6 @@
 pub mod Turns
 pub mod Columns
 pub mod Parts
+pub mod Depth
+pub mod Leaves
 pub mod Stands

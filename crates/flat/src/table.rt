@@ -39,6 +39,10 @@ pub fn block_depth_ok(table: &[u8], first: u64, count: u64) -> bool
     requires { ⌜ Sound (now table) first count ⌝ }
     ensures { λ r. ⌜ r ≡ blockDepthOk (now (table .entry)) first count ⌝ }
 {
+    // So few records are never deeper than that.
+    if count <= 64 {
+        return true;
+    }
     depth_of(block_of(table, first, count)) <= 64
 }
 

@@ -81,7 +81,7 @@ module _ (s : List ℕ) where
     leAt-lt at zero = omega arith
     leAt-lt at (suc w) = omega (arith, bs at, leAt-lt (at + 1) w)
 
-    le-leAt : (at w : ℕ) → le w (leAt s at w) ≡ part s at w
+    pub le-leAt : (at w : ℕ) → le w (leAt s at w) ≡ part s at w
     unfolding leAt le part
     le-leAt at zero = refl
     le-leAt at (suc w) =

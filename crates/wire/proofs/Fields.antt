@@ -52,3 +52,12 @@ le-four s at =
     let e : (at + 1) + 1 ≡ at + 2 = omega arith in
     let f : (at + 2) + 1 ≡ at + 3 = omega arith in
     rw (e, f) (omega arith)
+
+-- and the reader of eight, four and four
+pub le-eight : (s : List ℕ) (at : ℕ) → leAt s at 8 ≡ leAt s at 4 + 4294967296 * leAt s (at + 4) 4
+unfolding leAt
+le-eight s at =
+    let e : (at + 1) + 1 ≡ at + 2 = omega arith in
+    let f : (at + 2) + 1 ≡ at + 3 = omega arith in
+    let g : (at + 3) + 1 ≡ at + 4 = omega arith in
+    rw (e, f, g) (omega arith)

@@ -38,6 +38,13 @@ pub fn u32_at(s: &[u8], at: usize) -> u64
     wide(s[at]) + 256 * (wide(s[at + 1]) + 256 * (wide(s[at + 2]) + 256 * wide(s[at + 3])))
 }
 
+pub fn u64_at(s: &[u8], at: usize) -> u64
+    requires { ⌜ at + 8 ≤ length (now s) ⌝ }
+    ensures { λ r. ⌜ r ≡ leAt (now (s .entry)) at 8 ⌝ }
+{
+    u32_at(s, at) + 4294967296 * u32_at(s, at + 4)
+}
+
 // The number in `width` bytes, for the widths that are known only at run time.
 pub fn field(s: &[u8], at: usize, width: usize) -> u64
     requires { ⌜ (width ≤ 8) × (at + width ≤ length (now s)) ⌝ }

@@ -8,6 +8,7 @@ use Rattle.fill.proofs.fill_value.Reads as fill-value
 use Rattle.fill.proofs.fill_value.Kinds as fill-value-kinds
 use Rattle.fill.proofs.+fill_children+fill_value.Lts-fill_value as fill-value-lts
 use Rattle.fill.proofs.fill_leaf.Reads as fill-leaf-reads
+use Rattle.fill.proofs.leaf_at.Reads as leaf-at-reads
 use Rattle.fill.proofs.kind_of.Reads as kind-of-reads
 use Rattle.fill.proofs.moved.Reads as moved-reads
 use Rattle.fill.proofs.next_child.Reads as next-child-reads
@@ -36,4 +37,4 @@ abbrev pub fill-children-calls : ℕ → fill-children-lts.Claims
 fill-children-calls t = (u32-at-reads.Asked, u32-at-reads.Learnt, next-child-reads.Asked, next-child-reads.Learnt, moved-reads.Asked, moved-reads.Learnt, fill-value-below t, fill-value.Post, kind-of-reads.Asked, kind-of-reads.Learnt, put-record-reads.Asked, put-record-reads.Learnt)
 
 abbrev pub fill-value-calls : ℕ → fill-value-lts.Claims
-fill-value-calls t = (fill-leaf-reads.Asked, fill-leaf-reads.Learnt, fill-children-below t, fill-children.Post)
+fill-value-calls t = (leaf-at-reads.Asked, leaf-at-reads.Learnt, fill-leaf-reads.Asked, fill-leaf-reads.Learnt, fill-children-below t, fill-children.Post)

@@ -1,0 +1,144 @@
+-- What a node comes to at once: a leaf that is it, or a leaf that its tag names.
+-- Assumes nothing.
+use Prim.Native.Nat.{ℕ, _+_, _-_, _*_, _≤_, _<_}
+use mathlib.Core.Path.{_≡_, refl, sym, subst, _∙_}
+use mathlib.Core.List.{List, _++_}
+use native.Mathlib.Omega.{arith}
+use lib.ListN.{length, getD}
+use Rattle.rules.specs.Bytes.{leAt, over}
+use Rattle.rules.specs.Wire.{choice, form, widthOf}
+use Rattle.rules.specs.Block.{nodeAt}
+use Rattle.rules.specs.Value.{Value, variant, recordsOf, payloadOf, tally}
+use Rattle.rules.specs.ValueTable.{valueRecord, pays, flat}
+use Rattle.rules.specs.declared.Node.{Node}
+use Rattle.rules.proofs.Over.{over-at}
+use Rattle.values.proofs.Records.{length-record}
+use Rattle.read.proofs.Codes.{form-choice, tag-some}
+use Rattle.fill.specs.declared.Spot.{Spot}
+use Rattle.fill.specs.declared.Reached.{Reached}
+use Rattle.fill.specs.declared.Reached.the-variants.{Leaf, Children}
+use Rattle.fill.specs.Plain.{Reading, Got, IsGot, valueOf, endOf, leafAt, Reader, byForm, readAt}
+use Rattle.fill.specs.Filling.{Room, past, Filled}
+use Rattle.fill.specs.Leads.{Held, Rest, Leads}
+use Rattle.fill.proofs.Got.{got-from, got-is, read-step, step, number-step, child-step}
+use Rattle.fill.proofs.Children.{leaf-read}
+use Rattle.fill.proofs.Going.{spot}
+
+-- ---- a variant that was read
+
+-- its tag is there and names a child, whose value is its own
+pub record Chosen (inp : List ℕ) (rec : Reader) (n : Node) (w at : ℕ) (v : Value) (z : ℕ) : Type 0 where
+  pub there : w ≤ length inp - at
+  pub inside : leAt inp at w < n .children
+  pub is : IsGot (rec (n .first + leAt inp at w) (at + w))
+  pub value : v ≡ variant (leAt inp at w) (valueOf (rec (n .first + leAt inp at w) (at + w)))
+  pub ends : z ≡ endOf (rec (n .first + leAt inp at w) (at + w))
+
+choose : (inp : List ℕ) (rec : Reader) (n : Node) (w at : ℕ) (v : Value) (z : ℕ) → byForm inp rec n (choice w) at ≡ Got v z → Chosen inp rec n w at v z
+unfolding byForm valueOf endOf
+choose inp rec n w at v z e =
+    let a = number-step v z inp w at _ e in
+    let b = child-step v z rec n (leAt inp at w) (at + w) _ (a .1) in
+    let s = step _ _ v z (b .1) in
+    record { there = a .0; inside = b .0; is = got-from _ _ _ (s .is); value = rw (s .is) (cc); ends = rw (s .is) (cc) }
+
+chosen : (sch inp : List ℕ) (d i at : ℕ) → 14 < nodeAt sch i .code → nodeAt sch i .code < 17 → IsGot (readAt sch inp d i at) →
+    Chosen inp (readAt sch inp (d - 1)) (nodeAt sch i) (widthOf (form (nodeAt sch i .code))) at (valueOf (readAt sch inp d i at)) (endOf (readAt sch inp d i at))
+chosen sch inp d i at h l g =
+    let e = sym (read-step sch inp d i at g .1) ∙ got-is (readAt sch inp d i at) g in
+    choose inp _ _ _ at _ _ (rw (form-choice (nodeAt sch i .code) h l) at e)
+
+-- ---- what is left to fill
+
+self-rest : (x y : Reading Value) (tag : ℕ) (s : Spot) (rs : List ℕ) → x ≡ y → Rest x tag s rs y tag s rs
+self-rest x y tag s rs e = record { room = λ n m h. rw e at h; fills = λ r rs″ ps ps′ w. rw e w }
+
+module _ (t : ℕ) (v : Value) where
+  variant-records : recordsOf (variant t v) ≡ 1 + recordsOf v
+  unfolding recordsOf tally
+  variant-records = omega arith
+
+  variant-payload : payloadOf (variant t v) ≡ payloadOf v
+  unfolding payloadOf tally
+  variant-payload = omega arith
+
+  variant-flat : (tag p : ℕ) → flat (variant t v) tag p ≡ valueRecord 15 tag 1 0 ++ flat v t p
+  unfolding flat
+  variant-flat tag p = refl
+
+  variant-pays : pays (variant t v) ≡ pays v
+  unfolding pays
+  variant-pays = refl
+
+-- of a variant, once its own record is written: its child
+variant-rest : (x y : Reading Value) (t tag at : ℕ) (s : Spot) (rs rs′ : List ℕ) → IsGot y → valueOf x ≡ variant t (valueOf y) → endOf x ≡ endOf y →
+    rs′ ≡ over rs (s .records * 16) (valueRecord 15 tag 1 0) → Rest x tag s rs y t (spot at (s .records + 1) (s .payload)) rs′
+unfolding past
+variant-rest x y t tag at s rs rs′ g e f h =
+    let v = valueOf y in
+    let a = valueRecord 15 tag 1 0 in
+    let m : (s .records + 1) * 16 ≡ s .records * 16 + length a = rw length-record (omega arith) in
+    let k : (s .records + 1) + recordsOf v ≡ s .records + (1 + recordsOf v) = omega arith in
+    record {
+      room = λ n m r. record {
+        is = g;
+        records = omega (arith, rw (e, variant-records t v) at (r .records));
+        payload = rw (e, variant-payload t v) at (r .payload);
+      };
+      fills = λ r rs″ ps ps′ w. record {
+        spot = rw (f, e, variant-records t v, variant-payload t v, ← k) (w .spot);
+        records = w .records ∙ rw (h, e, variant-flat t v) (over-at a (flat v t (s .payload)) rs (s .records * 16) ((s .records + 1) * 16) m);
+        payload = rw (e, variant-pays t v) (w .payload);
+      };
+    }
+
+-- ---- what a node comes to
+
+module _ (sch inp : List ℕ) (d i code : ℕ) (c : code ≡ nodeAt sch i .code) (s : Spot) (tag : ℕ) (rs : List ℕ) where
+  -- a leaf is its own
+  pub leads-self : (n : ℕ) → Held (readAt sch inp d i (s .at)) s n → code < 15 → Leads (readAt sch inp d i (s .at)) inp code tag s rs rs (Leaf code tag s)
+  unfolding Leads
+  leads-self n k h = (h, self-rest _ _ tag s rs (rw c (leaf-read sch inp d i (s .at) (rw (← c) h) (k .is))))
+
+  pub leads-on : 15 ≤ code → Leads (readAt sch inp d i (s .at)) inp code tag s rs rs Children
+  unfolding Leads
+  leads-on h = (h, refl)
+
+  -- and a variant the leaf that its tag names, once its record is written
+  module _ (g : IsGot (readAt sch inp d i (s .at))) (h : 14 < code) (l : code < 17) (t w : ℕ) (is : t ≡ leAt inp (s .at) (widthOf (form code))) (p : w ≡ widthOf (form code)) (first : ℕ) (f : first ≡ leAt sch (i * 16 + 8) 4) where
+    wide : widthOf (form (nodeAt sch i .code)) ≡ w
+    wide = rw (← c) (sym p)
+
+    tagged : t ≡ leAt inp (s .at) w
+    tagged = rw p is
+
+    k : Chosen inp (readAt sch inp (d - 1)) (nodeAt sch i) w (s .at) (valueOf (readAt sch inp d i (s .at))) (endOf (readAt sch inp d i (s .at)))
+    k = subst (λ (w : ℕ). Chosen inp (readAt sch inp (d - 1)) (nodeAt sch i) w (s .at) (valueOf (readAt sch inp d i (s .at))) (endOf (readAt sch inp d i (s .at)))) wide (chosen sch inp d i (s .at) (rw c at h) (rw c at l) g)
+
+    pub within : s .at + w ≤ length inp
+    within = omega (arith, k .there, p, tag-some code h (omega arith))
+
+    child : nodeAt sch i .first + leAt inp (s .at) w ≡ first + t
+    unfolding nodeAt
+    child = omega (arith, tagged, f)
+
+    pub inside : first + t < nodeAt sch i .first + nodeAt sch i .children
+    inside = omega (arith, k .inside, child)
+
+    pub leads-child : getD sch ((first + t) * 16) 0 < 15 → (rs′ : List ℕ) → rs′ ≡ over rs (s .records * 16) (valueRecord 15 tag 1 0) →
+        Leads (readAt sch inp d i (s .at)) inp code tag s rs rs′ (Leaf (getD sch ((first + t) * 16) 0) t (spot (s .at + w) (s .records + 1) (s .payload)))
+    unfolding Leads nodeAt
+    leads-child q rs′ z =
+        let y = leaf-read sch inp (d - 1) (first + t) (s .at + w) q (rw child at (k .is)) in
+        (q, rw (← y) (variant-rest _ _ t tag (s .at + w) s rs rs′ (rw child at (k .is)) (rw (child, ← tagged) at (k .value)) (rw child at (k .ends)) z))
+
+-- ---- what the caller learns
+
+module _ (x : Reading Value) (inp : List ℕ) (code tag : ℕ) (s : Spot) (rs rs′ : List ℕ) (a : Reached) (l : Leads x inp code tag s rs rs′ a) where
+  pub reached-leaf : (c t : ℕ) (q : Spot) → a ≡ Leaf c t q → (c < 15) × Rest x tag s rs (leafAt inp c (form c) (q .at)) t q rs′
+  unfolding Leads
+  reached-leaf c t q e = subst (λ (y : Reached). Leads x inp code tag s rs rs′ y) e l
+
+  pub reached-children : a ≡ Children → (14 < code) × (rs′ ≡ rs)
+  unfolding Leads
+  reached-children e = subst (λ (y : Reached). Leads x inp code tag s rs rs′ y) e l
