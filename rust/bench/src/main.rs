@@ -9,7 +9,7 @@ use std::process::ExitCode;
 
 use schemas::ALL;
 use timing::{
-    best_of, check_library, check_original, decode_library, decode_original, original, run_library,
+    best_of, check_library, check_original, decode_bare, decode_library, decode_original, original, run_library,
     run_original,
 };
 
@@ -102,15 +102,18 @@ fn decode(options: &Options) {
     let format = original(&case);
     let room = same::check(&case, &format, CLIENT_ROWS);
     let original = || decode_original(&case, &format, CLIENT_ROWS);
-    let best = best_of(options.runs, original, || decode_library(&case, room, CLIENT_ROWS));
     let check = best_of(options.runs, || 0.0, || check_library(&case, CLIENT_ROWS as u32)).library;
-    let (original, library) = (best.original / CLIENT_ROWS as f64, best.library / CLIENT_ROWS as f64);
     println!(
         "\n{:46} {:>8} {:>9} {:>9} {:>6} {:>16}",
         "schema A decoded, ns/row", "rows", "original", "library", "ratio", "of it the check"
     );
-    let ratio = library / original;
-    println!("{:46} {CLIENT_ROWS:8} {original:9.1} {library:9.1} {ratio:6.2} {check:16.1}", "");
+    let line = |name: &str, best: timing::Best| {
+        let (original, library) = (best.original / CLIENT_ROWS as f64, best.library / CLIENT_ROWS as f64);
+        let ratio = library / original;
+        println!("{name:46} {CLIENT_ROWS:8} {original:9.1} {library:9.1} {ratio:6.2} {check:16.1}");
+    };
+    line("skiff_decode", best_of(options.runs, original, || decode_bare(&case, room, CLIENT_ROWS)));
+    line("Format::next_row", best_of(options.runs, original, || decode_library(&case, room, CLIENT_ROWS)));
     println!("(the library checks the format for every row, the original once, before its clock starts;");
     println!(" the original allocates a tree for every row, the library writes to slices that it is lent)");
 }

@@ -6,7 +6,7 @@ use std::hint::black_box;
 use diff::case::Case;
 use diff::original;
 use oracle::{Decoder, Format as Original};
-use skiff::{Decoded, Format, Settings, Stop};
+use skiff::{sys, Decoded, Format, Settings, Stop};
 
 use crate::same::Room;
 
@@ -99,6 +99,29 @@ pub fn decode_library(case: &Case, room: Room, rows: u64) -> f64 {
             met += 1;
         }
         assert_eq!((met, at), (rows, case.input.len()));
+    })
+}
+
+/// The C function itself, of whose answer only the kind and the row's length are read.
+pub fn decode_bare(case: &Case, room: Room, rows: u64) -> f64 {
+    let format = tables(case);
+    let (mut records, mut payload) = room.slices();
+    let settings = Settings::default();
+    let mut answer = [0; sys::ANSWER_BYTES];
+    nanoseconds(|| {
+        let (mut met, mut at) = (0, 0);
+        loop {
+            let (numbers, input, to) = ((&settings).into(), black_box(&case.input), black_box(&mut answer));
+            let refused = sys::decode(numbers, black_box(&format), input, at, &mut records, &mut payload, to);
+            assert_eq!(refused, 0, "good rows");
+            let number = |index: usize| u64::from_le_bytes(*answer[index * 8..].first_chunk().expect("a word"));
+            if number(0) == 1 {
+                break;
+            }
+            at += number(7);
+            met += 1;
+        }
+        assert_eq!((met, at), (rows, case.input.len() as u64));
     })
 }
 
