@@ -1,22 +1,25 @@
-// A row of a checked format: judged by stream's `row_at`, given room, filled in. Each step has a contract of its own, so
-// that a caller may put a test between them.
+// A row of a checked format: its table's block is found and the row judged by stream's steps, as skip does, given room, filled in. Each
+// step has a contract of its own, so that a caller may put a test between them.
 ghost use mathlib.Core.Path.{_≡_};
-ghost use Prim.Native.Nat.{_≤_, min};
+ghost use Prim.Native.Nat.{_+_, _≤_, min};
 ghost use lib.ListN.{length};
 ghost use Rattle.rules.specs.Bytes.{over};
+ghost use Rattle.rules.specs.Block.{block};
 ghost use Rattle.rules.specs.ValueTable.{flat, pays};
 ghost use Rattle.rules.specs.Reading.{limits, rowAt, filled};
 ghost use Rattle.schema.specs.Slices.{slices};
 ghost use Rattle.stream.specs.Rows.{Asked};
-ghost use Rattle.decode.specs.Steps.{valueAt, Granted, roomFor};
+ghost use Rattle.fill.specs.Filling.{rowValue};
+ghost use Rattle.decode.specs.Steps.{Granted, roomFor};
 use fill::fill_row;
 use rules::Extent;
-use rules::Located;
 use rules::Read;
 use rules::Refusal;
 use rules::Settings;
-use schema::format::table_schema;
-use stream::row::row_at;
+use stream::row::Place;
+use stream::row::block_at;
+use stream::row::no_row;
+use stream::row::row_of;
 
 // Of a slice to be written only so many bytes count.
 const LONGEST: usize = 4294967295;
@@ -49,26 +52,20 @@ pub fn room_for(row: Extent, at: usize, records: usize, payload: usize) -> Read
     Read::Row(row)
 }
 
-// A row of table `tag` that was judged and has room: its root's value, from the start of each slice.
+// A row that was judged and has room: the value of the root of its table's block, from the start of each slice.
 pub fn fill_at(
     table: &[u8],
-    names: &[u8],
-    references: &[u8],
-    registry: &[u8],
     input: &[u8],
     at: usize,
-    tag: u64,
+    first: u64,
+    count: u64,
     records: &mut [u8],
     payload: &mut [u8],
 )
-    requires { ⌜ Granted (slices (now table) (now names) (now references) (now registry)) (now input) at tag (length (now records)) (length (now payload)) ⌝ }
-    ensures records { λ _. ⌜ now (records .exit) ≡ over (now (records .entry)) 0 (flat (valueAt (slices (now (table .entry)) (now (names .entry)) (now (references .entry)) (now (registry .entry))) (now (input .entry)) at tag) 0 0) ⌝ }
-    ensures payload { λ _. ⌜ now (payload .exit) ≡ over (now (payload .entry)) 0 (pays (valueAt (slices (now (table .entry)) (now (names .entry)) (now (references .entry)) (now (registry .entry))) (now (input .entry)) at tag)) ⌝ }
+    requires { ⌜ Granted (now table) (now input) at first count (length (now records)) (length (now payload)) ⌝ }
+    ensures records { λ _. ⌜ now (records .exit) ≡ over (now (records .entry)) 0 (flat (rowValue (block (now (table .entry)) first count) (now (input .entry)) (at + 2)) 0 0) ⌝ }
+    ensures payload { λ _. ⌜ now (payload .exit) ≡ over (now (payload .entry)) 0 (pays (rowValue (block (now (table .entry)) first count) (now (input .entry)) (at + 2))) ⌝ }
 {
-    let found = table_schema(names, references, registry, tag);
-    let Located::Block(first, count) = found else {
-        return;
-    };
     let start = first as usize * 16;
     let end = start + count as usize * 16;
     fill_row(&table[start..end], input, at + 2, records, payload);
@@ -89,7 +86,11 @@ pub fn decode_row(
     requires { ⌜ Asked (slices (now table) (now names) (now references) (now registry)) (now input) settings × (at ≤ length (now input)) ⌝ }
     ensures { λ r. ⌜ record { answer = r; records = now (records .exit); payload = now (payload .exit) } ≡ filled at (rowAt (slices (now (table .entry)) (now (names .entry)) (now (references .entry)) (now (registry .entry))) (now (input .entry)) (limits settings) at) (now (records .entry)) (now (payload .entry)) ⌝ }
 {
-    let read = row_at(table, names, references, registry, input, at, settings);
+    let place = block_at(names, references, registry, input, at);
+    let Place::Block(tag, first, count) = place else {
+        return no_row(place);
+    };
+    let read = row_of(table, input, at, tag, first, count, settings);
     let Read::Row(row) = read else {
         return read;
     };
@@ -97,17 +98,6 @@ pub fn decode_row(
     let Read::Row(_) = fits else {
         return fits;
     };
-    let tag = row.table;
-    fill_at(
-        table,
-        names,
-        references,
-        registry,
-        input,
-        at,
-        tag,
-        records,
-        payload,
-    );
+    fill_at(table, input, at, first, count, records, payload);
     Read::Row(row)
 }

@@ -37,7 +37,8 @@ use Rattle.read.specs.declared.walk.Skipped.{Skipped}
 use Rattle.read.specs.declared.walk.Skipped.the-variants.{At, Refused}
 use Rattle.read.specs.Skim.{placed, skimmed}
 use Rattle.read.proofs.Nodes.{formed-sound}
-use Rattle.stream.specs.Rows.{Asked, Walkable, rowIn, noValue}
+use Rattle.stream.specs.declared.row.Place.{Place}
+use Rattle.stream.specs.Rows.{Asked, Walkable, placeIn, placeBy, placeAt, rowIn, noValue}
 
 -- the table tag, read or cut
 module _ (inp : List ℕ) (at : ℕ) (x : Number) (is : x ≡ numberAt inp 2 17 at) where
@@ -74,21 +75,26 @@ unfolding TableRoot
 root-code s store (denotes l k m a) r = k ∙ r .0
 
 module _ (table names references registry inp : List ℕ) (lim : Limits) (at t : ℕ) (l : Located) (h : 2 ≤ length inp - at) (is : t ≡ leAt inp at 2) (found : l ≡ tableSchema (slices [] names references registry) t) where
-  tagged : skipped at (rowAt (slices table names references registry) inp lim at) ≡ skipped at (rootFrom (slices table names references registry) inp lim at t l (start lim (at + 2)))
+  tagged : rowAt (slices table names references registry) inp lim at ≡ rootFrom (slices table names references registry) inp lim at t l (start lim (at + 2))
   unfolding rowAt numberOf start pick _>>=_
   tagged = rw (le-leb 2 (length inp - at) h, ← is, ← schema-any table names references registry t, found)
 
+  -- the row is the walk along the block
+  pub row-found : (first n : ℕ) → l ≡ Block first n → rowAt (slices table names references registry) inp lim at ≡ (walk (block table first n) inp lim 64 0 (start lim (at + 2)) >>= λ z. Got (t, z .0) (z .1))
+  unfolding rootFrom
+  row-found first n e = tagged ∙ rw e
+
   pub row-block : (first n : ℕ) → l ≡ Block first n → rowIn table inp lim at t first n ≡ skipped at (rowAt (slices table names references registry) inp lim at)
-  unfolding rootFrom rowIn
-  row-block first n e = sym (tagged ∙ rw e)
+  unfolding rowIn
+  row-block first n e = rw (row-found first n e)
 
   pub row-missing : l ≡ NoTable → Read.Refused (MissingTableSchema t at) ≡ skipped at (rowAt (slices table names references registry) inp lim at)
   unfolding rootFrom skipped
-  row-missing e = sym (tagged ∙ rw e)
+  row-missing e = sym (ap (skipped at) tagged ∙ rw e)
 
   pub row-unknown : l ≡ NoEntry → Read.Refused (UnknownRegistryReference t) ≡ skipped at (rowAt (slices table names references registry) inp lim at)
   unfolding rootFrom skipped
-  row-unknown e = sym (tagged ∙ rw e)
+  row-unknown e = sym (ap (skipped at) tagged ∙ rw e)
 
   -- the block that is found can be walked along
   pub walkable : (s : Settings) → Asked (slices table names references registry) inp s → (first n : ℕ) → l ≡ Block first n → Walkable table inp at first n s
@@ -112,6 +118,43 @@ module _ (table names references registry inp : List ℕ) (lim : Limits) (at t :
           within = omega arith;
         };
       }
+
+-- ---- the place of a row's table
+
+module _ (names references registry inp : List ℕ) (at : ℕ) (x : Place) (is : x ≡ placeAt (slices [] names references registry) inp at) where
+  -- a block that is found: the tag is whole, and the block its table's
+  pub place-block : (t first n : ℕ) → x ≡ Place.Block t first n → (2 ≤ length inp - at) × ((t ≡ leAt inp at 2) × (Block first n ≡ tableSchema (slices [] names references registry) t))
+  unfolding placeBy placeIn
+  place-block t first n e = by (numberAt inp 2 17 at) refl (sym is ∙ e)
+    where
+      found : (t′ : ℕ) (l : Located) → tableSchema (slices [] names references registry) t′ ≡ l → (2 ≤ length inp - at) × (t′ ≡ leAt inp at 2) → placeIn at t′ l ≡ Place.Block t first n →
+          (2 ≤ length inp - at) × ((t ≡ leAt inp at 2) × (Block first n ≡ tableSchema (slices [] names references registry) t))
+      found t′ (Block first′ n′) w k y =
+          let a : t ≡ t′ = cc in
+          let b : first ≡ first′ = cc in
+          let c : n ≡ n′ = cc in
+          rw (a, b, c) (k .0, (k .1, sym w))
+      found t′ NoTable w k y = absurd (let z : _≡_ {A = ℕ} 0 1 = cc in omega arith)
+      found t′ NoEntry w k y = absurd (let z : _≡_ {A = ℕ} 0 1 = cc in omega arith)
+
+      by : (y : Number) → numberAt inp 2 17 at ≡ y → placeBy (slices [] names references registry) at y ≡ Place.Block t first n → (2 ≤ length inp - at) × ((t ≡ leAt inp at 2) × (Block first n ≡ tableSchema (slices [] names references registry) t))
+      by (Is t′ next) w y = found t′ _ refl (table-read inp at (Is t′ next) (sym w) t′ next refl) y
+      by (number-is.Refused r) w y = absurd (let z : _≡_ {A = ℕ} 0 1 = cc in omega arith)
+
+  -- and where there is none, the row is refused so
+  pub place-refused : (table : List ℕ) (lim : Limits) (r : Refusal) → x ≡ Place.Refused r → Read.Refused r ≡ skipped at (rowAt (slices table names references registry) inp lim at)
+  unfolding placeBy placeIn
+  place-refused table lim r e = by (numberAt inp 2 17 at) refl (sym is ∙ e)
+    where
+      none : (t : ℕ) (l : Located) → tableSchema (slices [] names references registry) t ≡ l → (2 ≤ length inp - at) × (t ≡ leAt inp at 2) → placeIn at t l ≡ Place.Refused r →
+          Read.Refused r ≡ skipped at (rowAt (slices table names references registry) inp lim at)
+      none t (Block first n) w k y = absurd (let z : _≡_ {A = ℕ} 0 1 = cc in omega arith)
+      none t NoTable w k y = let z : r ≡ MissingTableSchema t at = cc in rw z (row-missing table names references registry inp lim at t NoTable (k .0) (k .1) (sym w) refl)
+      none t NoEntry w k y = let z : r ≡ UnknownRegistryReference t = cc in rw z (row-unknown table names references registry inp lim at t NoEntry (k .0) (k .1) (sym w) refl)
+
+      by : (y : Number) → numberAt inp 2 17 at ≡ y → placeBy (slices [] names references registry) at y ≡ Place.Refused r → Read.Refused r ≡ skipped at (rowAt (slices table names references registry) inp lim at)
+      by (Is t next) w y = none t _ refl (table-read inp at (Is t next) (sym w) t next refl) y
+      by (number-is.Refused s) w y = let z : r ≡ s = cc in rw z (table-cut inp at (number-is.Refused s) (sym w) (slices table names references registry) lim s refl)
 
 -- ---- the root's value
 pub part-block : (table : List ℕ) (first n : ℕ) → take (first * 16 + n * 16 - first * 16) (drop (first * 16) table) ≡ block table first n

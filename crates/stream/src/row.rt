@@ -1,10 +1,11 @@
 // Rows of a checked format.
 ghost use mathlib.Core.Path.{_≡_};
+ghost use mathlib.Core.List.{[]};
 ghost use Prim.Native.Nat.{suc, _+_, _≤_, _<_};
 ghost use lib.ListN.{length};
 ghost use Rattle.rules.specs.Reading.{limits, rowAt, skipped, runFrom, ranOf};
-ghost use Rattle.schema.specs.Slices.{slices};
-ghost use Rattle.stream.specs.Rows.{Asked, Walkable, rowIn, noValue};
+ghost use Rattle.schema.specs.Slices.{slices, EntriesNamed, ReferencesNamed};
+ghost use Rattle.stream.specs.Rows.{Asked, Walkable, placeAt, rowIn, noValue};
 use read::fields::Number;
 use read::fields::read_table;
 use read::walk::Skipped;
@@ -27,17 +28,52 @@ fn no_value(value: Skipped) -> Read
     }
 }
 
-fn no_table(tag: Number) -> Read
-    ensures { λ r. ⌜ ((why : Refusal) → tag ≡ Number.Refused why → r ≡ Read.Refused why) ⌝ }
+// Where a row's table keeps its schema: the table, and the block's first record and count; or why there is none.
+pub enum Place {
+    Block(u64, u64, u64),
+    Refused(Refusal),
+}
+
+fn no_table(tag: Number) -> Place
+    ensures { λ r. ⌜ ((why : Refusal) → tag ≡ Number.Refused why → r ≡ Place.Refused why) ⌝ }
 {
     match tag {
-        Number::Refused(why) => Read::Refused(why),
-        Number::Is(_, _) => Read::Refused(Refusal::Setting),
+        Number::Refused(why) => Place::Refused(why),
+        Number::Is(_, _) => Place::Refused(Refusal::Setting),
+    }
+}
+
+pub fn no_row(place: Place) -> Read
+    ensures { λ r. ⌜ ((why : Refusal) → place ≡ Place.Refused why → r ≡ Read.Refused why) ⌝ }
+{
+    match place {
+        Place::Refused(why) => Read::Refused(why),
+        Place::Block(_, _, _) => Read::Refused(Refusal::Setting),
+    }
+}
+
+// The block of the table whose tag stands at a place. (A checked format has no reference that its registry lacks.)
+pub fn block_at(names: &[u8], references: &[u8], registry: &[u8], input: &[u8], at: usize) -> Place
+    requires { ⌜ EntriesNamed (now names) (now registry) × ReferencesNamed (now names) (now references) × (at ≤ length (now input)) ⌝ }
+    ensures { λ r. ⌜ r ≡ placeAt (slices [] (now (names .entry)) (now (references .entry)) (now (registry .entry))) (now (input .entry)) at ⌝ }
+{
+    let number = read_table(input, at);
+    let Number::Is(tag, _) = number else {
+        return no_table(number);
+    };
+    let found = table_schema(names, references, registry, tag);
+    match found {
+        Located::Block(first, count) => Place::Block(tag, first, count),
+        Located::NoTable => Place::Refused(Refusal::MissingTableSchema {
+            index: tag,
+            place: at as u64,
+        }),
+        Located::NoEntry => Place::Refused(Refusal::UnknownRegistryReference { table: tag }),
     }
 }
 
 // The row at a place, whose table tag was read: the value of the root of its table's block.
-fn row_of(
+pub fn row_of(
     table: &[u8],
     input: &[u8],
     at: usize,
@@ -63,8 +99,7 @@ fn row_of(
     })
 }
 
-// The row at a place: its table tag, its table's block, and the root's value. (A checked format has no reference that its registry
-// lacks.)
+// The row at a place: its table's block, and the root's value.
 pub fn row_at(
     table: &[u8],
     names: &[u8],
@@ -77,19 +112,11 @@ pub fn row_at(
     requires { ⌜ Asked (slices (now table) (now names) (now references) (now registry)) (now input) settings × (at ≤ length (now input)) ⌝ }
     ensures { λ r. ⌜ r ≡ skipped at (rowAt (slices (now (table .entry)) (now (names .entry)) (now (references .entry)) (now (registry .entry))) (now (input .entry)) (limits settings) at) ⌝ }
 {
-    let number = read_table(input, at);
-    let Number::Is(tag, _) = number else {
-        return no_table(number);
+    let place = block_at(names, references, registry, input, at);
+    let Place::Block(tag, first, count) = place else {
+        return no_row(place);
     };
-    let found = table_schema(names, references, registry, tag);
-    match found {
-        Located::Block(first, count) => row_of(table, input, at, tag, first, count, settings),
-        Located::NoTable => Read::Refused(Refusal::MissingTableSchema {
-            index: tag,
-            place: at as u64,
-        }),
-        Located::NoEntry => Read::Refused(Refusal::UnknownRegistryReference { table: tag }),
-    }
+    row_of(table, input, at, tag, first, count, settings)
 }
 
 fn stopped(rows: u64, at: usize, stop: Stop) -> Ran
