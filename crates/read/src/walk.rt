@@ -175,7 +175,8 @@ fn next_child(code: u8, first: u64, count: u64, i: u64, input: &[u8], at: usize)
         if count <= i {
             return Pick::End(at);
         }
-        return Pick::Child((first + i) as usize, at);
+        let child = first + i;
+        return Pick::Child(child as usize, at);
     }
     let t = read_tag(code, input, at);
     let Number::Is(tag, next) = t else {
@@ -192,7 +193,8 @@ fn next_child(code: u8, first: u64, count: u64, i: u64, input: &[u8], at: usize)
             place: at as u64,
         });
     }
-    Pick::Child((first + tag) as usize, next)
+    let child = first + tag;
+    Pick::Child(child as usize, next)
 }
 
 // What a node comes to at once: a leaf of this code from a position, or children.

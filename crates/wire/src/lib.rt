@@ -45,8 +45,21 @@ pub fn u64_at(s: &[u8], at: usize) -> u64
     u32_at(s, at) + 4294967296 * u32_at(s, at + 4)
 }
 
-// The number in `width` bytes, for the widths that are known only at run time.
+// The number in `width` bytes, for the widths that are known only at run time: those of scalars by one load.
 pub fn field(s: &[u8], at: usize, width: usize) -> u64
+    requires { ⌜ (width ≤ 8) × (at + width ≤ length (now s)) ⌝ }
+    ensures { λ r. ⌜ r ≡ leAt (now (s .entry)) at width ⌝ }
+{
+    match width {
+        1 => wide(s[at]),
+        2 => u16_at(s, at),
+        4 => u32_at(s, at),
+        8 => u64_at(s, at),
+        _ => by_bytes(s, at, width),
+    }
+}
+
+fn by_bytes(s: &[u8], at: usize, width: usize) -> u64
     requires { ⌜ (width ≤ 8) × (at + width ≤ length (now s)) ⌝ }
     ensures { λ r. ⌜ r ≡ leAt (now (s .entry)) at width ⌝ }
 {

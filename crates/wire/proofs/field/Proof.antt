@@ -1,70 +1,55 @@
-use borrow.Author.Needs.{needs}
 use native.Mathlib.Omega.{arith}
-use Prim.Native.Nat.{_+_, _-_, _≤_, _<_, _^_}
-use mathlib.Core.Path.{_≡_, _∙_}
+use borrow.Author.Needs.{needs}
 use Rattle.rules.specs.Bytes.{leAt}
-use Rattle.wire.proofs.Fields.{le-within, le-none, le-all, le-step}
 use Rattle.wire.proofs.field.Statement.{statement}
 use Rattle.wire.proofs.field.Tie as tie
 
-abbrev Inv-loop : tie.InvT-loop
-Inv-loop s at width v₀ k₀ v k = (k ≤ width) × (v ≡ leAt s (at + k) (width - k))
-
-abbrev μ-loop : tie.MeasureT-loop
-μ-loop s at width v₀ k₀ v k = k
-
-loop-holds : tie.Need-loop-holds Inv-loop μ-loop
-loop-holds c = (search needs, le-none _ _ _)
-
-sub-k : tie.Need-sub-k Inv-loop μ-loop
-sub-k c = search needs
-
--- what has been read has at most seven bytes where another is to come
-small : (c : tie.In-loop Inv-loop μ-loop) → c .before .loop .v < 256 ^ 7
-small c =
-    let a = c .before .before .before .args in
-    let l = c .before .loop in
-    rw (l .inv .1) (le-within (a .s .now) (λ i. omega (arith, c .before .before .shared-slice-known .given i)) _ _ 7 (omega arith))
-
-mul-v : tie.Need-mul-v Inv-loop μ-loop
-mul-v c = omega (arith, small c)
-
-add-wide : tie.Need-add-wide Inv-loop μ-loop
-add-wide c = search needs
-
-shared-slice-read-wide : tie.Need-shared-slice-read-wide Inv-loop μ-loop
+shared-slice-read-wide : tie.Need-shared-slice-read-wide
 shared-slice-read-wide c = search needs
 
-wide-requires : tie.Need-wide-requires Inv-loop μ-loop
+wide-requires : tie.Need-wide-requires
 wide-requires c κs = search needs
 
-add-v : tie.Need-add-v Inv-loop μ-loop
-add-v c = omega (arith, small (c .before .before))
+u16-at-requires : tie.Need-u16-at-requires
+u16-at-requires c κs = search needs
 
-loop-less : tie.Need-loop-less Inv-loop μ-loop
-loop-less c = search needs
+u32-at-requires : tie.Need-u32-at-requires
+u32-at-requires c κs = search needs
 
-loop-again : tie.Need-loop-again Inv-loop μ-loop
-loop-again c =
-    let l = c .before .before .before .loop in
-    (search needs, rw (c .wide .ensures .0, l .inv .1) (le-step _ _ _ _ (c .before .before .loop-test .taken) (l .inv .0)))
+u64-at-requires : tie.Need-u64-at-requires
+u64-at-requires c κs = search needs
 
-returns : tie.Need-returns Inv-loop μ-loop
-returns c = c .before .loop .inv .1 ∙ le-all _ _ _ _ (c .loop-test .left)
+by-bytes-requires : tie.Need-by-bytes-requires
+by-bytes-requires c κs = search needs
+
+returns : tie.Need-returns
+unfolding leAt
+returns c = rw (c .before .before .match .keys1) (omega (arith, c .wide .ensures .0))
+
+returns-2 : tie.Need-returns-2
+returns-2 c = rw (c .before .match .keys2) (c .u16-at .ensures)
+
+returns-3 : tie.Need-returns-3
+returns-3 c = rw (c .before .match .keys3) (c .u32-at .ensures)
+
+returns-4 : tie.Need-returns-4
+returns-4 c = rw (c .before .match .keys4) (c .u64-at .ensures)
+
+returns-5 : tie.Need-returns-5
+returns-5 c = search needs
 
 pub field-spec : {M : Type 1} → statement M
 field-spec =
     tie.close
     (tie.spec
-    Inv-loop
-    μ-loop
-    loop-holds
-    sub-k
-    mul-v
-    add-wide
     shared-slice-read-wide
     wide-requires
-    add-v
-    loop-less
-    loop-again
-    returns)
+    u16-at-requires
+    u32-at-requires
+    u64-at-requires
+    by-bytes-requires
+    returns
+    returns-2
+    returns-3
+    returns-4
+    returns-5)

@@ -10,8 +10,8 @@ returns : tie.Need-returns
 unfolding picked pick
 returns c = rw (shape-tuple _ (c .before .if1 .taken), le-ltb _ _ (c .if2 .taken))
 
-add-t12 : tie.Need-add-t12
-add-t12 c = search needs
+add-child : tie.Need-add-child
+add-child c = search needs
 
 returns-2 : tie.Need-returns-2
 unfolding picked pick
@@ -44,8 +44,8 @@ returns-5 : tie.Need-returns-5
 unfolding byTag pick
 returns-5 c = rw (picked-tag _ _ _ _ _ _ (c .before .before .before .before .before .before .before .if1 .left), ← c .before .before .before .before .before .before .read-tag .ensures, c .before .before .before .before .t .given .1, ← c .before .before .ends .ensures, c .before .if3 .left, le-ltb _ _ (c .if4 .taken))
 
-add-t17 : tie.Need-add-t17
-add-t17 c = search needs
+add-child-2 : tie.Need-add-child-2
+add-child-2 c = search needs
 
 returns-6 : tie.Need-returns-6
 unfolding byTag pick
@@ -56,7 +56,7 @@ next-child-spec =
     tie.close
     (tie.spec
     returns
-    add-t12
+    add-child
     returns-2
     read-tag-requires
     enum-known-t
@@ -66,5 +66,5 @@ next-child-spec =
     ends-requires
     returns-4
     returns-5
-    add-t17
+    add-child-2
     returns-6)
