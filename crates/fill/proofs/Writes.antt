@@ -1,6 +1,6 @@
 -- Laws of what is written: a record by its fields, and a copy turn by turn.
 -- Assumes nothing.
-use Prim.Native.Nat.{ℕ, zero, suc, _+_, _-_, _/_, _%_, _≤_, _<_}
+use Prim.Native.Nat.{ℕ, zero, suc, _+_, _-_, _/_, _%_, _≤_, _<_, min}
 use mathlib.Core.Path.{_≡_, refl, sym, ap, _∙_}
 use mathlib.Core.List.{List, [], _∷_, _++_, append-assoc}
 use native.Mathlib.Omega.{arith}
@@ -75,6 +75,15 @@ copy-word src dst from at j k w h l =
     ∙ over-again b c (over dst at a) (at + j) f
     ∙ over-at a c dst at (at + j) e
     ∙ ap (over dst at) (sym (part-both src from j w))
+
+-- the same at a place that is kept from going past the last one
+copy-near : (src dst : List ℕ) (from at n last w k : ℕ) → last + w ≡ n → over (over dst at (part src from (min k n))) (at + min k last) (part src (from + min k last) w) ≡ over dst at (part src from (min (k + w) n))
+copy-near src dst from at n last w k e =
+    let j : min k last + w ≡ min (k + w) n = omega arith in
+    rw j at (copy-word src dst from at (min k last) (min k n) w (omega arith) (omega arith))
+
+pub near-step : (src dst : List ℕ) (from at n last w k : ℕ) → last + w ≡ n → (p p′ : List ℕ) → p ≡ over dst at (part src from (min k n)) → p′ ≡ over p (at + min k last) (part src (from + min k last) w) → (k′ : ℕ) → k′ ≡ k + w → p′ ≡ over dst at (part src from (min k′ n))
+near-step src dst from at n last w k e p p′ a b k′ c = b ∙ rw (a, c) (copy-near src dst from at n last w k e)
 
 -- ---- a copy byte by byte: what is left to write, over what is written, is the whole
 module _ (src dst : List ℕ) (from at n : ℕ) where

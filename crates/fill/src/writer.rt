@@ -1,6 +1,6 @@
 // The one writer of value records, and the copying of payload bytes.
 ghost use mathlib.Core.Path.{_≡_};
-ghost use Prim.Native.Nat.{_+_, _*_, _≤_};
+ghost use Prim.Native.Nat.{_+_, _*_, _^_, _≤_, _<_, min};
 ghost use lib.ListN.{length};
 ghost use Rattle.rules.specs.Bytes.{part, over};
 ghost use Rattle.rules.specs.ValueTable.{valueRecord};
@@ -45,8 +45,32 @@ fn copy_word(input: &[u8], from: usize, payload: &mut [u8], to: usize)
     put64(payload, to, u64_at(input, from));
 }
 
-// n bytes of the input from place `from` on, into the payload store from place `to` on: word by word, and the last word may lie over the one
-// before it, so that no length costs a turn for each byte.
+fn least(a: usize, b: usize) -> usize
+    ensures { λ r. ⌜ r ≡ min a b ⌝ }
+{
+    if a < b { a } else { b }
+}
+
+// The word at place k, or the last one where that comes first; and the place after k's.
+fn copy_near(
+    input: &[u8],
+    from: usize,
+    payload: &mut [u8],
+    to: usize,
+    k: usize,
+    last: usize,
+) -> usize
+    requires { ⌜ (from + (last + 8) ≤ length (now input)) × (to + (last + 8) ≤ length (now payload)) × (k + 8 < 2 ^ 64) ⌝ }
+    ensures next { λ r. ⌜ r ≡ k + 8 ⌝ }
+    ensures payload { λ _. ⌜ now (payload .exit) ≡ over (now (payload .entry)) (to + min k last) (part (now (input .entry)) (from + min k last) 8) ⌝ }
+{
+    let j = least(k, last);
+    copy_word(input, from + j, payload, to + j);
+    k + 8
+}
+
+// n bytes of the input from place `from` on, into the payload store from place `to` on: four words at a turn, of which none goes past the
+// last, and that one at the end. So all names of 9 to 40 bytes take one turn, and the processor has no length to guess.
 pub fn copy(input: &[u8], from: usize, n: usize, payload: &mut [u8], to: usize)
     requires { ⌜ (from + n ≤ length (now input)) × (to + n ≤ length (now payload)) ⌝ }
     ensures { λ _. ⌜ now (payload .exit) ≡ over (now (payload .entry)) to (part (now (input .entry)) from n) ⌝ }
@@ -58,8 +82,10 @@ pub fn copy(input: &[u8], from: usize, n: usize, payload: &mut [u8], to: usize)
     let last = n - 8;
     let mut k = 0;
     while k < last {
-        copy_word(input, from + k, payload, to + k);
-        k += 8;
+        k = copy_near(input, from, payload, to, k, last);
+        k = copy_near(input, from, payload, to, k, last);
+        k = copy_near(input, from, payload, to, k, last);
+        k = copy_near(input, from, payload, to, k, last);
     }
     copy_word(input, from + last, payload, to + last);
 }
