@@ -1,5 +1,7 @@
+use Prim.Native.Nat.{_+_, _*_, _≤_}
 use native.Mathlib.Omega.{arith}
 use mathlib.Core.Path.{refl}
+use lib.ListN.{length}
 use borrow.Author.Needs.{needs}
 use Rattle.rules.specs.Block.{nodeAt, Closed}
 use Rattle.fill.specs.Plain.{valueOf, readAt}
@@ -30,26 +32,22 @@ add-u32-at c = search needs
 u32-at-requires : tie.Need-u32-at-requires
 u32-at-requires c κs = search needs
 
-add-child : tie.Need-add-child
+-- the child that the tag names lies in the block
+there : (c : tie.After-u32-at) → (c .u32-at .result + c .before .tag-at .result) * 16 + 16 ≤ length (c .before .before .before .before .before .before .before .args .block .now)
 unfolding Closed
-add-child c =
+there c =
     let s = c .before .before .before .before .before .before .before in
     let i = inside _ _ _ _ _ (s .pre .2) (s .args .s) (s .args .tag) (s .args .records .now) (s .pre .3 .is) (c .before .before .before .if1 .left) (omega (arith, c .before .before .if2 .left)) _ _ (c .before .tag-at .ensures .0) refl _ (c .u32-at .ensures) in
-    omega (arith, i, s .pre .0 (s .args .node) (s .pre .1), s .good)
+    omega (arith, i, s .pre .0 (s .args .node) (s .pre .1))
+
+add-child : tie.Need-add-child
+add-child c = omega (arith, there c, c .before .before .before .before .before .before .before .good)
 
 mul-below : tie.Need-mul-below
-unfolding Closed
-mul-below c =
-    let s = c .before .before .before .before .before .before .before in
-    let i = inside _ _ _ _ _ (s .pre .2) (s .args .s) (s .args .tag) (s .args .records .now) (s .pre .3 .is) (c .before .before .before .if1 .left) (omega (arith, c .before .before .if2 .left)) _ _ (c .before .tag-at .ensures .0) refl _ (c .u32-at .ensures) in
-    omega (arith, i, s .pre .0 (s .args .node) (s .pre .1), s .good)
+mul-below c = omega (arith, there c, c .before .before .before .before .before .before .before .good)
 
 shared-slice-read-below : tie.Need-shared-slice-read-below
-unfolding Closed
-shared-slice-read-below c =
-    let s = c .before .before .before .before .before .before .before .before in
-    let i = inside _ _ _ _ _ (s .pre .2) (s .args .s) (s .args .tag) (s .args .records .now) (s .pre .3 .is) (c .before .before .before .before .if1 .left) (omega (arith, c .before .before .before .if2 .left)) _ _ (c .before .before .tag-at .ensures .0) refl _ (c .before .u32-at .ensures) in
-    omega (arith, i, s .pre .0 (s .args .node) (s .pre .1))
+shared-slice-read-below c = omega (arith, there (c .before))
 
 returns-3 : tie.Need-returns-3
 returns-3 c = leads-on _ _ _ _ _ (c .before .before .before .before .before .before .before .before .before .pre .2) _ _ _ (c .before .before .before .before .before .if1 .left)
