@@ -101,7 +101,7 @@ module _ (inp : List ℕ) (lim : Limits) where
       (ap (Got tt) (pos-eq (record { at = p .at; left = p .left - n; records = p .records + r; payload = p .payload }) q (omega (arith, s .at)) (omega (arith, s .left)) (omega (arith, s .records)) (omega (arith, s .payload))))
 
   module _ (tree : ℕ → Schema) (rec : Walker) (ok : (i : ℕ) (v : Value) (b : List ℕ) (p q : Pos) → Row (tree i) v b → Span inp lim p q b (tollV lim v) → rec i p ≡ Got v q) where
-    child-got : (n : Node) (t place : ℕ) {v : Value} {b : List ℕ} {p q : Pos} → t < count (treesFrom tree (n .first) (n .children)) → Row (child (treesFrom tree (n .first) (n .children)) t) v b →
+    pub child-got : (n : Node) (t place : ℕ) {v : Value} {b : List ℕ} {p q : Pos} → t < count (treesFrom tree (n .first) (n .children)) → Row (child (treesFrom tree (n .first) (n .children)) t) v b →
         Span inp lim p q b (tollV lim v) → childOf rec n t place p ≡ Got v q
     unfolding childOf pick
     child-got n t place {v = v} {b = b} {p = p} {q = q} h r s =
