@@ -16,7 +16,7 @@ use Rattle.rules.specs.Grammar.{Row, row, Body, a-nothing, a-false, a-true, a-n
 use Rattle.rules.specs.Walk.{Limits, blobLimit, Pos, Got, _>>=_, numberOf, bytesOf, charged, blobOf, Walker, childOf, pairsOf, fieldsOf, valueOf, walk, after}
 use Rattle.rules.specs.declared.Node.{Node}
 use Rattle.rules.proofs.Stands.{length-le, stands-in, stands-le, stands-part}
-use Rattle.rows.proofs.Only.{end-fits}
+use Rattle.rows.proofs.Only.{end-fits, tag-wide}
 use Rattle.rows.proofs.Span.{excess, within-excess, Toll, free, load, fee, mark, tollV, tollI, tollF, Sum, pos-eq, Span, in-end, as-toll, split, count-from, child-from}
 use Rattle.rows.proofs.Sound.{Accepted}
 
@@ -54,11 +54,6 @@ marked (blob k x) n a b = omega arith
 marked (variant t v) n a b = omega arith
 marked (repeated is) n a b = omega arith
 marked (tuple vs) n a b = omega arith
-
-pub tag-wide : (t w : ℕ) → t < endTag w → 0 < w
-unfolding endTag
-tag-wide t zero h = omega arith
-tag-wide t (suc w) h = omega arith
 
 -- what is left of a value's toll when its node is charged
 abbrev inner : Limits → Value → Toll

@@ -4,7 +4,6 @@ pub mod Conform
 pub mod Sound
 pub mod Complete
 pub mod Agree
-pub mod Honest
 pub mod Refused
 pub mod TableRows
 pub mod RowReasons

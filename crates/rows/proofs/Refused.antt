@@ -20,10 +20,11 @@ use Rattle.rules.specs.declared.Width.the-variants.{Fixed, Variable}
 use Rattle.rules.specs.declared.Refusal.{Refusal}
 use Rattle.rules.specs.declared.Refusal.the-variants.{Truncated, RowTooLarge}
 use Rattle.rules.proofs.Stands.{length-le, stands-in}
+use Rattle.rows.proofs.Only.{tag-wide}
 use Rattle.rows.proofs.Conform.{valid-child}
 use Rattle.rows.proofs.Span.{within-excess, tollV, Span, in-end, count-from, child-from}
-use Rattle.rows.proofs.Complete.{tag-wide, le-got, child-got, walk-got}
-use Rattle.rows.proofs.Honest.{Spent}
+use Rattle.rows.proofs.Sound.{Spent}
+use Rattle.rows.proofs.Complete.{le-got, child-got, walk-got}
 
 -- so much off the allowance, for r records
 abbrev paid : ℕ → ℕ → Pos → Pos

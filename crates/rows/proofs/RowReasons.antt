@@ -23,9 +23,8 @@ use Rattle.rules.specs.declared.Checked.the-variants.{Accepted}
 use Rattle.rules.proofs.Stands.{length-le}
 use Rattle.blocks.proofs.Tables.{TableSchema, table-schema}
 use Rattle.rows.proofs.Span.{in-end}
-use Rattle.rows.proofs.Sound.{number-holds, walk-holds}
+use Rattle.rows.proofs.Sound.{Says, gets, refuses, refused, as-why, then, Spent, number-says, walk-says}
 use Rattle.rows.proofs.TableRows.{row-accepts, row-agrees}
-use Rattle.rows.proofs.Honest.{Tells, accepts, tells, told, weaken, onto, Spent, number-tells, walk-tells}
 use Rattle.rows.proofs.Refused.{number-cut, number-there, number-ends, walk-refused}
 
 same-refusal : {A : Type 0} {r r′ : Refusal} → _≡_ {A = Answer A} (Refused r) (Refused r′) → r ≡ r′
@@ -48,24 +47,23 @@ module _ (f : Format) (inp : List ℕ) (lim : Limits) (at : ℕ) (ok : formatRul
   missing t h = rw (le-ltb t (tables f) h)
 
   module _ (bs : Bytes inp) where
-    root-tells : (t : ℕ) (q : Pos) → Number inp at 2 t → q .at ≡ at + 2 → q .at ≤ length inp → Spent lim q 0 → (b : Bool) → ltb t (tables f) ≡ b → Tells (RowReason f inp lim at) (rootFrom f inp lim at t (tableSchema f t) q)
+    root-says : (t : ℕ) (q : Pos) → Number inp at 2 t → q .at ≡ at + 2 → q .at ≤ length inp → Spent lim q 0 → (b : Bool) → ltb t (tables f) ≡ b → Says (λ z q. Unit) (RowReason f inp lim at) (rootFrom f inp lim at t (tableSchema f t) q)
     unfolding rootFrom
-    root-tells t q num g h m true e =
+    root-says t q num g h m true e =
         let l = ltb-true t (tables f) e in
         let s = table-schema f ok t l in
         let tree = root-tree s in
         rw (s .stands)
-        (onto (weaken (walk-tells inp lim bs (block (f .table) (s .first) (s .count)) (f .names) 64 0 q 0 (rw tree at (s .valid)) h m) (λ r x. in-root num l (rw (tree, ← g) x)))
-        (walk-holds inp lim bs (block (f .table) (s .first) (s .count)) (f .names) 64 0 q h) (λ z p. accepts))
-    root-tells t q num g h m false e =
+        (then (as-why (walk-says inp lim bs (block (f .table) (s .first) (s .count)) (f .names) 64 0 q h) (λ r x. in-root num l (rw (tree, ← g) (x (rw tree at (s .valid)) 0 m)))) (λ z p. gets tt))
+    root-says t q num g h m false e =
         let l = ltb-false t (tables f) e in
-        rw (missing t l) (tells (no-table num l))
+        rw (missing t l) (refuses (no-table num l))
 
-    row-tells : at ≤ length inp → Tells (RowReason f inp lim at) (rowAt f inp lim at)
+    row-says : at ≤ length inp → Says (λ z q. Unit) (RowReason f inp lim at) (rowAt f inp lim at)
     unfolding rowAt start
-    row-tells h =
-        onto (number-tells inp lim 2 17 (start lim at) h (λ c. cut-table-tag c)) (number-holds inp lim bs 2 17 (start lim at) h) (λ (t, q) a.
-        root-tells t q (record { fits = a .0; stands = a .1 .stands }) (omega (arith, a .1 .at, length-le 2 t)) (in-end inp lim (a .1)) (omega (arith, a .1 .left)) (ltb t (tables f)) refl)
+    row-says h =
+        then (number-says inp lim bs 2 17 (start lim at) h (λ c. cut-table-tag c)) (λ (t, q) a.
+        root-says t q (record { fits = a .0; stands = a .1 .stands }) (omega (arith, a .1 .at, length-le 2 t)) (in-end inp lim (a .1)) (omega (arith, a .1 .left)) (ltb t (tables f)) refl)
 
   row-refused : at ≤ length inp → (r : Refusal) → RowReason f inp lim at r → rowAt f inp lim at ≡ Refused r
   unfolding rowAt rootFrom start _>>=_
@@ -78,7 +76,7 @@ module _ (f : Format) (inp : List ℕ) (lim : Limits) (at : ℕ) (ok : formatRul
 
   -- a row is refused just for the reason that is there
   pub row-reasons : Bytes inp → at ≤ length inp → (r : Refusal) → (rowAt f inp lim at ≡ Refused r) ↔ RowReason f inp lim at r
-  row-reasons bs h r = (λ e. told (rw e at (row-tells bs h)), row-refused h r)
+  row-reasons bs h r = (λ e. refused (rw e at (row-says bs h)), row-refused h r)
 
   -- there is no second reason
   pub one-reason : at ≤ length inp → (r r′ : Refusal) → RowReason f inp lim at r → RowReason f inp lim at r′ → r ≡ r′
