@@ -17,7 +17,7 @@ use Rattle.rules.specs.ValueTable.{TableOf, Whole, tableValue, flat, pays}
 use Rattle.rules.specs.Grammar.{Row, Conforms, encodedRow}
 use Rattle.rules.specs.Walk.{Limits, Pos, Got, Refused}
 use Rattle.rules.specs.Reading.{limits, rowAt, schemaOf, Accepts, skipRule, decodeRule, runFrom, runRule, byteCount, ranOf}
-use Rattle.rules.specs.Reasons.{RowReason, Judged}
+use Rattle.rules.specs.Reasons.{RowReason, RowJudged}
 use Rattle.rules.specs.Windows.{movedAnswer, WasCut, goesOn, continued, added}
 use Rattle.rules.specs.Writing.{encodeRule}
 use Rattle.rules.specs.declared.Settings.{Settings}
@@ -99,7 +99,7 @@ pub no-second-reason : (f : Format) (inp : List ℕ) (lim : Limits) (at : ℕ) �
 no-second-reason = one-reason
 
 -- and each row is accepted or has a reason, never both
-pub accepted-or-refused : (f : Format) (inp : List ℕ) (lim : Limits) (at : ℕ) → formatRules f ≡ Accepted → Bytes inp → at ≤ length inp → Judged f inp lim at
+pub accepted-or-refused : (f : Format) (inp : List ℕ) (lim : Limits) (at : ℕ) → formatRules f ≡ Accepted → Bytes inp → at ≤ length inp → RowJudged f inp lim at
 accepted-or-refused = row-judged
 
 -- bytes after a row do not matter to it, unless it was cut (12)

@@ -14,7 +14,7 @@ use Rattle.rules.specs.Block.{nodeAt, treesFrom, treeAt}
 use Rattle.rules.specs.Value.{Value, tally, costs}
 use Rattle.rules.specs.Grammar.{Row}
 use Rattle.rules.specs.Walk.{Limits, blobLimit, Pos, Got, Refused, _>>=_, onward, numberOf, bytesOf, charged, blobOf, Walker, childOf, pairsOf, fieldsOf, valueOf, walk}
-use Rattle.rules.specs.Reasons.{Cut, Number, StandsWhole, NodeReason, dear-node, in-node, BodyReason, cut-scalar, cut-length, long-blob, dear-blob, cut-payload, in-variant, in-repeated, in-tuple, TagReason, cut-tag, stray-tag, in-child, PairsReason, this-pair, later-pair, FieldsReason, this-field, later-field}
+use Rattle.rules.specs.Reasons.{Cut, Number, StandsWhole, NodeReason, dear-node, in-node, BodyReason, cut-scalar, cut-length, long-blob, dear-blob, cut-payload, of-variant, of-repeated, of-tuple, TagReason, cut-tag, stray-tag, in-child, PairsReason, this-pair, later-pair, FieldsReason, this-field, later-field}
 use Rattle.rules.specs.declared.Node.{Node}
 use Rattle.rules.specs.declared.Width.the-variants.{Fixed, Variable}
 use Rattle.rules.specs.declared.Refusal.{Refusal}
@@ -147,13 +147,13 @@ module _ (inp : List ℕ) (lim : Limits) where
     value-refused n p spent r a h m (dear-blob {n = x} num b o) = rw (number-there 4 x 13 p num, le-leb x (blobLimit lim (n .code)) b, charge-dear x 0 (p .at) (onward 4 p) (omega arith))
     value-refused n p spent r a h m (cut-payload {n = x} num b o c) =
         rw (number-there 4 x 13 p num, le-leb x (blobLimit lim (n .code)) b, charge-paid x 0 (p .at) (onward 4 p) (omega arith), bytes-cut x 14 (paid x 0 (onward 4 p)) (number-ends num) c)
-    value-refused n p spent r a h m (in-variant {w = w} x) = by (tag-stops n w p spent r a h m x)
+    value-refused n p spent r a h m (of-variant {w = w} x) = by (tag-stops n w p spent r a h m x)
       where
         by : Stops n w p r → valueOf inp lim rec n (choice w) p ≡ Refused r
         by (in-tag e) = rw e
         by (after-tag t num e) = rw (number-there w t (14 + w) p num, e)
-    value-refused n p spent r a h m (in-repeated {w = w} x) = rw (pairs-refused n w (suc (length inp - p .at)) p spent r a (omega arith) h m x)
-    value-refused n p spent r a h m (in-tuple x) = rw (fields-refused (n .first) (n .children) p spent r a h m x)
+    value-refused n p spent r a h m (of-repeated {w = w} x) = rw (pairs-refused n w (suc (length inp - p .at)) p spent r a (omega arith) h m x)
+    value-refused n p spent r a h m (of-tuple x) = rw (fields-refused (n .first) (n .children) p spent r a h m x)
 
   -- what has a reason under a valid schema is refused for it
   pub walk-refused : (sch store : List ℕ) (d i : ℕ) (p : Pos) (spent : ℕ) (r : Refusal) → Valid (treeAt sch store d i) → p .at ≤ length inp → Spent lim p spent → NodeReason inp lim (treeAt sch store d i) (p .at) spent r → walk sch inp lim d i p ≡ Refused r

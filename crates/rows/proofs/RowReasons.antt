@@ -16,14 +16,14 @@ use Rattle.rules.specs.Format.{Format, tables, tableSchema, formatRules}
 use Rattle.rules.specs.Value.{Value}
 use Rattle.rules.specs.Walk.{Limits, Pos, Answer, Got, Refused, _>>=_, onward}
 use Rattle.rules.specs.Reading.{start, rootFrom, rowAt, schemaIn, schemaOf}
-use Rattle.rules.specs.Reasons.{Number, RowReason, cut-table-tag, no-table, in-root, Judged, is-accepted, is-refused}
+use Rattle.rules.specs.Reasons.{Number, RowReason, cut-table-tag, missing-table, in-root, RowJudged, is-accepted, is-refused}
 use Rattle.rules.specs.declared.Located.the-variants.{NoTable}
 use Rattle.rules.specs.declared.Refusal.{Refusal}
 use Rattle.rules.specs.declared.Checked.the-variants.{Accepted}
 use Rattle.rules.proofs.Stands.{length-le}
 use Rattle.blocks.proofs.Tables.{TableSchema, table-schema}
 use Rattle.rows.proofs.Span.{in-end}
-use Rattle.rows.proofs.Sound.{Says, gets, refuses, refused, as-why, then, Spent, number-says, walk-says}
+use Rattle.rows.proofs.Sound.{Says, gets, refuses, if-refused, as-why, then, Spent, number-says, walk-says}
 use Rattle.rows.proofs.TableRows.{row-accepts, row-agrees}
 use Rattle.rows.proofs.Refused.{number-cut, number-there, number-ends, walk-refused}
 
@@ -57,7 +57,7 @@ module _ (f : Format) (inp : List ℕ) (lim : Limits) (at : ℕ) (ok : formatRul
         (then (as-why (walk-says inp lim bs (block (f .table) (s .first) (s .count)) (f .names) 64 0 q h) (λ r x. in-root num l (rw (tree, ← g) (x (rw tree at (s .valid)) 0 m)))) (λ z p. gets tt))
     root-says t q num g h m false e =
         let l = ltb-false t (tables f) e in
-        rw (missing t l) (refuses (no-table num l))
+        rw (missing t l) (refuses (missing-table num l))
 
     row-says : at ≤ length inp → Says (λ z q. Unit) (RowReason f inp lim at) (rowAt f inp lim at)
     unfolding rowAt start
@@ -68,7 +68,7 @@ module _ (f : Format) (inp : List ℕ) (lim : Limits) (at : ℕ) (ok : formatRul
   row-refused : at ≤ length inp → (r : Refusal) → RowReason f inp lim at r → rowAt f inp lim at ≡ Refused r
   unfolding rowAt rootFrom start _>>=_
   row-refused h r (cut-table-tag c) = rw (number-cut inp lim 2 17 (start lim at) h c)
-  row-refused h r (no-table {t = t} num l) = rw (number-there inp lim 2 t 17 (start lim at) num, missing t l)
+  row-refused h r (missing-table {t = t} num l) = rw (number-there inp lim 2 t 17 (start lim at) num, missing t l)
   row-refused h r (in-root {t = t} num l x) =
       let s = table-schema f ok t l in
       let tree = root-tree s in
@@ -76,16 +76,16 @@ module _ (f : Format) (inp : List ℕ) (lim : Limits) (at : ℕ) (ok : formatRul
 
   -- a row is refused just for the reason that is there
   pub row-reasons : Bytes inp → at ≤ length inp → (r : Refusal) → (rowAt f inp lim at ≡ Refused r) ↔ RowReason f inp lim at r
-  row-reasons bs h r = (λ e. refused (rw e at (row-says bs h)), row-refused h r)
+  row-reasons bs h r = (λ e. if-refused (rw e at (row-says bs h)), row-refused h r)
 
   -- there is no second reason
   pub one-reason : at ≤ length inp → (r r′ : Refusal) → RowReason f inp lim at r → RowReason f inp lim at r′ → r ≡ r′
   one-reason h r r′ x y = same-refusal (sym (row-refused h r x) ∙ row-refused h r′ y)
 
   -- a row is accepted or has a reason, and never both
-  pub row-judged : Bytes inp → at ≤ length inp → Judged f inp lim at
+  pub row-judged : Bytes inp → at ≤ length inp → RowJudged f inp lim at
   row-judged bs h = by (rowAt f inp lim at) refl
     where
-      by : (a : Answer (ℕ × Value)) → rowAt f inp lim at ≡ a → Judged f inp lim at
+      by : (a : Answer (ℕ × Value)) → rowAt f inp lim at ≡ a → RowJudged f inp lim at
       by (Got (t, v) q) e = is-accepted t v q (row-agrees f inp lim at bs h t v q .0 e) (λ r x. not-both (sym e ∙ row-refused h r x))
       by (Refused r) e = is-refused r (row-reasons bs h r .0 e) (λ t v q a. not-both (sym (row-accepts f inp lim at a) ∙ e))

@@ -14,7 +14,7 @@ use Rattle.rules.specs.Block.{nodeAt, treesFrom, treeAt}
 use Rattle.rules.specs.Value.{Value, boolean, number, wide, blob, variant, repeated, tuple, item, more, tally, Within, costs, recordsOf, payloadOf}
 use Rattle.rules.specs.Grammar.{Row, row, Body, a-nothing, a-false, a-true, a-number, a-wide, a-blob, a-variant, a-repeated, a-tuple, Pairs, end, pair, Fields, no-field, field}
 use Rattle.rules.specs.Walk.{Limits, blobLimit, Pos, Answer, Got, Refused, _>>=_, numberOf, bytesOf, charged, blobOf, Walker, childOf, pairsOf, fieldsOf, valueOf, walk, after}
-use Rattle.rules.specs.Reasons.{Cut, Number, StandsWhole, NodeReason, dear-node, in-node, BodyReason, cut-scalar, cut-length, long-blob, dear-blob, cut-payload, in-variant, in-repeated, in-tuple, TagReason, cut-tag, stray-tag, in-child, PairsReason, this-pair, later-pair, FieldsReason, this-field, later-field}
+use Rattle.rules.specs.Reasons.{Cut, Number, StandsWhole, NodeReason, dear-node, in-node, BodyReason, cut-scalar, cut-length, long-blob, dear-blob, cut-payload, of-variant, of-repeated, of-tuple, TagReason, cut-tag, stray-tag, in-child, PairsReason, this-pair, later-pair, FieldsReason, this-field, later-field}
 use Rattle.rules.specs.declared.Node.{Node}
 use Rattle.rules.specs.declared.Refusal.{Refusal}
 use Rattle.rules.specs.declared.Refusal.the-variants.{Truncated, RowTooLarge, InvalidVariantTag}
@@ -42,11 +42,11 @@ pub data Says {A : Type 0} (P : A → Pos → Type 0) (R : Refusal → Type 0) :
   gets : {a : A} {q : Pos} → P a q → Says P R (Got a q)
   refuses : {r : Refusal} → R r → Says P R (Refused r)
 
-pub got : {A : Type 0} {P : A → Pos → Type 0} {R : Refusal → Type 0} {a : A} {q : Pos} → Says P R (Got a q) → P a q
-got (gets h) = h
+pub if-got : {A : Type 0} {P : A → Pos → Type 0} {R : Refusal → Type 0} {a : A} {q : Pos} → Says P R (Got a q) → P a q
+if-got (gets h) = h
 
-pub refused : {A : Type 0} {P : A → Pos → Type 0} {R : Refusal → Type 0} {r : Refusal} → Says P R (Refused r) → R r
-refused (refuses h) = h
+pub if-refused : {A : Type 0} {P : A → Pos → Type 0} {R : Refusal → Type 0} {r : Refusal} → Says P R (Refused r) → R r
+if-refused (refuses h) = h
 
 -- what holds of a refusal, in other words
 pub as-why : {A : Type 0} {P : A → Pos → Type 0} {R S : Refusal → Type 0} {x : Answer A} → Says P R x → ((r : Refusal) → R r → S r) → Says P S x
@@ -236,18 +236,18 @@ module _ (inp : List ℕ) (lim : Limits) (bs : Bytes inp) where
         }))))
         (λ e. refuses (λ v spent m. long-blob num (leb-false l (blobLimit lim (n .code)) e))))
     value-says n (choice w) o p s =
-        then (number-says w (14 + w) p (in-end inp lim s) (λ c a spent m. in-variant (cut-tag c))) (λ (t, q) a.
-        then (as-why (child-says n w t p q (a .0) (a .1)) (λ r x v spent m. in-variant (x (v .1) spent m))) (λ (v, r) b.
+        then (number-says w (14 + w) p (in-end inp lim s) (λ c a spent m. of-variant (cut-tag c))) (λ (t, q) a.
+        then (as-why (child-says n w t p q (a .0) (a .1)) (λ r x v spent m. of-variant (x (v .1) spent m))) (λ (v, r) b.
         gets (record {
           bytes = le w t ++ b .1 .bytes;
           is = a-variant (a .0) (b .0) (b .1 .is) refl;
           span = join inp lim (tollV lim (variant t v)) s (join inp lim (tollV lim v) (a .1) (b .1 .span) (omega arith)) (omega arith);
         })))
     value-says n (series w) o p s =
-        then (as-why (pairs-says n w (suc (length inp - p .at)) p (omega arith) (in-end inp lim s)) (λ r x v spent m. in-repeated (x (v .1) spent m))) (λ (is, q) a.
+        then (as-why (pairs-says n w (suc (length inp - p .at)) p (omega arith) (in-end inp lim s)) (λ r x v spent m. of-repeated (x (v .1) spent m))) (λ (is, q) a.
         gets (record { bytes = a .bytes; is = a-repeated (a .is); span = join inp lim (tollV lim (repeated is)) s (a .span) (omega arith) }))
     value-says n fields o p s =
-        then (as-why (fields-says (n .first) (n .children) p (in-end inp lim s)) (λ r x v spent m. in-tuple (x (v .1) spent m))) (λ (vs, q) a.
+        then (as-why (fields-says (n .first) (n .children) p (in-end inp lim s)) (λ r x v spent m. of-tuple (x (v .1) spent m))) (λ (vs, q) a.
         gets (record { bytes = a .bytes; is = a-tuple (a .is); span = join inp lim (tollV lim (tuple vs)) s (a .span) (omega arith) }))
     value-says n unknown o p s = refuses (λ v spent m. absurd (v .0))
 
@@ -276,7 +276,7 @@ module _ (inp : List ℕ) (lim : Limits) (bs : Bytes inp) where
   pub sound : (sch store : List ℕ) (d i : ℕ) (p q : Pos) (v : Value) → p .at ≤ length inp → walk sch inp lim d i p ≡ Got v q → Accepted (treeAt sch store d i) inp lim p v q
   unfolding after costs recordsOf payloadOf
   sound sch store d i p q v h e =
-      let a = got (rw e at (walk-says sch store d i p h)) in
+      let a = if-got (rw e at (walk-says sch store d i p h)) in
       record {
         bytes = a .bytes;
         is = a .is;

@@ -22,7 +22,7 @@ use Rattle.rules.specs.Reading.{start, rootFrom, rowAt, schemaIn, schemaOf, Acc
 use Rattle.rules.specs.declared.Located.{Located}
 use Rattle.rules.specs.declared.Located.the-variants.{Block, NoTable, NoEntry}
 use Rattle.rows.proofs.Span.{free, tollV, excess-within, within-excess, Span, in-end, join, split, pos-eq}
-use Rattle.rows.proofs.Sound.{Says, gets, refuses, got, as-why, then, Passed, number-says, walk-says}
+use Rattle.rows.proofs.Sound.{Says, gets, refuses, if-got, as-why, then, Passed, number-says, walk-says}
 use Rattle.rows.proofs.Complete.{Known, known, le-got, walk-got}
 
 -- a node without a wire type has no rows
@@ -91,7 +91,7 @@ module _ (f : Format) (inp : List ℕ) (lim : Limits) (at : ℕ) where
   -- a row is read as v of table t up to q, just if such a row stands there within the limits
   pub row-agrees : Bytes inp → at ≤ length inp → (t : ℕ) (v : Value) (q : Pos) → (rowAt f inp lim at ≡ Got (t, v) q) ↔ Accepts f inp lim at t v q
   unfolding after costs recordsOf payloadOf start
-  row-agrees bs h t v q = (λ e. from (got (rw e at (row-says bs h))), row-accepts)
+  row-agrees bs h t v q = (λ e. from (if-got (rw e at (row-says bs h))), row-accepts)
     where
       from : Reads bs (t, v) q → Accepts f inp lim at t v q
       from a = record {

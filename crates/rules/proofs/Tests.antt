@@ -67,7 +67,7 @@ either P true f g = f refl
 either P false f g = g refl
 
 -- and so of two choices by one test
-pub both : {A B : Type 0} (R : A → B → Type 0) {x y : A} {u v : B} (b : Bool) → (b ≡ true → R x u) → (b ≡ false → R y v) → R (pick b x y) (pick b u v)
+pub either-both : {A B : Type 0} (R : A → B → Type 0) {x y : A} {u v : B} (b : Bool) → (b ≡ true → R x u) → (b ≡ false → R y v) → R (pick b x y) (pick b u v)
 unfolding pick
-both R true f g = f refl
-both R false f g = g refl
+either-both R true f g = f refl
+either-both R false f g = g refl

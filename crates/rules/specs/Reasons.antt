@@ -70,13 +70,13 @@ module _ (inp : List ℕ) (lim : Limits) where
           Number inp at 4 n → n ≤ blobLimit lim k → spent + n ≤ lim .row → Cut inp (at + 4) n →
           BodyReason sized k ss at spent (Truncated 14 (at + 4))
       -- a variant: its tag and child; a repeated one: its pairs; a tuple: its children
-      in-variant : {w k at spent : ℕ} {ss : Schemas} {r : Refusal} →
+      of-variant : {w k at spent : ℕ} {ss : Schemas} {r : Refusal} →
           TagReason w k ss at spent r →
           BodyReason (choice w) k ss at spent r
-      in-repeated : {w k at spent : ℕ} {ss : Schemas} {r : Refusal} →
+      of-repeated : {w k at spent : ℕ} {ss : Schemas} {r : Refusal} →
           PairsReason w k ss at spent r →
           BodyReason (series w) k ss at spent r
-      in-tuple : {k at spent : ℕ} {ss : Schemas} {r : Refusal} →
+      of-tuple : {k at spent : ℕ} {ss : Schemas} {r : Refusal} →
           FieldsReason ss at spent r →
           BodyReason fields k ss at spent r
 
@@ -116,7 +116,7 @@ module _ (f : Format) (inp : List ℕ) (lim : Limits) (at : ℕ) where
     cut-table-tag :
         Cut inp at 2 →
         RowReason (Truncated 17 at)
-    no-table : {t : ℕ} →
+    missing-table : {t : ℕ} →
         Number inp at 2 t → tables f ≤ t →
         RowReason (MissingTableSchema t at)
     in-root : {t : ℕ} {r : Refusal} →
@@ -124,10 +124,10 @@ module _ (f : Format) (inp : List ℕ) (lim : Limits) (at : ℕ) where
         RowReason r
 
   -- a row stands there within the limits and nothing refuses it, or a reason refuses it and no row stands there within the limits
-  pub data Judged : Type 0 where
+  pub data RowJudged : Type 0 where
     is-accepted : (t : ℕ) (v : Value) (q : Pos) →
         Accepts f inp lim at t v q → ((r : Refusal) → RowReason r → ⊥) →
-        Judged
+        RowJudged
     is-refused : (r : Refusal) →
         RowReason r → ((t : ℕ) (v : Value) (q : Pos) → Accepts f inp lim at t v q → ⊥) →
-        Judged
+        RowJudged
