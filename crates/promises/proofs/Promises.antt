@@ -17,6 +17,7 @@ use Rattle.rules.specs.ValueTable.{TableOf, Whole, tableValue, flat, pays}
 use Rattle.rules.specs.Grammar.{Row, Conforms, encodedRow}
 use Rattle.rules.specs.Walk.{Limits, Pos, Got, Refused}
 use Rattle.rules.specs.Reading.{limits, rowAt, schemaOf, Accepts, skipRule, decodeRule, runFrom, runRule, byteCount, ranOf}
+use Rattle.rules.specs.Reasons.{RowReason, RowJudged}
 use Rattle.rules.specs.Windows.{movedAnswer, WasCut, goesOn, continued, added}
 use Rattle.rules.specs.Writing.{encodeRule}
 use Rattle.rules.specs.declared.Settings.{Settings}
@@ -33,7 +34,7 @@ use Rattle.blocks.proofs.Formats.{GoodFormat, format-accepts}
 use Rattle.blocks.proofs.Tables.{TableSchema, table-schema}
 use Rattle.rows.proofs.Only.{unambiguous}
 use Rattle.rows.proofs.TableRows.{row-agrees}
-use Rattle.rows.proofs.Refused.{RowReason, row-honest}
+use Rattle.rows.proofs.RowReasons.{row-reasons, one-reason, row-judged}
 use Rattle.rows.proofs.Decoding.{SameButRoom, skip-decode, Leaves, decode-leaves, accepts-conforms}
 use Rattle.rows.proofs.Running.{Iterates, run-iterates}
 use Rattle.rows.proofs.Parts.{row-stays, row-moves}
@@ -89,9 +90,17 @@ one-value-for-bytes = unambiguous
 pub reading-is-the-grammar : (f : Format) (inp : List ℕ) (lim : Limits) (at : ℕ) → Bytes inp → at ≤ length inp → (t : ℕ) (v : Value) (q : Pos) → (rowAt f inp lim at ≡ Got (t, v) q) ↔ Accepts f inp lim at t v q
 reading-is-the-grammar = row-agrees
 
--- what it refuses has its reason
-pub refusals-are-honest : (f : Format) (inp : List ℕ) (lim : Limits) (at : ℕ) → formatRules f ≡ Accepted → Bytes inp → at ≤ length inp → (r : Refusal) → rowAt f inp lim at ≡ Refused r → RowReason f inp lim at r
-refusals-are-honest = row-honest
+-- it refuses a row just for the reason that is there: up to a place the bytes begin a row within the limits, and what comes next fails
+pub refused-for-its-reason : (f : Format) (inp : List ℕ) (lim : Limits) (at : ℕ) → formatRules f ≡ Accepted → Bytes inp → at ≤ length inp → (r : Refusal) → (rowAt f inp lim at ≡ Refused r) ↔ RowReason f inp lim at r
+refused-for-its-reason = row-reasons
+
+-- there is no second reason
+pub no-second-reason : (f : Format) (inp : List ℕ) (lim : Limits) (at : ℕ) → formatRules f ≡ Accepted → at ≤ length inp → (r r′ : Refusal) → RowReason f inp lim at r → RowReason f inp lim at r′ → r ≡ r′
+no-second-reason = one-reason
+
+-- and each row is accepted or has a reason, never both
+pub accepted-or-refused : (f : Format) (inp : List ℕ) (lim : Limits) (at : ℕ) → formatRules f ≡ Accepted → Bytes inp → at ≤ length inp → RowJudged f inp lim at
+accepted-or-refused = row-judged
 
 -- bytes after a row do not matter to it, unless it was cut (12)
 pub bytes-after : (f : Format) (inp more : List ℕ) (lim : Limits) (at : ℕ) → at ≤ length inp → (WasCut (rowAt f inp lim at) → ⊥) → rowAt f (inp ++ more) lim at ≡ rowAt f inp lim at

@@ -26,6 +26,7 @@ use Rattle.rules.specs.declared.Located.{Located}
 use Rattle.rules.specs.declared.Located.the-variants.{Block, NoTable, NoEntry}
 use Rattle.rules.specs.declared.Refusal.{Refusal}
 use Rattle.rules.specs.declared.Refusal.the-variants.{Setting, BadSchemaTable, TooDeep, UnexpectedChildren, TooManyChildren, EmptyTableSchemas, UnknownRegistryReference, TableSchemaRootMustBeTuple, TableSchemaMustBeTuple, TableSchemaChildMissingName, MissingTableSchema, Truncated, RowTooLarge, BlobTooLarge, ValueDoesNotMatchSchema, TupleLength, InvalidVariantTag, BadValueTable, NoNodeRoom, NoPayloadRoom, NoOutputRoom}
+use Rattle.rules.proofs.Tests.{either-both}
 use Rattle.rules.proofs.Stands.{stands-in, stands-seam, stands-self}
 
 -- a byte of what stands somewhere
@@ -85,11 +86,6 @@ module _ (b : ℕ) (inp whole : List ℕ) (st : Stands whole b inp) where
   then l (refused i) g = refused i
   then l (cut i h) g = cut i h
 
-  either : {A : Type 0} {from : ℕ} {x y u v : Answer A} (t : Bool) → (t ≡ true → Follows from x u) → (t ≡ false → Follows from y v) → Follows from (pick t x y) (pick t u v)
-  unfolding pick
-  either true f g = f refl
-  either false f g = g refl
-
   -- a field of n bytes that is there in the part, or is cut
   field-follows : {A : Type 0} {x y : Answer A} (n context : ℕ) (p : Pos) → p .at ≤ length inp → (p .at + n ≤ length inp → Follows (p .at) x y) →
       Follows (p .at) (pick (leb n (length inp - p .at)) x (Refused (Truncated context (p .at)))) (pick (leb n (length whole - (p .at + b))) y (Refused (Truncated context (p .at + b))))
@@ -128,19 +124,19 @@ module _ (b : ℕ) (inp whole : List ℕ) (st : Stands whole b inp) where
   module _ (lim : Limits) where
     charge-follows : (cost r place : ℕ) (p : Pos) → p .at ≤ length inp → place ≤ length inp → Follows (p .at) (charged lim cost r place p) (charged lim cost r (place + b) (onward b p))
     unfolding charged moved said
-    charge-follows cost r place p h l = either _ (λ e. same {q = record { at = p .at; left = p .left - cost; records = p .records + r; payload = p .payload }} (omega arith) h) (λ e. refused (λ _. l))
+    charge-follows cost r place p h l = either-both (Follows _) _ (λ e. same {q = record { at = p .at; left = p .left - cost; records = p .records + r; payload = p .payload }} (omega arith) h) (λ e. refused (λ _. l))
 
     blob-follows : (code : ℕ) (p : Pos) → p .at ≤ length inp → Follows (p .at) (blobOf inp lim code p) (blobOf whole lim code (onward b p))
     unfolding blobOf moved said
     blob-follows code p h =
         then _ (number-follows 4 13 p h) (λ (n, q) f i.
-        either _ (λ e. then _ (charge-follows n 0 (p .at) q i h) (λ (_, r) g j. then _ (bytes-follows n 14 r j) (λ (x, s) k l. same {q = s} (omega arith) l))) (λ e. refused (λ _. h)))
+        either-both (Follows _) _ (λ e. then _ (charge-follows n 0 (p .at) q i h) (λ (_, r) g j. then _ (bytes-follows n 14 r j) (λ (x, s) k l. same {q = s} (omega arith) l))) (λ e. refused (λ _. h)))
 
     -- two readings of children that follow each other
     module _ (rec rec′ : Walker) (ok : (i : ℕ) (p : Pos) → p .at ≤ length inp → Follows (p .at) (rec i p) (rec′ i (onward b p))) where
       child-follows : (n : Node) (tag place : ℕ) (p : Pos) → p .at ≤ length inp → place ≤ length inp → Follows (p .at) (childOf rec n tag place p) (childOf rec′ n tag (place + b) (onward b p))
       unfolding childOf moved said
-      child-follows n tag place p h l = either _ (λ e. ok (n .first + tag) p h) (λ e. refused (λ _. l))
+      child-follows n tag place p h l = either-both (Follows _) _ (λ e. ok (n .first + tag) p h) (λ e. refused (λ _. l))
 
       fields-follows : (i n : ℕ) (p : Pos) → p .at ≤ length inp → Follows (p .at) (fieldsOf rec i n p) (fieldsOf rec′ i n (onward b p))
       unfolding fieldsOf
@@ -153,7 +149,7 @@ module _ (b : ℕ) (inp whole : List ℕ) (st : Stands whole b inp) where
       pairs-follows n w zero fuel′ p h x y = absurd (omega arith)
       pairs-follows n w (suc fuel) zero p h x y = absurd (omega arith)
       pairs-follows n w (suc fuel) (suc fuel′) p h x y = numbered _ _ w (14 + w) p h (λ i.
-          either _ (λ e. same {q = onward w p} (omega arith) i)
+          either-both (Follows _) _ (λ e. same {q = onward w p} (omega arith) i)
           (λ e.
           let l = tag-long inp (p .at) w (eqb-false _ _ e) in
           later (then _ (child-follows n (leAt inp (p .at) w) (p .at) (onward w p) i h) (λ (v, r) f j.

@@ -12,5 +12,6 @@ pub mod ValueTable
 pub mod Grammar
 pub mod Walk
 pub mod Reading
+pub mod Reasons
 pub mod Windows
 pub mod Writing
