@@ -2,7 +2,7 @@
 -- A call inherits it by a contract that says: its answer is what the rule says.
 -- Assumes nothing.
 use Prim.Native.Nat.{ℕ, _+_, _-_, _≤_, _<_}
-use mathlib.Core.Path.{_≡_, sym, _∙_}
+use mathlib.Core.Path.{_≡_}
 use mathlib.Core.Bool.{Bool}
 use mathlib.Core.List.{List, _++_, map}
 use mathlib.Core.Logic.{_↔_}
@@ -171,7 +171,3 @@ decoded-well-formed = decoded-table
 -- skip gives the same table, length or refusal as decode, which adds only the two refusals for room
 pub skip-is-decode : (at : ℕ) (rs ps : List ℕ) (f : Format) (s : Settings) (inp : List ℕ) → SameButRoom at rs ps (skipRule f s inp at) (decodeRule f s inp at rs ps .answer)
 skip-is-decode = skip-decode
-
--- ---- no second answer: a contract that says 'the answer is the rule's' is met by one answer alone, refused ones included
-pub no-second-answer : {A : Type 0} (said r r′ : A) → r ≡ said → r′ ≡ said → r ≡ r′
-no-second-answer said r r′ e e′ = e ∙ sym e′
