@@ -1,12 +1,10 @@
 // The schema rules on a block, in the Rust's order (4, 5), and a table's root and names (8, 9, 10).
 ghost use mathlib.Core.Path.{_≡_};
-ghost use mathlib.Core.Bool.{true};
-ghost use Prim.Native.Nat.{ℕ, _+_, _*_, _^_, _≤_, _<_};
+ghost use Prim.Native.Nat.{_+_, _*_, _^_, _≤_, _<_};
 ghost use lib.ListN.{length};
 ghost use Rattle.rules.specs.Wire.{form, maximum};
 ghost use Rattle.rules.specs.Block.{records, Closed};
 ghost use Rattle.rules.specs.SchemaRules.{nodeRule, schemaRule, notTuple, rootRule, nameRule, tableRule};
-ghost use Rattle.rules.specs.declared.Checked.the-variants.{Accepted};
 use super::block::node_at;
 use rules::Checked;
 use rules::Children;
@@ -48,23 +46,6 @@ fn node_rule(place: u64, n: Node) -> Checked
     }
 }
 
-// A leaf without children is never refused, unless no depth is left for it: it needs no call.
-fn plain_leaf(s: &[u8], depth: u64, i: u64) -> bool
-    requires { ⌜ i * 16 + 16 ≤ length (now s) ⌝ }
-    ensures { λ r. ⌜ ((base : ℕ) → r ≡ true → schemaRule (now (s .entry)) base depth i ≡ Accepted) ⌝ }
-{
-    if depth == 0 {
-        return false;
-    }
-    let n = node_at(s, i);
-    let code = n.code;
-    if 14 < code {
-        return false;
-    }
-    let children = n.children;
-    children == 0
-}
-
 // The first refusal in preorder: a node before its children, its children in order. `base` is the block's first record in
 // the table, so that a place is a record of the table.
 pub fn validate(s: &[u8], base: u64, depth: u64, i: u64) -> Checked
@@ -83,14 +64,12 @@ pub fn validate(s: &[u8], base: u64, depth: u64, i: u64) -> Checked
     let children = n.children;
     let mut k = 0;
     while k < children {
-        if !plain_leaf(s, depth - 1, first + k) {
-            // Copied for the call: so it is the copy that has to lie in memory.
-            let block = s;
-            let below = validate(block, base, depth - 1, first + k);
-            let Checked::Accepted = below else {
-                return below;
-            };
-        }
+        // Copied for the call: so it is the copy that has to lie in memory.
+        let block = s;
+        let below = validate(block, base, depth - 1, first + k);
+        let Checked::Accepted = below else {
+            return below;
+        };
         k += 1;
     }
     Checked::Accepted
