@@ -13,6 +13,7 @@ ghost use Rattle.fill.specs.Filling.{rowValue};
 ghost use Rattle.decode.specs.Steps.{Granted, roomFor};
 use fill::fill_row;
 use rules::Extent;
+use rules::LONGEST;
 use rules::Read;
 use rules::Refusal;
 use rules::Settings;
@@ -22,8 +23,6 @@ use stream::row::no_row;
 use stream::row::row_of;
 
 // Of a slice to be written only so many bytes count.
-const LONGEST: usize = 4294967295;
-
 fn room_in(len: usize) -> u64
     ensures { λ r. ⌜ r ≡ min len 4294967295 ⌝ }
 {

@@ -16,7 +16,8 @@ ghost use Rattle.fill.specs.Leads.{Held, Leads};
 use self::writer::copy;
 use self::writer::put_record;
 use read::fields::ends;
-use read::fields::fixed_width;
+use wire::codes::fixed_width;
+use wire::codes::tag_width;
 use wire::field;
 use wire::u16_at;
 use wire::u32_at;
@@ -121,19 +122,11 @@ fn fill_leaf(
 
 // ---- nodes with children
 
-// The codes of the types with a tag of one byte are odd.
-fn tag_width(code: u8) -> usize
-    requires { ⌜ (14 < code) × (code < 19) ⌝ }
-    ensures { λ r. ⌜ r ≡ widthOf (form code) ⌝ }
-{
-    if code % 2 == 1 { 1 } else { 2 }
-}
-
 fn tag_at(code: u8, input: &[u8], at: usize) -> u64
     requires { ⌜ (14 < code) × (code < 19) × (at + widthOf (form code) ≤ length (now input)) ⌝ }
     ensures { λ r. ⌜ (r ≡ leAt (now (input .entry)) at (widthOf (form code))) × (r < 65536) ⌝ }
 {
-    if code % 2 == 1 {
+    if tag_width(code) == 1 {
         return wide(input[at]);
     }
     u16_at(input, at)

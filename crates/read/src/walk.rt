@@ -14,12 +14,12 @@ use super::budget::RowBudget;
 use super::budget::blob_limit;
 use super::fields::Number;
 use super::fields::ends;
-use super::fields::fixed_width;
 use super::fields::kept;
 use super::fields::read_length;
 use super::fields::read_tag;
 use rules::Refusal;
 use rules::Settings;
+use wire::codes::fixed_width;
 use wire::u32_at;
 
 // Where the walk stands, what is left of the row's allowance, and the records and payload bytes that it has passed.

@@ -4,6 +4,9 @@ ghost use mathlib.Core.Path.{_≡_};
 ghost use Rattle.rules.specs.Refusals.{reportOf};
 ghost use Rattle.rules.specs.Reading.{settingsOk, defaults};
 
+// The most bytes of a slice that a call reads; of a slice to be written no more count.
+pub const LONGEST: usize = 4294967295;
+
 // A Skiff encoding of one schema node, in the order of the wire codes 0 to 19.
 pub enum WireType {
     Nothing,

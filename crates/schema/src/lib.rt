@@ -16,11 +16,9 @@ use flat::table::block_stands;
 use forms::forms_ok;
 use order::rules_order;
 use rules::Checked;
+use rules::LONGEST;
 use rules::Purpose;
 use rules::Refusal;
-
-// A slice that is read has at most so many bytes.
-const LONGEST: usize = 4294967295;
 
 // ---- one block, given by first record and record count
 

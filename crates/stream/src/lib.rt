@@ -10,15 +10,13 @@ pub mod row;
 use row::row_at;
 use row::run_rows;
 use rules::Checked;
+use rules::LONGEST;
 use rules::Ran;
 use rules::Read;
 use rules::Refusal;
 use rules::Settings;
 use rules::Stop;
 use schema::format_rules;
-
-// A slice that is read has at most so many bytes.
-const LONGEST: usize = 4294967295;
 
 // Settings and slices are inside document 01's bounds.
 pub fn within_bounds(

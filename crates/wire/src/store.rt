@@ -1,17 +1,24 @@
-// Little-endian fields, written.
+// Numbers in bytes, little-endian, written.
 ghost use mathlib.Core.Path.{_≡_};
 ghost use Prim.Native.Nat.{_+_, _≤_};
 ghost use lib.ListN.{length};
 ghost use Rattle.rules.specs.Bytes.{le, over};
 
-// Byte by byte, little-endian: a compiler makes one store of it, and of each wider one.
+// The lowest byte.
+fn put8(s: &mut [u8], at: usize, x: u64)
+    requires { ⌜ at + 1 ≤ length (now s) ⌝ }
+    ensures { λ _. ⌜ now (s .exit) ≡ over (now (s .entry)) at (le 1 x) ⌝ }
+{
+    s[at] = (x % 256) as u8;
+}
+
+// Each wider number in two halves, the upper one after the lower: a compiler makes one store of them.
 pub fn put16(s: &mut [u8], at: usize, x: u64)
     requires { ⌜ at + 2 ≤ length (now s) ⌝ }
     ensures { λ _. ⌜ now (s .exit) ≡ over (now (s .entry)) at (le 2 x) ⌝ }
 {
-    let high = x / 256;
-    s[at] = (x % 256) as u8;
-    s[at + 1] = (high % 256) as u8;
+    put8(s, at, x);
+    put8(s, at + 1, x / 256);
 }
 
 pub fn put32(s: &mut [u8], at: usize, x: u64)

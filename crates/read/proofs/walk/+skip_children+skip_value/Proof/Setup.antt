@@ -13,7 +13,7 @@ use Rattle.read.proofs.walk.leaf_at.Reads as leaf-at-reads
 use Rattle.read.proofs.walk.next_child.Reads as next-child-reads
 use Rattle.read.proofs.walk.refused.Reads as refused-reads
 use Rattle.read.proofs.walk.skip_leaf.Reads as skip-leaf-reads
-use Rattle.wire.proofs.u32_at.Reads as u32-at-reads
+use Rattle.wire.proofs.numbers.u32_at.Reads as u32-at-reads
 
 -- the children step calls the node step at its own depth, and the node step the children step at one less
 abbrev pub μ-skip-children : Measures 2 skip-children-kinds.ps ℕ
