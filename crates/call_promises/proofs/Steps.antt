@@ -5,14 +5,14 @@ use Prim.Native.Nat.{ℕ}
 use mathlib.Core.Path.{_≡_, refl, sym, _∙_, ap}
 use mathlib.Core.List.{List, [], _∷_}
 use Rattle.call_promises.proofs.OneAnswer.{OneAnswer, OneOutcome}
-use Rattle.wire.proofs.wide as wide
-use Rattle.wire.proofs.u16_at as u16-at
-use Rattle.wire.proofs.u32_at as u32-at
-use Rattle.wire.proofs.u64_at as u64-at
-use Rattle.wire.proofs.field as field
-use Rattle.wire.proofs.order_of as order-of
-use Rattle.wire.proofs.compare as compare
-use Rattle.wire.proofs.is_equal as is-equal
+use Rattle.wire.proofs.numbers.wide as wide
+use Rattle.wire.proofs.numbers.u16_at as u16-at
+use Rattle.wire.proofs.numbers.u32_at as u32-at
+use Rattle.wire.proofs.numbers.u64_at as u64-at
+use Rattle.wire.proofs.numbers.field as field
+use Rattle.wire.proofs.order.order_of as order-of
+use Rattle.wire.proofs.order.compare as compare
+use Rattle.wire.proofs.order.is_equal as is-equal
 use Rattle.flat.proofs.block.node_at as node-at
 use Rattle.flat.proofs.block.span_ok as span-ok
 use Rattle.flat.proofs.block.block_ok as block-ok
@@ -40,7 +40,7 @@ use Rattle.read.proofs.budget.blob_limit as blob-limit
 use Rattle.read.proofs.fields.read_tag as read-tag
 use Rattle.read.proofs.fields.read_table as read-table
 use Rattle.read.proofs.fields.read_length as read-length
-use Rattle.read.proofs.fields.fixed_width as width-of-code
+use Rattle.wire.proofs.codes.fixed_width as width-of-code
 use Rattle.read.proofs.fields.kept as kept
 use Rattle.read.proofs.fields.ends as ends
 use Rattle.read.proofs.walk.skip_root as skip-root
@@ -53,8 +53,8 @@ use Rattle.decode.proofs.row.room_for as room-for
 use Rattle.wire.proofs.store.put16 as put16
 use Rattle.wire.proofs.store.put32 as put32
 use Rattle.wire.proofs.store.put64 as put64
-use Rattle.fill.proofs.writer.put_record as put-record
-use Rattle.fill.proofs.writer.copy as copy
+use Rattle.record.proofs.value.put_record as put-record
+use Rattle.record.proofs.payload.copy as copy
 use Rattle.fill.proofs.fill_row as fill-row
 use Rattle.decode.proofs.row.fill_at as fill-at
 use Rattle.decode.proofs.row.decode_row as decode-row

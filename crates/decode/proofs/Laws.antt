@@ -1,6 +1,6 @@
 -- A row of a checked format, step by step: what is judged reads so, has room or not, and is left in both slices.
 -- Assumes nothing.
-use Prim.Native.Nat.{ℕ, _+_, _/_, _≤_, _<_, min}
+use Prim.Native.Nat.{ℕ, _+_, _≤_, _<_, min}
 use mathlib.Core.Path.{_≡_, refl, sym, _∙_, ap}
 use mathlib.Core.Bool.{Bool, true, false}
 use mathlib.Core.Logic.{_⊎_, inl, inr}
@@ -14,6 +14,7 @@ use Rattle.rules.specs.Bytes.{Bytes, over}
 use Rattle.rules.specs.Block.{nodeAt, records, block, Closed}
 use Rattle.rules.specs.Format.{tableSchema, formatRules}
 use Rattle.rules.specs.Value.{Value, recordsOf, payloadOf}
+use Rattle.rules.specs.ValueRecord.{valueRecordsIn}
 use Rattle.rules.specs.ValueTable.{flat, pays}
 use Rattle.rules.specs.Walk.{Limits, Pos, Answer, Got, Refused, walk, _>>=_}
 use Rattle.rules.specs.Reading.{start, extent, skipped, Decoded, room, untouched, filled}
@@ -132,7 +133,7 @@ module _ (table inp : List ℕ) (lim : Limits) (bs : Bytes inp) (at t first coun
       -- a test that fails is the rule's answer, and nothing is written
       pub no-room : ((e′ : Extent) → fits ≡ Row e′ → ⊥) → untouched fits rs ps ≡ filled at a rs ps
       unfolding filled roomFor room pick
-      no-room short = rw (row-is, ← judged .records, ← judged .payload) (by (leb (e .records) (min (length rs) 4294967295 / 16)) (leb (e .payload) (min (length ps) 4294967295)) so)
+      no-room short = rw (row-is, ← judged .records, ← judged .payload) (by (leb (e .records) (valueRecordsIn (min (length rs) 4294967295))) (leb (e .payload) (min (length ps) 4294967295)) so)
         where
           by : (b c : Bool) → fits ≡ Tested b c →
               untouched fits rs ps ≡ pick b
@@ -144,9 +145,9 @@ module _ (table inp : List ℕ) (lim : Limits) (bs : Bytes inp) (at t first coun
           by false c y = rw y
 
       -- both pass
-      roomy : (e′ : Extent) → fits ≡ Row e′ → (leb (e .records) (min (length rs) 4294967295 / 16) ≡ true) × (leb (e .payload) (min (length ps) 4294967295) ≡ true)
+      roomy : (e′ : Extent) → fits ≡ Row e′ → (leb (e .records) (valueRecordsIn (min (length rs) 4294967295)) ≡ true) × (leb (e .payload) (min (length ps) 4294967295) ≡ true)
       unfolding roomFor pick
-      roomy e′ x = by (leb (e .records) (min (length rs) 4294967295 / 16)) (leb (e .payload) (min (length ps) 4294967295)) (sym so ∙ x)
+      roomy e′ x = by (leb (e .records) (valueRecordsIn (min (length rs) 4294967295))) (leb (e .payload) (min (length ps) 4294967295)) (sym so ∙ x)
         where
           never : (r : Refusal) → Read.Refused r ≡ Row e′ → ⊥
           never r y = omega (arith, differ)
@@ -164,7 +165,7 @@ module _ (table inp : List ℕ) (lim : Limits) (bs : Bytes inp) (at t first coun
       granted names references registry ok found e′ x =
           let k = roomy e′ x in
           let g = rooted table names references registry ok t first count found in
-          let m = leb-true (e .records) (min (length rs) 4294967295 / 16) (k .0) in
+          let m = leb-true (e .records) (valueRecordsIn (min (length rs) 4294967295)) (k .0) in
           let n = leb-true (e .payload) (min (length ps) 4294967295) (k .1) in
           record {
             within = g .within;

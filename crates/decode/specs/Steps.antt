@@ -1,11 +1,12 @@
 -- What the steps of decode over a checked format ask and answer.
 -- Assumes nothing: these are definitions.
-use Prim.Native.Nat.{ℕ, _+_, _/_, _≤_}
+use Prim.Native.Nat.{ℕ, _+_, _≤_}
 use mathlib.Core.List.{List}
 use lib.ListN.{length}
 use lib.Dec.{leb}
 use Rattle.rules.specs.Choice.{pick}
 use Rattle.rules.specs.Block.{records, block}
+use Rattle.rules.specs.ValueRecord.{valueRecordsIn}
 use Rattle.rules.specs.declared.Refusal.the-variants.{NoNodeRoom, NoPayloadRoom}
 use Rattle.rules.specs.declared.Extent.{Extent}
 use Rattle.rules.specs.declared.Read.{Read}
@@ -22,6 +23,6 @@ pub record Granted (table inp : List ℕ) (at first count n m : ℕ) : Type 0 wh
 -- room for a row's records (19), then for its payload bytes (20), where n and m bytes count
 unfoldable pub roomFor : ℕ → ℕ → ℕ → Extent → Read
 roomFor at n m e =
-    pick (leb (e .records) (n / 16))
+    pick (leb (e .records) (valueRecordsIn n))
     (pick (leb (e .payload) m) (Row e) (Refused (NoPayloadRoom (e .payload) at)))
     (Refused (NoNodeRoom (e .records) at))

@@ -12,6 +12,7 @@ ghost use Rattle.stream.specs.Rows.{Asked};
 ghost use Rattle.fill.specs.Filling.{rowValue};
 ghost use Rattle.decode.specs.Steps.{Granted, roomFor};
 use fill::fill_row;
+use record::value::records_in;
 use rules::Extent;
 use rules::LONGEST;
 use rules::Read;
@@ -36,7 +37,7 @@ fn room_in(len: usize) -> u64
 pub fn room_for(row: Extent, at: usize, records: usize, payload: usize) -> Read
     ensures { λ r. ⌜ r ≡ roomFor at (min records 4294967295) (min payload 4294967295) row ⌝ }
 {
-    if room_in(records) / 16 < row.records {
+    if records_in(room_in(records)) < row.records {
         return Read::Refused(Refusal::NoNodeRoom {
             needed: row.records,
             place: at as u64,

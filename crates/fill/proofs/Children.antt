@@ -3,7 +3,7 @@
 use Prim.Native.Nat.{ℕ, zero, suc, _+_, _-_, _≤_, _<_}
 use mathlib.Core.Path.{_≡_, refl, sym, _∙_}
 use mathlib.Core.Bool.{Bool, true, false}
-use mathlib.Core.List.{List, _++_, append-nil}
+use mathlib.Core.List.{List, _∷_, append-nil}
 use native.Mathlib.Omega.{arith}
 use native.Mathlib.Nat.{add-zero, sub-zero}
 use borrow.Author.Tests.{ltb-true, ltb-false, lt-ltb}
@@ -14,7 +14,8 @@ use Rattle.rules.specs.Bytes.{leAt}
 use Rattle.rules.specs.Wire.{Form, empty, truth, fixed, raw, sized, choice, series, fields, unknown, form, endTag, wireTypes, typeIn, typeOf, written, writtenIf}
 use Rattle.rules.specs.Block.{nodeAt}
 use Rattle.rules.specs.Value.{Value, nothing, boolean, number, wide, blob, variant, repeated, tuple, Items, done, item, Values, none, more, items, values, tally, tallyI, tallyV, recordsOf, payloadOf}
-use Rattle.rules.specs.ValueTable.{valueRecord, pays, paysI, paysV, flat, flatI, flatV}
+use Rattle.rules.specs.ValueRecord.{valueRecord}
+use Rattle.rules.specs.ValueTable.{pays, paysI, paysV, kind, sizeOf, contentOf, headOf, below, belowI, belowV, heads}
 use Rattle.rules.specs.Writing.{kindFor}
 use Rattle.rules.specs.declared.Node.{Node}
 use Rattle.rules.proofs.Tests.{all-each}
@@ -43,10 +44,10 @@ children (variant t v) = item t v done
 children (repeated is) = is
 children (tuple vs) = untagged vs
 
-flat-untagged : (vs : Values) (p : ℕ) → flatV vs p ≡ flatI (untagged vs) p
-unfolding untagged flat
-flat-untagged none p = refl
-flat-untagged (more v vs) p = rw (flat-untagged vs (p + payloadOf v))
+below-untagged : (vs : Values) (p : ℕ) → belowV vs p ≡ belowI (untagged vs) p
+unfolding untagged below
+below-untagged none p = refl
+below-untagged (more v vs) p = rw (below-untagged vs (p + payloadOf v))
 
 pays-untagged : (vs : Values) → paysV vs ≡ paysI (untagged vs)
 unfolding untagged pays
@@ -65,13 +66,13 @@ count-untagged (more v vs) = rw (count-untagged vs)
 
 -- the table of a node with children: a record that has their count, and theirs
 pub record Parent (kind : ℕ) (v : Value) : Type 0 where
-  pub table : (tag p : ℕ) → flat v tag p ≡ valueRecord kind tag (items (children v)) 0 ++ flatI (children v) p
+  pub table : (tag p : ℕ) → heads v tag p ≡ valueRecord kind tag (items (children v)) 0 ∷ belowI (children v) p
   pub bytes : pays v ≡ paysI (children v)
   pub records : recordsOf v ≡ 1 + tallyI (children v) 1 0 0
   pub payload : payloadOf v ≡ tallyI (children v) 0 1 1
 
 variant-parent : (t : ℕ) (v : Value) → Parent 15 (variant t v)
-unfolding flat pays children items recordsOf payloadOf tally
+unfolding heads headOf kind sizeOf contentOf below pays children items recordsOf payloadOf tally
 variant-parent t v = record {
   table = λ tag p. simp append-nil;
   bytes = simp append-nil;
@@ -80,13 +81,13 @@ variant-parent t v = record {
 }
 
 repeated-parent : (is : Items) → Parent 16 (repeated is)
-unfolding flat pays children recordsOf payloadOf tally
+unfolding heads headOf kind sizeOf contentOf below pays children recordsOf payloadOf tally
 repeated-parent is = record { table = λ tag p. refl; bytes = refl; records = refl; payload = omega arith }
 
 tuple-parent : (vs : Values) → Parent 17 (tuple vs)
-unfolding flat pays children recordsOf payloadOf tally
+unfolding heads headOf kind sizeOf contentOf below pays children recordsOf payloadOf tally
 tuple-parent vs = record {
-  table = λ tag p. rw (count-untagged vs, flat-untagged vs p);
+  table = λ tag p. rw (count-untagged vs, below-untagged vs p);
   bytes = pays-untagged vs;
   records = omega (arith, tally-untagged vs 1 0 0);
   payload = omega (arith, tally-untagged vs 0 1 1);

@@ -1,6 +1,6 @@
 -- The loop over a node's children: what is left to write, over what is written, is the whole.
 -- Assumes nothing.
-use Prim.Native.Nat.{ℕ, suc, _+_, _-_, _*_, _≤_, _<_}
+use Prim.Native.Nat.{ℕ, suc, _+_, _-_, _≤_, _<_}
 use mathlib.Core.Path.{_≡_, refl, sym, _∙_}
 use mathlib.Core.List.{List}
 use native.Mathlib.Omega.{arith}
@@ -8,10 +8,11 @@ use lib.ListN.{length}
 use Rattle.rules.specs.Bytes.{over}
 use Rattle.rules.specs.Wire.{Form}
 use Rattle.rules.specs.Value.{Value, Items, done, items, tally, tallyI, recordsOf, payloadOf}
-use Rattle.rules.specs.ValueTable.{valueRecord, pays, paysI, flat, flatI}
+use Rattle.rules.specs.ValueRecord.{valueRecordStart, valueRecord, layout, layouts}
+use Rattle.rules.specs.ValueTable.{pays, paysI, belowI, heads, flat}
 use Rattle.rules.specs.declared.Node.{Node}
-use Rattle.rules.proofs.Over.{length-over, over-none, over-at}
-use Rattle.values.proofs.Records.{length-record}
+use Rattle.rules.proofs.Over.{length-over, over-none, over-at, over-front}
+use Rattle.values.proofs.Records.{length-layout, layouts-append}
 use Rattle.values.proofs.Sizes.{length-flat, length-pays, one-record, items-within}
 use Rattle.fill.specs.declared.Spot.{Spot}
 use Rattle.fill.specs.declared.Next.{Next}
@@ -20,7 +21,6 @@ use Rattle.fill.specs.Plain.{Reading, Got, valueOf, endOf, Reader}
 use Rattle.fill.specs.Filling.{Room, past, Filled, nextOf}
 use Rattle.fill.proofs.Got.{got-from}
 use Rattle.fill.proofs.Children.{left, Parent, children, Turn, Follows, child, ends, turn}
-use Rattle.fill.proofs.Writes.{over-front}
 
 abbrev pub spot : ℕ → ℕ → ℕ → Spot
 spot at records payload = record { at = at; records = records; payload = payload }
@@ -31,7 +31,7 @@ module _ (inp : List ℕ) (rec : Reader) (n : Node) where
     pub enough : ℕ
     pub rest : Items
     pub reads : left inp rec n f i enough at ≡ Got rest z
-    pub records : over rs (filled * 16) (flatI rest paid) ≡ over rs₀ ((own + 1) * 16) (flatI all paid₀)
+    pub records : over rs (valueRecordStart filled) (layouts (belowI rest paid)) ≡ over rs₀ (valueRecordStart (own + 1)) (layouts (belowI all paid₀))
     pub payload : over ps paid (paysI rest) ≡ over ps₀ paid₀ (paysI all)
     pub filling : filled + tallyI rest 1 0 0 ≡ (own + 1) + tallyI all 1 0 0
     pub paying : paid + tallyI rest 0 1 1 ≡ paid₀ + tallyI all 0 1 1
@@ -57,7 +57,7 @@ module _ {inp : List ℕ} {rec : Reader} {n : Node} {f : Form} {all : Items} {z 
     split = rw (t .first) (refl, (refl, refl))
 
     -- so there is room for it
-    pub child-room : (own + (1 + tallyI all 1 0 0)) * 16 ≤ length rs₀ → paid₀ + tallyI all 0 1 1 ≤ length ps₀ → Room (rec c q) (spot q filled paid) (length rs) (length ps)
+    pub child-room : valueRecordStart (own + (1 + tallyI all 1 0 0)) ≤ length rs₀ → paid₀ + tallyI all 0 1 1 ≤ length ps₀ → Room (rec c q) (spot q filled paid) (length rs) (length ps)
     unfolding valueOf
     child-room a b = record {
       is = got-from _ _ _ (t .reads);
@@ -71,19 +71,19 @@ module _ {inp : List ℕ} {rec : Reader} {n : Node} {f : Form} {all : Items} {z 
       unfolding past valueOf endOf
       at-end = w .spot ∙ rw (t .reads)
 
-      pub fills-more : (m k : ℕ) → Room (rec c q) (spot q filled paid) m k → (filled < s .records) × (s .records * 16 ≤ m)
+      pub fills-more : (m k : ℕ) → Room (rec c q) (spot q filled paid) m k → (filled < s .records) × (valueRecordStart (s .records) ≤ m)
       unfolding valueOf
       fills-more m k r =
           let h = rw (t .reads) at (r .records) in
           rw at-end (omega (arith, one-record (t .value)), h)
 
       pub going-next : Going inp rec n f all z own paid₀ rs₀ ps₀ rs′ ps′ (s .at) (s .records) (s .payload) (i + 1)
-      unfolding valueOf flat pays
+      unfolding valueOf flat belowI heads pays
       going-next = rw at-end (record {
         enough = g .enough - 1;
         rest = t .rest;
         reads = t .follows;
-        records = rw (w .records, t .reads, over-at (flat (t .value) tag paid) (flatI (t .rest) (paid + payloadOf (t .value))) rs (filled * 16) ((filled + recordsOf (t .value)) * 16) (rw (length-flat (t .value) tag paid) (omega arith))) (rw (t .first) at (g .records));
+        records = rw (w .records, t .reads, over-at (layouts (heads (t .value) tag paid)) (layouts (belowI (t .rest) (paid + payloadOf (t .value)))) rs (valueRecordStart filled) (valueRecordStart (filled + recordsOf (t .value))) (rw (length-flat (t .value) tag paid) (omega arith)), ← (layouts-append (heads (t .value) tag paid) (belowI (t .rest) (paid + payloadOf (t .value))))) (rw (t .first) at (g .records));
         payload = rw (w .payload, t .reads, over-at (pays (t .value)) (paysI (t .rest)) ps paid (paid + payloadOf (t .value)) (rw (length-pays (t .value)))) (rw (t .first) at (g .payload));
         filling = omega (arith, split .0, g .filling);
         paying = omega (arith, split .1 .0, g .paying);
@@ -105,9 +105,9 @@ module _ {inp : List ℕ} {rec : Reader} {n : Node} {f : Form} {all : Items} {z 
 
 -- and then the node's own record stands before theirs
 module _ {inp : List ℕ} {rec : Reader} {n : Node} {f : Form} {own paid₀ : ℕ} {rs₀ ps₀ rs ps : List ℕ} {at filled paid i : ℕ} (x : Reading Value) (g : Going inp rec n f (children (valueOf x)) (endOf x) own paid₀ rs₀ ps₀ rs ps at filled paid i) (none : g .rest ≡ done) where
-  all-records : rs ≡ over rs₀ ((own + 1) * 16) (flatI (children (valueOf x)) paid₀)
-  unfolding flat
-  all-records = sym (over-none rs (filled * 16)) ∙ rw none at (g .records)
+  all-records : rs ≡ over rs₀ (valueRecordStart (own + 1)) (layouts (belowI (children (valueOf x)) paid₀))
+  unfolding belowI layouts
+  all-records = sym (over-none rs (valueRecordStart filled)) ∙ rw none at (g .records)
 
   all-payload : ps ≡ over ps₀ paid₀ (paysI (children (valueOf x)))
   unfolding pays
@@ -125,13 +125,13 @@ module _ {inp : List ℕ} {rec : Reader} {n : Node} {f : Form} {own paid₀ : �
   unfolding items
   all-counted = omega (arith, rw none at (g .counted))
 
-  pub finish : (at₀ kind tag q : ℕ) (rs′ : List ℕ) → Parent kind (valueOf x) → endOf x ≡ q → rs′ ≡ over rs (own * 16) (valueRecord kind tag i 0) → Filled x tag (spot at₀ own paid₀) (spot q filled paid) rs₀ rs′ ps₀ ps
-  unfolding past
+  pub finish : (at₀ kind tag q : ℕ) (rs′ : List ℕ) → Parent kind (valueOf x) → endOf x ≡ q → rs′ ≡ over rs (valueRecordStart own) (layout (valueRecord kind tag i 0)) → Filled x tag (spot at₀ own paid₀) (spot q filled paid) rs₀ rs′ ps₀ ps
+  unfolding past flat layouts
   finish at₀ kind tag q rs′ p e w =
-      let a = valueRecord kind tag (items (children (valueOf x))) 0 in
-      let m : (own + 1) * 16 ≡ own * 16 + length a = rw length-record (omega arith) in
+      let a = layout (valueRecord kind tag (items (children (valueOf x))) 0) in
+      let m : valueRecordStart (own + 1) ≡ valueRecordStart own + length a = rw length-layout (omega arith) in
       record {
         spot = rw (e, p .records, p .payload, all-filled, all-paid);
-        records = w ∙ rw (p .table tag paid₀, all-counted, all-records, m) (over-front a (flatI (children (valueOf x)) paid₀) rs₀ (own * 16));
+        records = w ∙ rw (p .table tag paid₀, all-counted, all-records, m) (over-front a (layouts (belowI (children (valueOf x)) paid₀)) rs₀ (valueRecordStart own));
         payload = rw (p .bytes) all-payload;
       }

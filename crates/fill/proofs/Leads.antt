@@ -9,10 +9,11 @@ use Rattle.rules.specs.Bytes.{leAt, over}
 use Rattle.rules.specs.Wire.{choice, form, widthOf}
 use Rattle.rules.specs.Block.{nodeAt}
 use Rattle.rules.specs.Value.{Value, variant, recordsOf, payloadOf, tally}
-use Rattle.rules.specs.ValueTable.{valueRecord, pays, flat}
+use Rattle.rules.specs.ValueRecord.{valueRecordStart, valueRecord, layout, layouts}
+use Rattle.rules.specs.ValueTable.{pays, kind, sizeOf, contentOf, headOf, below, heads, flat}
 use Rattle.rules.specs.declared.Node.{Node}
 use Rattle.rules.proofs.Over.{over-at}
-use Rattle.values.proofs.Records.{length-record}
+use Rattle.values.proofs.Records.{length-layout}
 use Rattle.read.proofs.Codes.{form-choice, tag-some}
 use Rattle.fill.specs.declared.Spot.{Spot}
 use Rattle.fill.specs.declared.Reached.{Reached}
@@ -62,8 +63,8 @@ module _ (t : ℕ) (v : Value) where
   unfolding payloadOf tally
   variant-payload = omega arith
 
-  variant-flat : (tag p : ℕ) → flat (variant t v) tag p ≡ valueRecord 15 tag 1 0 ++ flat v t p
-  unfolding flat
+  variant-flat : (tag p : ℕ) → flat (variant t v) tag p ≡ layout (valueRecord 15 tag 1 0) ++ flat v t p
+  unfolding flat layouts heads headOf kind sizeOf contentOf below
   variant-flat tag p = refl
 
   variant-pays : pays (variant t v) ≡ pays v
@@ -72,12 +73,12 @@ module _ (t : ℕ) (v : Value) where
 
 -- of a variant, once its own record is written: its child
 variant-rest : (x y : Reading Value) (t tag at : ℕ) (s : Spot) (rs rs′ : List ℕ) → IsGot y → valueOf x ≡ variant t (valueOf y) → endOf x ≡ endOf y →
-    rs′ ≡ over rs (s .records * 16) (valueRecord 15 tag 1 0) → Rest x tag s rs y t (spot at (s .records + 1) (s .payload)) rs′
+    rs′ ≡ over rs (valueRecordStart (s .records)) (layout (valueRecord 15 tag 1 0)) → Rest x tag s rs y t (spot at (s .records + 1) (s .payload)) rs′
 unfolding past
 variant-rest x y t tag at s rs rs′ g e f h =
     let v = valueOf y in
-    let a = valueRecord 15 tag 1 0 in
-    let m : (s .records + 1) * 16 ≡ s .records * 16 + length a = rw length-record (omega arith) in
+    let a = layout (valueRecord 15 tag 1 0) in
+    let m : valueRecordStart (s .records + 1) ≡ valueRecordStart (s .records) + length a = rw length-layout (omega arith) in
     let k : (s .records + 1) + recordsOf v ≡ s .records + (1 + recordsOf v) = omega arith in
     record {
       room = λ n m r. record {
@@ -87,7 +88,7 @@ variant-rest x y t tag at s rs rs′ g e f h =
       };
       fills = λ r rs″ ps ps′ w. record {
         spot = rw (f, e, variant-records t v, variant-payload t v, ← k) (w .spot);
-        records = w .records ∙ rw (h, e, variant-flat t v) (over-at a (flat v t (s .payload)) rs (s .records * 16) ((s .records + 1) * 16) m);
+        records = w .records ∙ rw (h, e, variant-flat t v) (over-at a (flat v t (s .payload)) rs (valueRecordStart (s .records)) (valueRecordStart (s .records + 1)) m);
         payload = rw (e, variant-pays t v) (w .payload);
       };
     }
@@ -125,7 +126,7 @@ module _ (sch inp : List ℕ) (d i code : ℕ) (c : code ≡ nodeAt sch i .code)
     pub inside : first + t < nodeAt sch i .first + nodeAt sch i .children
     inside = omega (arith, k .inside, child)
 
-    pub leads-child : getD sch ((first + t) * 16) 0 < 15 → (rs′ : List ℕ) → rs′ ≡ over rs (s .records * 16) (valueRecord 15 tag 1 0) →
+    pub leads-child : getD sch ((first + t) * 16) 0 < 15 → (rs′ : List ℕ) → rs′ ≡ over rs (valueRecordStart (s .records)) (layout (valueRecord 15 tag 1 0)) →
         Leads (readAt sch inp d i (s .at)) inp code tag s rs rs′ (Leaf (getD sch ((first + t) * 16) 0) t (spot (s .at + w) (s .records + 1) (s .payload)))
     unfolding Leads nodeAt
     leads-child q rs′ z =

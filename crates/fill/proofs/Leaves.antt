@@ -1,9 +1,9 @@
 -- Nodes without children: what was read is there, and its record and its payload are what the code writes.
 -- Assumes nothing.
-use Prim.Native.Nat.{ℕ, _+_, _-_, _*_, _≤_, _<_}
+use Prim.Native.Nat.{ℕ, _+_, _-_, _≤_, _<_}
 use mathlib.Core.Path.{_≡_, refl, sym}
 use mathlib.Core.Bool.{Bool, true, false}
-use mathlib.Core.List.{List, []}
+use mathlib.Core.List.{List, [], _∷_, append-nil}
 use native.Mathlib.Omega.{arith}
 use native.Mathlib.Nat.{add-zero}
 use borrow.Author.Tests.{eqb-true, ltb-true, leb-true, ne-eqb}
@@ -13,7 +13,9 @@ use Rattle.rules.specs.Choice.{pick, _and_, all}
 use Rattle.rules.specs.Bytes.{leAt, part, over}
 use Rattle.rules.specs.Wire.{Form, empty, truth, fixed, raw, sized, choice, series, fields, unknown, form, widthOf, wireTypes, typeIn, typeOf, written, writtenIf}
 use Rattle.rules.specs.Value.{tally, recordsOf, payloadOf}
-use Rattle.rules.specs.ValueTable.{valueRecord, bit, pays, flat}
+use Rattle.rules.specs.ValueRecord.{valueRecordStart, ValueRecordIn, valueRecord, layout, layouts}
+use Rattle.rules.specs.ValueTable.{bit, pays, kind, sizeOf, contentOf, headOf, below, heads, flat}
+use Rattle.rules.specs.declared.ValueRecord.{ValueRecord}
 use Rattle.rules.proofs.Tests.{all-each, and-both}
 use Rattle.rules.proofs.Over.{over-none}
 use Rattle.rules.proofs.Stands.{length-part}
@@ -49,13 +51,13 @@ module _ (inp : List ℕ) (code at : ℕ) where
   pub record Narrow (f : Form) : Type 0 where
     pub there : widthOf f ≤ length inp - at
     pub ends : endOf (leafAt inp code f at) ≡ at + widthOf f
-    pub table : (tag p : ℕ) → flat (valueOf (leafAt inp code f at)) tag p ≡ valueRecord code tag 0 (scalarOf inp code (widthOf f) at)
+    pub table : (tag p : ℕ) → heads (valueOf (leafAt inp code f at)) tag p ≡ valueRecord code tag 0 (scalarOf inp code (widthOf f) at) ∷ []
     pub one : recordsOf (valueOf (leafAt inp code f at)) ≡ 1
     pub load : payloadOf (valueOf (leafAt inp code f at)) ≡ 0
     pub bytes : pays (valueOf (leafAt inp code f at)) ≡ []
 
   narrow-form : (f : Form) → scalarCode f code ≡ true → widthOf f ≤ 8 → IsGot (leafAt inp code f at) → Narrow f
-  unfolding scalarCode leafAt widthOf scalarOf pick leAt valueOf endOf flat pays recordsOf payloadOf tally
+  unfolding scalarCode leafAt widthOf scalarOf pick leAt valueOf endOf heads headOf kind sizeOf contentOf below pays recordsOf payloadOf tally
   narrow-form empty c l h =
       let e : code ≡ 0 = eqb-true code 0 c in
       record { there = omega arith; ends = omega arith; table = λ tag p. rw e; one = refl; load = refl; bytes = refl }
@@ -81,13 +83,13 @@ module _ (inp : List ℕ) (code at : ℕ) where
   pub record Stored (f : Form) (from n : ℕ) : Type 0 where
     pub there : from + n ≤ length inp
     pub ends : endOf (leafAt inp code f at) ≡ from + n
-    pub table : (tag p : ℕ) → flat (valueOf (leafAt inp code f at)) tag p ≡ valueRecord code tag n p
+    pub table : (tag p : ℕ) → heads (valueOf (leafAt inp code f at)) tag p ≡ valueRecord code tag n p ∷ []
     pub one : recordsOf (valueOf (leafAt inp code f at)) ≡ 1
     pub load : payloadOf (valueOf (leafAt inp code f at)) ≡ n
     pub bytes : pays (valueOf (leafAt inp code f at)) ≡ part inp from n
 
   wide-form : (f : Form) → scalarCode f code ≡ true → 8 < widthOf f → IsGot (leafAt inp code f at) → Stored f at (widthOf f)
-  unfolding scalarCode leafAt widthOf valueOf endOf flat pays recordsOf payloadOf tally
+  unfolding scalarCode leafAt widthOf valueOf endOf heads headOf kind sizeOf contentOf below pays recordsOf payloadOf tally
   wide-form empty c l h = absurd (omega arith)
   wide-form truth c l h = absurd (omega arith)
   wide-form (fixed w) c l h = absurd (omega (arith, leb-true w 8 (and-both _ _ c .1)))
@@ -105,7 +107,7 @@ module _ (inp : List ℕ) (code at : ℕ) where
   wide-stored c l h = wide-form (form code) (scalar-code code (omega arith)) l h
 
   blob-form : IsGot (leafAt inp code sized at) → Stored sized (at + 4) (leAt inp at 4)
-  unfolding leafAt valueOf endOf flat pays recordsOf payloadOf tally
+  unfolding leafAt valueOf endOf heads headOf kind sizeOf contentOf below pays recordsOf payloadOf tally
   blob-form h =
       let a = number-got inp 4 at _ h in
       let b = bytes-got inp (leAt inp at 4) (at + 4) _ (rw (a .1) at h) in
@@ -125,29 +127,35 @@ nothing-scalar inp code w at e = rw e (by (eqb code 1))
     by false = unfold pick in refl
 
 -- ---- what is written is the value's table
-module _ (inp : List ℕ) (code : ℕ) (s : Spot) (f : Form) where
-  pub narrow-room : (n m : ℕ) → Narrow inp code (s .at) f → Room (leafAt inp code f (s .at)) s n m → (s .records + 1) * 16 ≤ n
-  narrow-room n m k r = rw (k .one) at (r .records)
 
-  pub narrow-fills : (tag w x : ℕ) (rs rs′ ps : List ℕ) → Narrow inp code (s .at) f → w ≡ widthOf f → x ≡ scalarOf inp code w (s .at) → rs′ ≡ over rs (s .records * 16) (valueRecord code tag 0 x) →
+-- the bytes of a record alone
+one-layout : (r : ValueRecord) → layouts (r ∷ []) ≡ layout r
+unfolding layouts
+one-layout r = append-nil (layout r)
+
+module _ (inp : List ℕ) (code : ℕ) (s : Spot) (f : Form) where
+  pub narrow-room : (n m : ℕ) → Narrow inp code (s .at) f → Room (leafAt inp code f (s .at)) s n m → ValueRecordIn (s .records) n
+  narrow-room n m k r = omega (arith, rw (k .one) at (r .records))
+
+  pub narrow-fills : (tag w x : ℕ) (rs rs′ ps : List ℕ) → Narrow inp code (s .at) f → w ≡ widthOf f → x ≡ scalarOf inp code w (s .at) → rs′ ≡ over rs (valueRecordStart (s .records)) (layout (valueRecord code tag 0 x)) →
       Filled (leafAt inp code f (s .at)) tag s (record { at = s .at + w; records = s .records + 1; payload = s .payload }) rs rs′ ps ps
-  unfolding past
+  unfolding past flat
   narrow-fills tag w x rs rs′ ps k e d h = record {
     spot = rw (k .ends, k .one, k .load, e, add-zero (s .payload));
-    records = rw (k .table tag (s .payload), ← e, ← d) h;
+    records = rw (k .table tag (s .payload), ← e, ← d, one-layout) h;
     payload = rw (k .bytes) (sym (over-none ps (s .payload)));
   }
 
   module _ (from k : ℕ) (is : Stored inp code (s .at) f from k) where
-    pub stored-room : (n m : ℕ) → Room (leafAt inp code f (s .at)) s n m → (from + k ≤ length inp) × ((s .records + 1) * 16 ≤ n) × (s .payload + k ≤ m)
-    stored-room n m r = (is .there, rw (is .one) at (r .records), rw (is .load) at (r .payload))
+    pub stored-room : (n m : ℕ) → Room (leafAt inp code f (s .at)) s n m → (from + k ≤ length inp) × (ValueRecordIn (s .records) n) × (s .payload + k ≤ m)
+    stored-room n m r = (is .there, omega (arith, rw (is .one) at (r .records)), rw (is .load) at (r .payload))
 
     pub stored-fills : (tag : ℕ) (q : Spot) (rs rs′ ps ps′ : List ℕ) → q ≡ record { at = from + k; records = s .records + 1; payload = s .payload + k } →
-        rs′ ≡ over rs (s .records * 16) (valueRecord code tag k (s .payload)) → ps′ ≡ over ps (s .payload) (part inp from k) →
+        rs′ ≡ over rs (valueRecordStart (s .records)) (layout (valueRecord code tag k (s .payload))) → ps′ ≡ over ps (s .payload) (part inp from k) →
         Filled (leafAt inp code f (s .at)) tag s q rs rs′ ps ps′
-    unfolding past
+    unfolding past flat
     stored-fills tag q rs rs′ ps ps′ e g h = record {
       spot = rw (is .ends, is .one, is .load) e;
-      records = rw (is .table tag (s .payload)) g;
+      records = rw (is .table tag (s .payload), one-layout) g;
       payload = rw (is .bytes) h;
     }

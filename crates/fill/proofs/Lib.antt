@@ -5,4 +5,3 @@ pub mod Got
 pub mod Leads
 pub mod Leaves
 pub mod Nexts
-pub mod Writes

@@ -1,6 +1,6 @@
 -- What filling leaves: the records and the payload bytes of the value that was read, over what stood there.
 -- Assumes nothing: these are definitions.
-use Prim.Native.Nat.{ℕ, zero, suc, _+_, _*_, _≤_, _<_}
+use Prim.Native.Nat.{ℕ, zero, suc, _+_, _≤_, _<_}
 use mathlib.Core.Path.{_≡_}
 use mathlib.Core.List.{List}
 use lib.ListN.{length}
@@ -10,6 +10,7 @@ use Rattle.rules.specs.Bytes.{leAt, over}
 use Rattle.rules.specs.Wire.{Form, empty, truth, fixed, raw, sized, choice, series, fields, unknown, endTag}
 use Rattle.rules.specs.Block.{nodeAt, Closed}
 use Rattle.rules.specs.Value.{Value, recordsOf, payloadOf}
+use Rattle.rules.specs.ValueRecord.{valueRecordStart}
 use Rattle.rules.specs.ValueTable.{bit, pays, flat}
 use Rattle.fill.specs.Plain.{Reading, IsGot, valueOf, endOf, readAt}
 use Rattle.fill.specs.declared.Spot.{Spot}
@@ -19,7 +20,7 @@ use Rattle.fill.specs.declared.Next.the-variants.{Child, End}
 -- a value was read, and n bytes have room for its records and m for its payload, from a spot on
 pub record Room (x : Reading Value) (s : Spot) (n m : ℕ) : Type 0 where
   pub is : IsGot x
-  pub records : (s .records + recordsOf (valueOf x)) * 16 ≤ n
+  pub records : valueRecordStart (s .records + recordsOf (valueOf x)) ≤ n
   pub payload : s .payload + payloadOf (valueOf x) ≤ m
 
 -- a place of the input, and the starts of both slices
@@ -33,7 +34,7 @@ past x s = record { at = endOf x; records = s .records + recordsOf (valueOf x); 
 -- the value's table stands from a spot on, under the tag by which its parent chose it, over what stood there; q is past it
 pub record Filled (x : Reading Value) (tag : ℕ) (s q : Spot) (rs rs′ ps ps′ : List ℕ) : Type 0 where
   pub spot : q ≡ past x s
-  pub records : rs′ ≡ over rs (s .records * 16) (flat (valueOf x) tag (s .payload))
+  pub records : rs′ ≡ over rs (valueRecordStart (s .records)) (flat (valueOf x) tag (s .payload))
   pub payload : ps′ ≡ over ps (s .payload) (pays (valueOf x))
 
 -- ---- a row

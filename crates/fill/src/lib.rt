@@ -8,22 +8,21 @@ ghost use lib.Dec.{ltb};
 ghost use Rattle.rules.specs.Bytes.{leAt, part, over};
 ghost use Rattle.rules.specs.Wire.{form, widthOf};
 ghost use Rattle.rules.specs.Block.{nodeAt, Closed};
-ghost use Rattle.rules.specs.ValueTable.{valueRecord, bit, pays, flat};
+ghost use Rattle.rules.specs.ValueRecord.{valueRecordStart, ValueRecordIn, valueRecord, layout};
+ghost use Rattle.rules.specs.ValueTable.{bit, pays, flat};
 ghost use Rattle.rules.specs.Writing.{kindFor};
 ghost use Rattle.fill.specs.Plain.{leafAt, readAt};
 ghost use Rattle.fill.specs.Filling.{Room, Filled, Fillable, rowValue, scalarOf, tagBytes, nextOf};
 ghost use Rattle.fill.specs.Leads.{Held, Leads};
-use self::writer::copy;
-use self::writer::put_record;
 use read::fields::ends;
+use record::payload::copy;
+use record::value::put_record;
 use wire::codes::fixed_width;
 use wire::codes::tag_width;
 use wire::field;
 use wire::u16_at;
 use wire::u32_at;
 use wire::wide;
-
-pub mod writer;
 
 // Where the walk stands: the next byte of the input, the next record, the next payload byte.
 pub struct Spot {
@@ -74,9 +73,9 @@ fn fill_bytes(
     records: &mut [u8],
     payload: &mut [u8],
 ) -> Spot
-    requires { ⌜ (from + n ≤ length (now input)) × ((s .records + 1) * 16 ≤ length (now records)) × (s .payload + n ≤ length (now payload)) ⌝ }
+    requires { ⌜ (from + n ≤ length (now input)) × ValueRecordIn (s .records) (length (now records)) × (s .payload + n ≤ length (now payload)) ⌝ }
     ensures spot { λ r. ⌜ r ≡ record { at = from + n; records = s .records + 1; payload = s .payload + n } ⌝ }
-    ensures records { λ _. ⌜ now (records .exit) ≡ over (now (records .entry)) (s .records * 16) (valueRecord code tag n (s .payload)) ⌝ }
+    ensures records { λ _. ⌜ now (records .exit) ≡ over (now (records .entry)) (valueRecordStart (s .records)) (layout (valueRecord code tag n (s .payload))) ⌝ }
     ensures payload { λ _. ⌜ now (payload .exit) ≡ over (now (payload .entry)) (s .payload) (part (now (input .entry)) from n) ⌝ }
 {
     let i = s.records;

@@ -1,6 +1,6 @@
 -- Demand 3 on the rules of the whole calls: what is encoded, exactly when, and that it reads back.
 -- Assumes nothing.
-use Prim.Native.Nat.{ℕ, _+_, _-_, _/_, _≤_, _<_}
+use Prim.Native.Nat.{ℕ, _+_, _-_, _≤_, _<_}
 use mathlib.Core.Path.{_≡_, refl, _∙_}
 use mathlib.Core.Bool.{Bool, true, false}
 use mathlib.Core.List.{List, _++_}
@@ -17,7 +17,7 @@ use Rattle.rules.specs.Value.{Value, nothing, boolean, number, wide, blob, vari
 use Rattle.rules.specs.ValueTable.{TableOf}
 use Rattle.rules.specs.Grammar.{Row, table-row, Conforms, encoded, encodedRow}
 use Rattle.rules.specs.Walk.{Limits, blobLimit, Pos, after}
-use Rattle.rules.specs.Reading.{settingsOk, limits, start, schemaOf, Accepts, extent, whenAccepted, Decoded, room, decodeRule}
+use Rattle.rules.specs.Reading.{settingsOk, limits, start, schemaOf, Accepts, extent, whenAccepted, Decoded, room, recordRoom, decodeRule}
 use Rattle.rules.specs.Writing.{Wrote, Put, writeRow, Encoded, unwritten, placed, encodeValue, encodeRule}
 use Rattle.rules.specs.declared.Settings.{Settings}
 use Rattle.rules.specs.declared.Refusal.{Refusal}
@@ -142,7 +142,7 @@ pub record ReadAsked (f : Format) (s s′ : Settings) (sch : Schema) (v : Value)
   pub schema : schemaOf f 0 ≡ sch
   pub blobs : (k : ℕ) → blobLimit (limits s) k ≤ blobLimit (limits s′) k
   pub row : costs (limits s′ .charge) v ≤ limits s′ .row
-  pub nodes : recordsOf v ≤ room rs / 16
+  pub nodes : recordsOf v ≤ recordRoom rs
   pub payload : payloadOf v ≤ room ps
 
 -- the answer and the two slices of a decode that gives back a row of table 0

@@ -1,6 +1,6 @@
 -- Decode answers as skip does but for room, leaves its slices alone unless it accepts, and leaves the table of a conforming value.
 -- Assumes nothing.
-use Prim.Native.Nat.{ℕ, _+_, _/_, _≤_, _<_}
+use Prim.Native.Nat.{ℕ, _+_, _≤_, _<_}
 use mathlib.Core.Path.{_≡_, refl, ap, _∙_}
 use mathlib.Core.Bool.{Bool, true, false}
 use mathlib.Core.List.{List}
@@ -16,7 +16,7 @@ use Rattle.rules.specs.Value.{Value, Fits, recordsOf, payloadOf}
 use Rattle.rules.specs.ValueTable.{flat, pays}
 use Rattle.rules.specs.Grammar.{TableRow, table-row, Conforms}
 use Rattle.rules.specs.Walk.{Limits, Pos, Answer, Got, after}
-use Rattle.rules.specs.Reading.{settingsOk, limits, start, rowAt, schemaOf, Accepts, extent, skipped, skipFrom, whenAccepted, skipRule, Decoded, room, untouched, filled, decodeFrom, decodeRule}
+use Rattle.rules.specs.Reading.{settingsOk, limits, start, rowAt, schemaOf, Accepts, extent, skipped, skipFrom, whenAccepted, skipRule, Decoded, room, recordRoom, untouched, filled, decodeFrom, decodeRule}
 use Rattle.rules.specs.declared.Settings.{Settings}
 use Rattle.rules.specs.declared.Refusal.the-variants.{Setting, NoNodeRoom, NoPayloadRoom}
 use Rattle.rules.specs.declared.Checked.{Checked}
@@ -35,24 +35,24 @@ pub data SameButRoom (at : ℕ) (rs ps : List ℕ) : Read → Read → Type 0 wh
   same : {a : Read} →
       SameButRoom at rs ps a a
   no-node-room : {e : Extent} →
-      room rs / 16 < e .records →
+      recordRoom rs < e .records →
       SameButRoom at rs ps (Row e) (Refused (NoNodeRoom (e .records) at))
   no-payload-room : {e : Extent} →
-      e .records ≤ room rs / 16 → room ps < e .payload →
+      e .records ≤ recordRoom rs → room ps < e .payload →
       SameButRoom at rs ps (Row e) (Refused (NoPayloadRoom (e .payload) at))
 
 module _ (at : ℕ) (rs ps : List ℕ) where
   filled-same : (a : Answer (ℕ × Value)) → SameButRoom at rs ps (skipped at a) (filled at a rs ps .answer)
   unfolding skipped filled
-  filled-same (Got (t, v) q) = nodes (leb (q .records) (room rs / 16)) refl
+  filled-same (Got (t, v) q) = nodes (leb (q .records) (recordRoom rs)) refl
     where
-      payload : q .records ≤ room rs / 16 → (b : Bool) → leb (q .payload) (room ps) ≡ b →
+      payload : q .records ≤ recordRoom rs → (b : Bool) → leb (q .payload) (room ps) ≡ b →
           SameButRoom at rs ps (Row (extent at t q))
           (pick b (record { answer = Row (extent at t q); records = over rs 0 (flat v 0 0); payload = over ps 0 (pays v) }) (untouched (Refused (NoPayloadRoom (q .payload) at)) rs ps) .answer)
       payload h true e = unfold pick in same
       payload h false e = unfold pick extent in no-payload-room {e = extent at t q} h (leb-false _ _ e)
 
-      nodes : (b : Bool) → leb (q .records) (room rs / 16) ≡ b →
+      nodes : (b : Bool) → leb (q .records) (recordRoom rs) ≡ b →
           SameButRoom at rs ps (Row (extent at t q))
           (pick b
           (pick (leb (q .payload) (room ps)) (record { answer = Row (extent at t q); records = over rs 0 (flat v 0 0); payload = over ps 0 (pays v) }) (untouched (Refused (NoPayloadRoom (q .payload) at)) rs ps))
@@ -93,7 +93,7 @@ NotRow (Refused r) = Unit
 -- the table of the row that stands there, from the start of each slice; or nothing
 pub data Leaves (f : Format) (inp : List ℕ) (lim : Limits) (at : ℕ) (rs ps : List ℕ) : Decoded → Type 0 where
   row-written : {t : ℕ} {v : Value} {q : Pos} →
-      Accepts f inp lim at t v q → recordsOf v ≤ room rs / 16 → payloadOf v ≤ room ps →
+      Accepts f inp lim at t v q → recordsOf v ≤ recordRoom rs → payloadOf v ≤ room ps →
       Leaves f inp lim at rs ps (decodedRow at rs ps t v q)
   unchanged : {a : Read} →
       NotRow a →
@@ -110,16 +110,16 @@ module _ (f : Format) (inp : List ℕ) (lim : Limits) (at : ℕ) (rs ps : List �
 
   filled-leaves : Bytes inp → at ≤ length inp → (a : Answer (ℕ × Value)) → rowAt f inp lim at ≡ a → Leaves f inp lim at rs ps (filled at a rs ps)
   unfolding filled
-  filled-leaves bs h (Got (t, v) q) e = nodes (leb (q .records) (room rs / 16)) refl
+  filled-leaves bs h (Got (t, v) q) e = nodes (leb (q .records) (recordRoom rs)) refl
     where
       is : Accepts f inp lim at t v q
       is = row-agrees f inp lim at bs h t v q .0 e
 
-      payload : q .records ≤ room rs / 16 → (b : Bool) → leb (q .payload) (room ps) ≡ b → Leaves f inp lim at rs ps (pick b (decodedRow at rs ps t v q) (untouched (Refused (NoPayloadRoom (q .payload) at)) rs ps))
+      payload : q .records ≤ recordRoom rs → (b : Bool) → leb (q .payload) (room ps) ≡ b → Leaves f inp lim at rs ps (pick b (decodedRow at rs ps t v q) (untouched (Refused (NoPayloadRoom (q .payload) at)) rs ps))
       payload l true e = unfold pick in row-written is (rw (counted is .0) at l) (rw (counted is .1) at (leb-true (q .payload) (room ps) e))
       payload l false e = unfold pick NotRow in unchanged tt
 
-      nodes : (b : Bool) → leb (q .records) (room rs / 16) ≡ b →
+      nodes : (b : Bool) → leb (q .records) (recordRoom rs) ≡ b →
           Leaves f inp lim at rs ps (pick b (pick (leb (q .payload) (room ps)) (decodedRow at rs ps t v q) (untouched (Refused (NoPayloadRoom (q .payload) at)) rs ps)) (untouched (Refused (NoNodeRoom (q .records) at)) rs ps))
       nodes true e = unfold pick in payload (leb-true _ _ e) (leb (q .payload) (room ps)) refl
       nodes false e = unfold pick NotRow in unchanged tt
@@ -174,7 +174,7 @@ module _ (f : Format) (s : Settings) (inp : List ℕ) (ok : Asked f s inp) (at :
       rw (ok .settings, ok .sizes, le-leb (length inp) 4294967295 (ok .short), le-leb at (length inp) (omega (arith, i .1)), ok .format, ne-eqb at (length inp) (λ z. omega (arith, i .0, i .1)), row-accepts f inp (limits s) at a)
 
   -- and decode, where there is room, leaves its table
-  pub decode-accepts : (rs ps : List ℕ) → recordsOf v ≤ room rs / 16 → payloadOf v ≤ room ps → decodeRule f s inp at rs ps ≡ decodedRow at rs ps t v q
+  pub decode-accepts : (rs ps : List ℕ) → recordsOf v ≤ recordRoom rs → payloadOf v ≤ room ps → decodeRule f s inp at rs ps ≡ decodedRow at rs ps t v q
   unfolding decodeRule whenAccepted decodeFrom pick _and_ filled
   decode-accepts rs ps m n =
       let i = accepts-inside f inp (limits s) at a in
@@ -187,6 +187,6 @@ module _ (f : Format) (s : Settings) (inp : List ℕ) (ok : Asked f s inp) (at :
         ok .format,
         ne-eqb at (length inp) (λ z. omega (arith, i .0, i .1)),
         row-accepts f inp (limits s) at a,
-        le-leb (q .records) (room rs / 16) (rw (c .0) m),
+        le-leb (q .records) (recordRoom rs) (rw (c .0) m),
         le-leb (q .payload) (room ps) (rw (c .1) n),
       )

@@ -15,7 +15,8 @@ use Rattle.rules.specs.Block.{nodeAt, records, block, earlier, nameOk, c
 use Rattle.rules.specs.SchemaRules.{nodeRule, ruleAt, schemaRule, notTuple, rootRule, nameRule, childRule, tableRule}
 use Rattle.rules.specs.Format.{Format, blockFormOk, blockDepthOk, blockRule, referenceAt, entryAt, entryName, lookup, resolved, tableSchema, referenceOk, ascending, entryOk, referenceFormOk, formsOk, entryDepthOk, referenceDepthOk, depthsOk, entryRule, rootOf, inlineRule, referenceRule, rulesOrder, sizesOk, formatRules, oneBlock, encoderRules}
 use Rattle.rules.specs.Value.{tally, items, values, recordsOf, payloadOf}
-use Rattle.rules.specs.ValueTable.{valueRecord, bit, pays, flat, _>>=_ as _parsed>>=_, kindOf, isRecord, scalarAt, itemsAt, valuesAt, nodeOf, valueAt, exactly, tableValue}
+use Rattle.rules.specs.ValueRecord.{layout, layouts, valueRecordAt, isRecord}
+use Rattle.rules.specs.ValueTable.{bit, pays, kind, sizeOf, contentOf, headOf, below, heads, flat, _>>=_ as _parsed>>=_, kindOf, storedAt, scalarAt, itemsAt, valuesAt, nodeOf, headed, valueAt, exactly, tableValue}
 use Rattle.rules.specs.Walk.{blobLimit, _>>=_, numberOf, bytesOf, charged, blobOf, childOf, pairsOf, fieldsOf, valueOf, walk}
 use Rattle.rules.specs.Reading.{settingsOk, limits, start, rootFrom, rowAt, extent, skipped, skipFrom, whenAccepted, skipRule, Decoded, room, filled, decodeFrom, decodeRule}
 use Rattle.rules.specs.Writing.{_>>=_ as _wrote>>=_, kindFor, fitting, tagged, write, writeRow, placed, encodeValue, encodeRule}
@@ -139,5 +140,5 @@ outcomes =
     ∷ []
 
 pub rows-hold : map outcome lines ≡ outcomes
-unfolding outcome lines outcomes refused accepted line with-limits full A B oneTable schemaRecord ascii shown settings encodedAgain again pick _and_ all le leAt part over order isEqual isLess form written writtenIf typeOf typeIn wireTypes widthOf endTag maximum said _then_ inOrder deep child nodeAt block earlier nameOk childrenOk recordOk recordAt blockOk nameIn treesFrom treeAt blockTree depthOf nodeRule ruleAt schemaRule notTuple rootRule nameRule childRule tableRule blockFormOk blockDepthOk blockRule referenceAt entryAt entryName lookup resolved tableSchema referenceOk ascending entryOk referenceFormOk formsOk entryDepthOk referenceDepthOk depthsOk entryRule rootOf inlineRule referenceRule rulesOrder sizesOk formatRules oneBlock encoderRules tally items values recordsOf payloadOf valueRecord bit pays flat _parsed>>=_ kindOf isRecord scalarAt itemsAt valuesAt nodeOf valueAt exactly tableValue blobLimit _>>=_ numberOf bytesOf charged blobOf childOf pairsOf fieldsOf valueOf walk settingsOk limits start rootFrom rowAt extent skipped skipFrom whenAccepted skipRule room filled decodeFrom decodeRule _wrote>>=_ kindFor fitting tagged write writeRow placed encodeValue encodeRule
+unfolding outcome lines outcomes refused accepted line with-limits full A B oneTable schemaRecord ascii shown settings encodedAgain again pick _and_ all le leAt part over order isEqual isLess form written writtenIf typeOf typeIn wireTypes widthOf endTag maximum said _then_ inOrder deep child nodeAt block earlier nameOk childrenOk recordOk recordAt blockOk nameIn treesFrom treeAt blockTree depthOf nodeRule ruleAt schemaRule notTuple rootRule nameRule childRule tableRule blockFormOk blockDepthOk blockRule referenceAt entryAt entryName lookup resolved tableSchema referenceOk ascending entryOk referenceFormOk formsOk entryDepthOk referenceDepthOk depthsOk entryRule rootOf inlineRule referenceRule rulesOrder sizesOk formatRules oneBlock encoderRules tally items values recordsOf payloadOf layout layouts valueRecordAt isRecord bit pays kind sizeOf contentOf headOf below heads flat _parsed>>=_ kindOf storedAt scalarAt itemsAt valuesAt nodeOf headed valueAt exactly tableValue blobLimit _>>=_ numberOf bytesOf charged blobOf childOf pairsOf fieldsOf valueOf walk settingsOk limits start rootFrom rowAt extent skipped skipFrom whenAccepted skipRule room filled decodeFrom decodeRule _wrote>>=_ kindFor fitting tagged write writeRow placed encodeValue encodeRule
 rows-hold = refl

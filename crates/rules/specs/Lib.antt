@@ -8,6 +8,7 @@ pub mod Block
 pub mod SchemaRules
 pub mod Format
 pub mod Value
+pub mod ValueRecord
 pub mod ValueTable
 pub mod Grammar
 pub mod Walk

@@ -1,6 +1,6 @@
 -- What reading answers: a row at a position, a run over a whole stream, and what decode leaves in its two slices.
 -- Assumes nothing: these are definitions.
-use Prim.Native.Nat.{ℕ, zero, suc, _+_, _-_, _/_, _≤_, min}
+use Prim.Native.Nat.{ℕ, zero, suc, _+_, _-_, _≤_, min}
 use mathlib.Core.Path.{_≡_}
 use mathlib.Core.Bool.{Bool}
 use mathlib.Core.List.{List, [], _∷_}
@@ -12,6 +12,7 @@ use Rattle.rules.specs.Schema.{Schema, noSchema}
 use Rattle.rules.specs.Block.{block, treeAt}
 use Rattle.rules.specs.Format.{Format, shortOk, sizesOk, tables, tableSchema, formatRules}
 use Rattle.rules.specs.Value.{Value, Within, costs}
+use Rattle.rules.specs.ValueRecord.{valueRecordsIn}
 use Rattle.rules.specs.ValueTable.{flat, pays}
 use Rattle.rules.specs.Grammar.{TableRow}
 use Rattle.rules.specs.Walk.{Limits, blobLimit, Pos, Answer, Got, Refused, _>>=_, numberOf, walk, after}
@@ -151,13 +152,17 @@ pub record Decoded : Type 0 where
 unfoldable pub room : List ℕ → ℕ
 room s = min (length s) 4294967295
 
+-- and of these as many records as are whole
+abbrev pub recordRoom : List ℕ → ℕ
+recordRoom s = valueRecordsIn (room s)
+
 abbrev pub untouched : Read → List ℕ → List ℕ → Decoded
 untouched answer rs ps = record { answer = answer; records = rs; payload = ps }
 
 -- room for the records (19), then for the payload bytes (20), each with the whole row's need; then both slices are filled from their starts
 unfoldable pub filled : ℕ → Answer (ℕ × Value) → List ℕ → List ℕ → Decoded
 filled at (Got (t, v) q) rs ps =
-    pick (leb (q .records) (room rs / 16))
+    pick (leb (q .records) (recordRoom rs))
     (pick (leb (q .payload) (room ps))
     (record { answer = Row (extent at t q); records = over rs 0 (flat v 0 0); payload = over ps 0 (pays v) })
     (untouched (Read.Refused (NoPayloadRoom (q .payload) at)) rs ps))

@@ -1,20 +1,17 @@
--- A value as a flat table: 16-byte records in preorder and a payload store. Its form (18) is that some value's table it is.
+-- A value as a flat table: value records in preorder and a payload store. Its form (18) is that some value's table it is.
 -- Assumes nothing: these are definitions.
-use Prim.Native.Nat.{ℕ, zero, suc, _+_, _*_, _%_, _^_, _≤_}
+use Prim.Native.Nat.{ℕ, zero, suc, _+_, _^_, _≤_}
 use mathlib.Core.Path.{_≡_}
 use mathlib.Core.Bool.{Bool, true, false}
 use mathlib.Core.List.{List, [], _∷_, _++_}
-use lib.ListN.{length, getD}
+use lib.ListN.{length}
 use lib.Dec.{ltb, leb, eqb}
 use Rattle.rules.specs.Choice.{pick, _and_}
-use Rattle.rules.specs.Bytes.{le, leAt, part, order, isEqual}
+use Rattle.rules.specs.Bytes.{part}
 use Rattle.rules.specs.Wire.{Form, empty, truth, fixed, raw, sized, choice, series, fields, unknown, form}
-use Rattle.rules.specs.Block.{records}
 use Rattle.rules.specs.Value.{Value, nothing, boolean, number, wide, blob, variant, repeated, tuple, Items, done, item, Values, none, more, items, values, tall, Fits, payloadOf}
-
--- byte 0 kind; byte 1 zero; 2..3 the tag by which the parent chose the node; 4..7 child count or payload length; 8..15 payload start or wire bytes
-unfoldable pub valueRecord : ℕ → ℕ → ℕ → ℕ → List ℕ
-valueRecord kind tag n x = kind ∷ 0 ∷ (le 2 tag ++ (le 4 n ++ le 8 x))
+use Rattle.rules.specs.ValueRecord.{valueRecordsIn, wholeValueRecords, valueRecord, layouts, valueRecordAt, isRecord}
+use Rattle.rules.specs.declared.ValueRecord.{ValueRecord}
 
 unfoldable pub bit : Bool → ℕ
 bit true = 1
@@ -42,25 +39,70 @@ unfoldable mutual
   paysV none = []
   paysV (more v vs) = pays v ++ paysV vs
 
--- the records of a value that its parent chose by `tag`, with p payload bytes before it
+-- what a value's record says: its kind
+unfoldable pub kind : Value → ℕ
+kind nothing = 0
+kind (boolean x) = 1
+kind (number k x) = k
+kind (wide k x) = k
+kind (blob k x) = k
+kind (variant t v) = 15
+kind (repeated is) = 16
+kind (tuple vs) = 17
+
+-- its child count or payload length
+unfoldable pub sizeOf : Value → ℕ
+sizeOf nothing = 0
+sizeOf (boolean x) = 0
+sizeOf (number k x) = 0
+sizeOf (wide k x) = length x
+sizeOf (blob k x) = length x
+sizeOf (variant t v) = 1
+sizeOf (repeated is) = items is
+sizeOf (tuple vs) = values vs
+
+-- its wire bytes, or where its payload starts, with p payload bytes before it
+unfoldable pub contentOf : Value → ℕ → ℕ
+contentOf nothing p = 0
+contentOf (boolean x) p = bit x
+contentOf (number k x) p = x
+contentOf (wide k x) p = p
+contentOf (blob k x) p = p
+contentOf (variant t v) p = 0
+contentOf (repeated is) p = 0
+contentOf (tuple vs) p = 0
+
+-- the record of a value that its parent chose by `tag`, with p payload bytes before it
+unfoldable pub headOf : Value → ℕ → ℕ → ValueRecord
+headOf v tag p = valueRecord (kind v) tag (sizeOf v) (contentOf v p)
+
+-- the records below a node, in preorder: each child's own, and those below it
 unfoldable mutual
-  pub flat : Value → ℕ → ℕ → List ℕ
-  flat nothing tag p = valueRecord 0 tag 0 0
-  flat (boolean x) tag p = valueRecord 1 tag 0 (bit x)
-  flat (number k x) tag p = valueRecord k tag 0 x
-  flat (wide k x) tag p = valueRecord k tag (length x) p
-  flat (blob k x) tag p = valueRecord k tag (length x) p
-  flat (variant t v) tag p = valueRecord 15 tag 1 0 ++ flat v t p
-  flat (repeated is) tag p = valueRecord 16 tag (items is) 0 ++ flatI is p
-  flat (tuple vs) tag p = valueRecord 17 tag (values vs) 0 ++ flatV vs p
+  pub below : Value → ℕ → List ValueRecord
+  below nothing p = []
+  below (boolean x) p = []
+  below (number k x) p = []
+  below (wide k x) p = []
+  below (blob k x) p = []
+  below (variant t v) p = headOf v t p ∷ below v p
+  below (repeated is) p = belowI is p
+  below (tuple vs) p = belowV vs p
 
-  pub flatI : Items → ℕ → List ℕ
-  flatI done p = []
-  flatI (item t v is) p = flat v t p ++ flatI is (p + payloadOf v)
+  pub belowI : Items → ℕ → List ValueRecord
+  belowI done p = []
+  belowI (item t v is) p = headOf v t p ∷ (below v p ++ belowI is (p + payloadOf v))
 
-  pub flatV : Values → ℕ → List ℕ
-  flatV none p = []
-  flatV (more v vs) p = flat v 0 p ++ flatV vs (p + payloadOf v)
+  pub belowV : Values → ℕ → List ValueRecord
+  belowV none p = []
+  belowV (more v vs) p = headOf v 0 p ∷ (below v p ++ belowV vs (p + payloadOf v))
+
+-- the records of a value: its own, and those below it
+unfoldable pub heads : Value → ℕ → ℕ → List ValueRecord
+heads v tag p = headOf v tag p ∷ below v p
+
+-- their bytes
+unfoldable pub flat : Value → ℕ → ℕ → List ℕ
+flat v tag p = layouts (heads v tag p)
 
 -- these records and this payload store are the table of v
 pub record TableOf (v : Value) (table store : List ℕ) : Type 0 where
@@ -97,22 +139,6 @@ unfoldable pub kindOf : ℕ → Kind
 kindOf k = pick (ltb k 15) (scalar (form k)) (pick (eqb k 15) one (pick (eqb k 16) list (pick (eqb k 17) row other)))
 
 module _ (table store : List ℕ) where
-  -- record i is there, and has just these bytes
-  unfoldable pub isRecord : ℕ → List ℕ → Bool
-  isRecord i bytes = leb (i * 16 + 16) (length table) and isEqual (order (part table (i * 16) 16) bytes)
-
-  abbrev pub kindAt : ℕ → ℕ
-  kindAt i = getD table (i * 16) 0
-
-  abbrev pub tagAt : ℕ → ℕ
-  tagAt i = leAt table (i * 16 + 2) 2
-
-  abbrev pub sizeAt : ℕ → ℕ
-  sizeAt i = leAt table (i * 16 + 4) 4
-
-  abbrev pub dataAt : ℕ → ℕ
-  dataAt i = leAt table (i * 16 + 8) 8
-
   -- the next record, or the next record and n payload bytes further
   abbrev pub next : Spot → Spot
   next p = record { at = p .at + 1; from = p .from }
@@ -120,19 +146,25 @@ module _ (table store : List ℕ) where
   abbrev pub past : ℕ → Spot → Spot
   past n p = record { at = p .at + 1; from = p .from + n }
 
-  -- one that was chosen by `tag`, of a scalar kind k
-  unfoldable pub scalarAt : Form → ℕ → ℕ → Spot → Parsed Value
-  scalarAt empty k tag p = pick (isRecord (p .at) (valueRecord k tag 0 0)) (Whole nothing (next p)) Broken
-  scalarAt truth k tag p = pick (ltb (dataAt (p .at)) 2 and isRecord (p .at) (valueRecord k tag 0 (dataAt (p .at)))) (Whole (boolean (ltb 0 (dataAt (p .at)))) (next p)) Broken
-  scalarAt (fixed w) k tag p = pick (ltb (dataAt (p .at)) (256 ^ w) and isRecord (p .at) (valueRecord k tag 0 (dataAt (p .at)))) (Whole (number k (dataAt (p .at))) (next p)) Broken
-  scalarAt (raw w) k tag p = pick (leb (p .from + w) (length store) and isRecord (p .at) (valueRecord k tag w (p .from))) (Whole (wide k (part store (p .from) w)) (past w p)) Broken
-  scalarAt sized k tag p =
-      let n = sizeAt (p .at) in
-      pick (leb (p .from + n) (length store) and isRecord (p .at) (valueRecord k tag n (p .from))) (Whole (blob k (part store (p .from) n)) (past n p)) Broken
-  scalarAt (choice w) k tag p = Broken
-  scalarAt (series w) k tag p = Broken
-  scalarAt fields k tag p = Broken
-  scalarAt unknown k tag p = Broken
+  -- n payload bytes, as a value
+  unfoldable pub storedAt : (List ℕ → Value) → ℕ → Spot → Parsed Value
+  storedAt make n p = pick (leb (p .from + n) (length store)) (Whole (make (part store (p .from) n)) (past n p)) Broken
+
+  -- the value of a record of a scalar kind
+  unfoldable pub scalarAt : Form → ValueRecord → Spot → Parsed Value
+  scalarAt empty r p = Whole nothing (next p)
+  scalarAt truth r p = Whole (boolean (ltb 0 (r .content))) (next p)
+  scalarAt (fixed w) r p = pick (ltb (r .content) (256 ^ w)) (Whole (number (r .kind) (r .content)) (next p)) Broken
+  scalarAt (raw w) r p = storedAt (wide (r .kind)) w p
+  scalarAt sized r p = storedAt (blob (r .kind)) (r .size) p
+  scalarAt (choice w) r p = Broken
+  scalarAt (series w) r p = Broken
+  scalarAt fields r p = Broken
+  scalarAt unknown r p = Broken
+
+  -- the tag that record i bears
+  abbrev pub tagAt : ℕ → ℕ
+  tagAt i = valueRecordAt table i .tag
 
   -- n children, each with the tag that it bears; and n children of a tuple, which bear 0
   unfoldable pub itemsAt : (ℕ → Spot → Parsed Value) → ℕ → Spot → Parsed Items
@@ -149,37 +181,34 @@ module _ (table store : List ℕ) where
     (vs, r) ← valuesAt child n q
     Whole (more v vs) r
 
-  unfoldable pub nodeOf : (ℕ → Spot → Parsed Value) → Kind → ℕ → Spot → Parsed Value
-  nodeOf child (scalar f) tag p = scalarAt f (kindAt (p .at)) tag p
-  nodeOf child one tag p =
-      pick (isRecord (p .at) (valueRecord 15 tag 1 0))
-      (do
-        (v, q) ← child (tagAt (p .at + 1)) (next p)
-        Whole (variant (tagAt (p .at + 1)) v) q)
-      Broken
-  nodeOf child list tag p =
-      pick (isRecord (p .at) (valueRecord 16 tag (sizeAt (p .at)) 0))
-      (do
-        (is, q) ← itemsAt child (sizeAt (p .at)) (next p)
-        Whole (repeated is) q)
-      Broken
-  nodeOf child row tag p =
-      pick (isRecord (p .at) (valueRecord 17 tag (sizeAt (p .at)) 0))
-      (do
-        (vs, q) ← valuesAt child (sizeAt (p .at)) (next p)
-        Whole (tuple vs) q)
-      Broken
-  nodeOf child other tag p = Broken
+  -- the value of a record of this kind, and of those below it
+  unfoldable pub nodeOf : (ℕ → Spot → Parsed Value) → Kind → ValueRecord → Spot → Parsed Value
+  nodeOf child (scalar f) r p = scalarAt f r p
+  nodeOf child one r p = do
+    (v, q) ← child (tagAt (p .at + 1)) (next p)
+    Whole (variant (tagAt (p .at + 1)) v) q
+  nodeOf child list r p = do
+    (is, q) ← itemsAt child (r .size) (next p)
+    Whole (repeated is) q
+  nodeOf child row r p = do
+    (vs, q) ← valuesAt child (r .size) (next p)
+    Whole (tuple vs) q
+  nodeOf child other r p = Broken
+
+  -- the record there is that of the value, chosen by `tag`
+  unfoldable pub headed : ℕ → Spot → Parsed Value → Parsed Value
+  headed tag p (Whole v q) = pick (isRecord table (p .at) (headOf v tag (p .from))) (Whole v q) Broken
+  headed tag p Broken = Broken
 
   -- the value whose records begin at a spot, at most so many levels deep
   unfoldable pub valueAt : ℕ → ℕ → Spot → Parsed Value
   valueAt zero tag p = Broken
-  valueAt (suc d) tag p = nodeOf (valueAt d) (kindOf (kindAt (p .at))) tag p
+  valueAt (suc d) tag p = let r = valueRecordAt table (p .at) in headed tag p (nodeOf (valueAt d) (kindOf (r .kind)) r p)
 
   -- the records are exactly one tree, at most 64 deep, and the payload store is exactly filled
   unfoldable pub exactly : Parsed Value → Parsed Value
-  exactly (Whole v q) = pick (eqb (q .at) (records table) and eqb (q .from) (length store)) (Whole v q) Broken
+  exactly (Whole v q) = pick (eqb (q .at) (valueRecordsIn (length table)) and eqb (q .from) (length store)) (Whole v q) Broken
   exactly Broken = Broken
 
   unfoldable pub tableValue : Parsed Value
-  tableValue = pick (eqb (length table % 16) 0) (exactly (valueAt 64 0 (record { at = 0; from = 0 }))) Broken
+  tableValue = pick (wholeValueRecords (length table)) (exactly (valueAt 64 0 (record { at = 0; from = 0 }))) Broken

@@ -79,6 +79,16 @@ pub struct Entry {
     pub count: u64,
 }
 
+// A value record: its kind; a byte that has to be 0; the tag by which the parent chose the node; the child count or the payload's length;
+// the payload's start or a scalar's wire bytes.
+pub struct ValueRecord {
+    pub kind: u8,
+    pub spare: u8,
+    pub tag: u64,
+    pub size: u64,
+    pub content: u64,
+}
+
 // Where a table's schema stands in the record table: first record and record count.
 pub enum Located {
     Block(u64, u64),

@@ -1,9 +1,9 @@
 -- The table of a value is accepted by the rule, with that value. So rule and relation say the same, and a table has one value.
 -- Assumes nothing.
-use Prim.Native.Nat.{ℕ, zero, suc, _+_, _*_, _/_, _%_, _^_, _≤_, _<_}
+use Prim.Native.Nat.{ℕ, zero, suc, _+_, _^_, _≤_, _<_}
 use mathlib.Core.Path.{_≡_, refl, ap, _∙_}
 use mathlib.Core.Bool.{Bool, true, false}
-use mathlib.Core.List.{List}
+use mathlib.Core.List.{List, []}
 use mathlib.Core.Logic.{_↔_}
 use native.Mathlib.Omega.{arith}
 use native.Mathlib.Nat.{pow-le-pow-right, lt-of-lt-of-le}
@@ -12,14 +12,16 @@ use lib.ListN.{length}
 use lib.Dec.{ltb}
 use Rattle.rules.specs.Choice.{pick, _and_}
 use Rattle.rules.specs.Bytes.{Stands}
-use Rattle.rules.specs.Wire.{Form, empty, truth, fixed, raw, sized, form, written, writtenIf, typeOf, typeIn, wireTypes}
-use Rattle.rules.specs.Value.{Value, nothing, boolean, number, wide, blob, variant, repeated, tuple, Items, done, item, Values, none, more, items, values, tallyI, tallyV, tall, tallI, tallV, Fits, FitsI, FitsV, recordsOf, payloadOf}
-use Rattle.rules.specs.ValueTable.{valueRecord, bit, pays, paysI, paysV, flat, flatI, flatV, TableOf, Spot, Parsed, Whole, Broken, _>>=_, kindOf, isRecord, kindAt, tagAt, sizeAt, dataAt, next, scalarAt, itemsAt, valuesAt, nodeOf, valueAt, exactly, tableValue}
-use Rattle.rules.proofs.Stands.{stands-in, stands-left, stands-part, stands-le, stands-self}
-use Rattle.values.proofs.Records.{length-record, is-record, kind-stands, size-stands, data-stands}
-use Rattle.values.proofs.Sizes.{length-pays, length-flat, length-flatI, length-flatV, items-within, values-within}
+use Rattle.rules.specs.Wire.{form, written, writtenIf, typeOf, typeIn, wireTypes}
+use Rattle.rules.specs.Value.{Value, nothing, boolean, number, wide, blob, variant, repeated, tuple, Items, done, item, Values, none, more, items, values, tall, tallI, tallV, Fits, FitsI, FitsV, recordsOf, payloadOf}
+use Rattle.rules.specs.ValueRecord.{valueRecordsIn, valueRecordAt}
+use Rattle.rules.specs.ValueTable.{bit, pays, paysI, paysV, kind, sizeOf, contentOf, headOf, below, belowI, belowV, heads, flat, TableOf, Spot, Parsed, Whole, Broken, _>>=_, kindOf, next, storedAt, scalarAt, tagAt, itemsAt, valuesAt, nodeOf, headed, valueAt, exactly, tableValue}
+use Rattle.rules.specs.declared.ValueRecord.{ValueRecord}
+use Rattle.rules.proofs.Stands.{stands-in, stands-part, stands-self}
+use Rattle.values.proofs.Records.{whole-records, RecordIs, is-record, kind-is, tag-is, size-is, content-is, Shows, shows-in, whole-shows}
+use Rattle.values.proofs.Sizes.{length-pays, length-belowI, length-belowV, length-heads, items-within, values-within}
 use Rattle.values.proofs.Codes.{fixed-code, raw-code, sized-code}
-use Rattle.values.proofs.Span.{Span, left, right, rest-span, lands, lands-next, lands-here, bears}
+use Rattle.values.proofs.Span.{Span, left, right, the-record, rest-span, lands, lands-here}
 use Rattle.values.proofs.Parse.{Reads, ends, is-table}
 
 -- a boolean as a number, and back
@@ -54,140 +56,115 @@ one-tall (repeated is) = omega arith
 one-tall (tuple vs) = omega arith
 
 module _ (table store : List ℕ) where
+  -- the record of a value, and the rest of it
+  the-head : (v : Value) (tag : ℕ) (p q : Spot) → Span table store p q (heads v tag (p .from)) (pays v) → RecordIs table (p .at) (headOf v tag (p .from))
+  unfolding heads
+  the-head v tag p q s = the-record table store (headOf v tag (p .from)) (below v (p .from)) (pays v) s
+
+  the-rest : (v : Value) (tag : ℕ) (p q : Spot) → Span table store p q (heads v tag (p .from)) (pays v) → Span table store (next table store p) q (below v (p .from)) (pays v)
+  unfolding heads
+  the-rest v tag p q s = rest-span table store (headOf v tag (p .from)) (below v (p .from)) (pays v) s
+
   -- a record that stands passes its test
-  stood : (i kind tag n x : ℕ) → Stands table (i * 16) (valueRecord kind tag n x) → isRecord table store i (valueRecord kind tag n x) ≡ true
-  stood i kind tag n x h = is-record table store i (valueRecord kind tag n x) (length-record kind tag n x) .1 h
+  stood : (v : Value) (tag : ℕ) (p q : Spot) → RecordIs table (p .at) (headOf v tag (p .from)) → headed table store tag p (Whole v q) ≡ Whole v q
+  unfolding headed pick
+  stood v tag p q h = rw (is-record table (p .at) (headOf v tag (p .from)) .1 h)
 
-  -- and its fields are read as what they were written for
-  pub size-is : (i kind tag n x : ℕ) → n < 256 ^ 4 → Stands table (i * 16) (valueRecord kind tag n x) → sizeAt table store i ≡ n
-  size-is i kind tag n x l h = stands-le table (i * 16 + 4) 4 n l (size-stands table (i * 16) kind tag n x h)
+  -- a value's record says its kind
+  pub kind-told : (v : Value) (tag : ℕ) (p : Spot) → RecordIs table (p .at) (headOf v tag (p .from)) → valueRecordAt table (p .at) .kind ≡ kind v
+  unfolding headOf
+  kind-told v tag p h = kind-is table (p .at) (headOf v tag (p .from)) h
 
-  data-is : (i kind tag n x : ℕ) → x < 256 ^ 8 → Stands table (i * 16) (valueRecord kind tag n x) → dataAt table store i ≡ x
-  data-is i kind tag n x l h = stands-le table (i * 16 + 8) 8 x l (data-stands table (i * 16) kind tag n x h)
-
-  -- the record of a value says by which tag it was chosen
-  pub tag-is : (v : Value) (i tag p : ℕ) → tag < 256 ^ 2 → Stands table (i * 16) (flat v tag p) → tagAt table store i ≡ tag
-  tag-is v i tag p l h = stands-le table (i * 16 + 2) 2 tag l (bears table store v (i * 16) tag p h)
-
-  -- a scalar's record goes to the rule of its form
-  to-scalar : (child : ℕ → Spot → Parsed Value) (k tag n x : ℕ) (f : Form) (p : Spot) → k < 15 → form k ≡ f → Stands table (p .at * 16) (valueRecord k tag n x) →
-      nodeOf table store child (kindOf (kindAt table store (p .at))) tag p ≡ scalarAt table store f k tag p
-  unfolding nodeOf kindOf pick
-  to-scalar child k tag n x f p l e h = let i = kind-stands table (p .at * 16) k tag n x h in rw (i, lt-ltb k 15 l, e, i)
+  -- payload bytes that stand are read
+  stored-parses : (make : List ℕ → Value) (x : List ℕ) (p q : Spot) → Span table store (next table store p) q [] x → storedAt table store make (length x) p ≡ Whole (make x) q
+  unfolding storedAt pick
+  stored-parses make x p q s =
+      rw (le-leb (p .from + length x) (length store) (stands-in store (p .from) x (s .payload-stands)), stands-part store (p .from) x (s .payload-stands))
+      (answered (make x) (lands table store (length x) x refl s))
 
   module _ (short : length table ≤ 4294967295) where
     -- the counts of a table fit their fields, since each child has a record
-    pub count-fits : (at n c : ℕ) (rows : List ℕ) → Stands table at rows → length rows ≡ 16 * c → n ≤ c → n < 256 ^ 4
-    count-fits at n c rows h e l = omega (arith, stands-in table at rows h)
+    pub count-fits : (i n : ℕ) (rows : List ValueRecord) → Shows table i rows → n ≤ length rows → n < 256 ^ 4
+    count-fits i n rows h l = omega (arith, shows-in table i rows h)
 
     -- how a child is read
     Child : ℕ → (ℕ → Spot → Parsed Value) → Type 0
     Child d child = (v : Value) (tag : ℕ) (p q : Spot) → Reads table store d tag p v q → child tag p ≡ Whole v q
 
+    -- the record of a value says by which tag it was chosen
+    tag-told : (v : Value) (tag : ℕ) (p q : Spot) → tag < 256 ^ 2 → Span table store p q (heads v tag (p .from)) (pays v) → tagAt table store (p .at) ≡ tag
+    unfolding headOf
+    tag-told v tag p q l s = tag-is table (p .at) (headOf v tag (p .from)) (the-head v tag p q s) l
+
     -- items that stand, and children of a tuple that stand, are read
-    items-parse : (d : ℕ) (child : ℕ → Spot → Parsed Value) → Child d child → (is : Items) (p q : Spot) → Span table store p q (flatI is (p .from)) (paysI is) → FitsI is → tallI is ≤ d →
+    items-parse : (d : ℕ) (child : ℕ → Spot → Parsed Value) → Child d child → (is : Items) (p q : Spot) → Span table store p q (belowI is (p .from)) (paysI is) → FitsI is → tallI is ≤ d →
         itemsAt table store child (items is) p ≡ Whole is q
-    unfolding Child itemsAt flatI paysI FitsI tallI items _>>=_
+    unfolding Child itemsAt heads belowI paysI FitsI tallI items _>>=_
     items-parse d child ok done p q s f h = answered done (lands-here table store s)
     items-parse d child ok (item t v is) p q s f h =
-        let a = left table store (flat v t (p .from)) (flatI is (p .from + payloadOf v)) (pays v) (paysI is) (recordsOf v) (payloadOf v) (length-flat v t (p .from)) (length-pays v) s in
-        let b = right table store (flat v t (p .from)) (flatI is (p .from + payloadOf v)) (pays v) (paysI is) (recordsOf v) (payloadOf v) (length-flat v t (p .from)) (length-pays v) s in
-        rw (tag-is v (p .at) t (p .from) (f .0) (a .rows-stand), ok v t p _ (record { span = a; fits = f .1 .0; depth = omega arith }), items-parse d child ok is _ q b (f .1 .1) (omega arith))
+        let a = left table store (heads v t (p .from)) (belowI is (p .from + payloadOf v)) (pays v) (paysI is) (recordsOf v) (payloadOf v) (length-heads v t (p .from)) (length-pays v) s in
+        let b = right table store (heads v t (p .from)) (belowI is (p .from + payloadOf v)) (pays v) (paysI is) (recordsOf v) (payloadOf v) (length-heads v t (p .from)) (length-pays v) s in
+        rw (tag-told v t p _ (f .0) a, ok v t p _ (record { span = a; fits = f .1 .0; depth = omega arith }), items-parse d child ok is _ q b (f .1 .1) (omega arith))
 
-    values-parse : (d : ℕ) (child : ℕ → Spot → Parsed Value) → Child d child → (vs : Values) (p q : Spot) → Span table store p q (flatV vs (p .from)) (paysV vs) → FitsV vs → tallV vs ≤ d →
+    values-parse : (d : ℕ) (child : ℕ → Spot → Parsed Value) → Child d child → (vs : Values) (p q : Spot) → Span table store p q (belowV vs (p .from)) (paysV vs) → FitsV vs → tallV vs ≤ d →
         valuesAt table store child (values vs) p ≡ Whole vs q
-    unfolding Child valuesAt flatV paysV FitsV tallV values _>>=_
+    unfolding Child valuesAt heads belowV paysV FitsV tallV values _>>=_
     values-parse d child ok none p q s f h = answered none (lands-here table store s)
     values-parse d child ok (more v vs) p q s f h =
-        let a = left table store (flat v 0 (p .from)) (flatV vs (p .from + payloadOf v)) (pays v) (paysV vs) (recordsOf v) (payloadOf v) (length-flat v 0 (p .from)) (length-pays v) s in
-        let b = right table store (flat v 0 (p .from)) (flatV vs (p .from + payloadOf v)) (pays v) (paysV vs) (recordsOf v) (payloadOf v) (length-flat v 0 (p .from)) (length-pays v) s in
+        let a = left table store (heads v 0 (p .from)) (belowV vs (p .from + payloadOf v)) (pays v) (paysV vs) (recordsOf v) (payloadOf v) (length-heads v 0 (p .from)) (length-pays v) s in
+        let b = right table store (heads v 0 (p .from)) (belowV vs (p .from + payloadOf v)) (pays v) (paysV vs) (recordsOf v) (payloadOf v) (length-heads v 0 (p .from)) (length-pays v) s in
         rw (ok v 0 p _ (record { span = a; fits = f .0; depth = omega arith }), values-parse d child ok vs _ q b (f .1) (omega arith))
 
     -- so is a node, if its children are
-    node-parses : (d : ℕ) (child : ℕ → Spot → Parsed Value) → Child d child → (v : Value) (tag : ℕ) (p q : Spot) → Reads table store (suc d) tag p v q →
-        nodeOf table store child (kindOf (kindAt table store (p .at))) tag p ≡ Whole v q
-    unfolding Child nodeOf scalarAt flat pays Fits tall pick _and_ _>>=_ kindOf form written writtenIf typeOf typeIn wireTypes
-    node-parses d child ok nothing tag p q a =
-        let h = a .span .rows-stand in
-        to-scalar child 0 tag 0 0 empty p (omega arith) refl h ∙ rw (stood (p .at) 0 tag 0 0 h) (answered nothing (lands-next table store 0 tag 0 0 (a .span)))
-    node-parses d child ok (boolean x) tag p q a =
-        let h = a .span .rows-stand in
-        to-scalar child 1 tag 0 (bit x) truth p (omega arith) refl h
-        ∙ rw (data-is (p .at) 1 tag 0 (bit x) (wider 1 8 (bit x) (omega arith) (omega (arith, bit-small x))) h, lt-ltb (bit x) 2 (bit-small x), stood (p .at) 1 tag 0 (bit x) h, test-bit x)
-        (answered (boolean x) (lands-next table store 1 tag 0 (bit x) (a .span)))
-    node-parses d child ok (number k x) tag p q a =
-        let h = a .span .rows-stand in
-        let w = a .fits .0 in
-        let c = fixed-code k w (a .fits .1 .0) in
-        to-scalar child k tag 0 x (fixed w) p (c .0) (a .fits .1 .0) h
-        ∙ rw (data-is (p .at) k tag 0 x (wider w 8 x (c .1) (a .fits .1 .1)) h, lt-ltb x (256 ^ w) (a .fits .1 .1), stood (p .at) k tag 0 x h)
-        (answered (number k x) (lands-next table store k tag 0 x (a .span)))
-    node-parses d child ok (wide k x) tag p q a =
-        let h = a .span .rows-stand in
-        let y = a .span .payload-stands in
-        to-scalar child k tag (length x) (p .from) (raw (length x)) p (raw-code k (length x) (a .fits)) (a .fits) h
-        ∙ rw (le-leb (p .from + length x) (length store) (stands-in store (p .from) x y), stood (p .at) k tag (length x) (p .from) h, stands-part store (p .from) x y)
-        (answered (wide k x) (lands table store k tag (length x) (p .from) x (a .span)))
-    node-parses d child ok (blob k x) tag p q a =
-        let h = a .span .rows-stand in
-        let y = a .span .payload-stands in
-        to-scalar child k tag (length x) (p .from) sized p (sized-code k (a .fits .0)) (a .fits .0) h
-        ∙ rw (size-is (p .at) k tag (length x) (p .from) (a .fits .1) h, le-leb (p .from + length x) (length store) (stands-in store (p .from) x y), stood (p .at) k tag (length x) (p .from) h, stands-part store (p .from) x y)
-        (answered (blob k x) (lands table store k tag (length x) (p .from) x (a .span)))
-    node-parses d child ok (variant t v) tag p q a =
-        let h = stands-left table (p .at * 16) (valueRecord 15 tag 1 0) (flat v t (p .from)) (a .span .rows-stand) in
-        let b = rest-span table store 15 tag 1 0 (flat v t (p .from)) (pays v) (a .span) in
-        rw (
-          kind-stands table (p .at * 16) 15 tag 1 0 h,
-          stood (p .at) 15 tag 1 0 h,
-          tag-is v (p .at + 1) t (p .from) (a .fits .0) (b .rows-stand),
-          ok v t (next table store p) q (record { span = b; fits = a .fits .1; depth = omega (arith, a .depth) }),
-        )
-    node-parses d child ok (repeated is) tag p q a =
-        let h = stands-left table (p .at * 16) (valueRecord 16 tag (items is) 0) (flatI is (p .from)) (a .span .rows-stand) in
-        let b = rest-span table store 16 tag (items is) 0 (flatI is (p .from)) (paysI is) (a .span) in
-        let n = count-fits _ (items is) (tallyI is 1 0 0) (flatI is (p .from)) (b .rows-stand) (length-flatI is (p .from)) (items-within is) in
-        rw (
-          kind-stands table (p .at * 16) 16 tag (items is) 0 h,
-          size-is (p .at) 16 tag (items is) 0 n h,
-          stood (p .at) 16 tag (items is) 0 h,
-          items-parse d child ok is (next table store p) q b (a .fits) (omega (arith, a .depth)),
-        )
-    node-parses d child ok (tuple vs) tag p q a =
-        let h = stands-left table (p .at * 16) (valueRecord 17 tag (values vs) 0) (flatV vs (p .from)) (a .span .rows-stand) in
-        let b = rest-span table store 17 tag (values vs) 0 (flatV vs (p .from)) (paysV vs) (a .span) in
-        let n = count-fits _ (values vs) (tallyV vs 1 0 0) (flatV vs (p .from)) (b .rows-stand) (length-flatV vs (p .from)) (values-within vs) in
-        rw (
-          kind-stands table (p .at * 16) 17 tag (values vs) 0 h,
-          size-is (p .at) 17 tag (values vs) 0 n h,
-          stood (p .at) 17 tag (values vs) 0 h,
-          values-parse d child ok vs (next table store p) q b (a .fits) (omega (arith, a .depth)),
-        )
+    node-parses : (d : ℕ) (child : ℕ → Spot → Parsed Value) → Child d child → (v : Value) (tag : ℕ) (p q : Spot) → RecordIs table (p .at) (headOf v tag (p .from)) →
+        Span table store (next table store p) q (below v (p .from)) (pays v) → Fits v → tall v ≤ suc d →
+        nodeOf table store child (kindOf (kind v)) (valueRecordAt table (p .at)) p ≡ Whole v q
+    unfolding Child nodeOf scalarAt headOf kind sizeOf contentOf below heads pays Fits tall pick _>>=_ kindOf form written writtenIf typeOf typeIn wireTypes
+    node-parses d child ok nothing tag p q h s f l = answered nothing (lands-here table store s)
+    node-parses d child ok (boolean x) tag p q h s f l =
+        rw (content-is table (p .at) _ h (wider 1 8 (bit x) (omega arith) (omega (arith, bit-small x))), test-bit x)
+        (answered (boolean x) (lands-here table store s))
+    node-parses d child ok (number k x) tag p q h s f l =
+        let c = fixed-code k (f .0) (f .1 .0) in
+        rw (lt-ltb k 15 (c .0), f .1 .0, content-is table (p .at) _ h (wider (f .0) 8 x (c .1) (f .1 .1)), kind-is table (p .at) _ h, lt-ltb x (256 ^ f .0) (f .1 .1))
+        (answered (number k x) (lands-here table store s))
+    node-parses d child ok (wide k x) tag p q h s f l = rw (lt-ltb k 15 (raw-code k (length x) f), f, kind-is table (p .at) _ h) (stored-parses (wide k) x p q s)
+    node-parses d child ok (blob k x) tag p q h s f l = rw (lt-ltb k 15 (sized-code k (f .0)), f .0, kind-is table (p .at) _ h, size-is table (p .at) _ h (f .1)) (stored-parses (blob k) x p q s)
+    node-parses d child ok (variant t v) tag p q h s f l =
+        rw (tag-told v t (next table store p) q (f .0) s, ok v t (next table store p) q (record { span = s; fits = f .1; depth = omega arith }))
+    node-parses d child ok (repeated is) tag p q h s f l =
+        let n = count-fits _ (items is) (belowI is (p .from)) (s .rows-stand) (rw (length-belowI is (p .from)) (items-within is)) in
+        rw (size-is table (p .at) _ h n, items-parse d child ok is (next table store p) q s f (omega arith))
+    node-parses d child ok (tuple vs) tag p q h s f l =
+        let n = count-fits _ (values vs) (belowV vs (p .from)) (s .rows-stand) (rw (length-belowV vs (p .from)) (values-within vs)) in
+        rw (size-is table (p .at) _ h n, values-parse d child ok vs (next table store p) q s f (omega arith))
 
     -- a value whose records and payload stand from a spot on is read there
     pub parses : (d : ℕ) (v : Value) (tag : ℕ) (p q : Spot) → Reads table store d tag p v q → valueAt table store d tag p ≡ Whole v q
     unfolding valueAt Child
     parses zero v tag p q a = absurd (omega (arith, one-tall v, a .depth))
-    parses (suc d) v tag p q a = node-parses d (valueAt table store d) (parses d) v tag p q a
+    parses (suc d) v tag p q a =
+        let h = the-head v tag p q (a .span) in
+        ap (λ (k : ℕ). headed table store tag p (nodeOf table store (valueAt table store d) (kindOf k) (valueRecordAt table (p .at)) p)) (kind-told v tag p h)
+        ∙ ap (headed table store tag p) (node-parses d (valueAt table store d) (parses d) v tag p q h (the-rest v tag p q (a .span)) (a .fits) (a .depth))
+        ∙ stood v tag p q h
 
 -- The table of a value is accepted, with that value.
 pub accepted : (r y : List ℕ) (v : Value) → length r ≤ 4294967295 → TableOf v r y → tableValue r y ≡ Whole v (ends r y)
-unfolding tableValue exactly pick _and_
+unfolding tableValue exactly flat pick _and_
 accepted r y v short t =
-    let l : length r ≡ 16 * recordsOf v = ap length (t .rows) ∙ length-flat v 0 0 in
-    let m : length r % 16 ≡ 0 = omega arith in
-    let a : Stands r 0 (flat v 0 0) = rw (← (t .rows)) (stands-self r) in
+    let a = whole-shows r (heads v 0 0) .0 (t .rows) in
     let b : Stands y 0 (pays v) = rw (← (t .payload)) (stands-self y) in
-    let s : Span r y (record { at = 0; from = 0 }) (ends r y) (flat v 0 0) (pays v) = record {
-      rows-stand = a;
+    let s : Span r y (record { at = 0; from = 0 }) (ends r y) (heads v 0 0) (pays v) = record {
+      rows-stand = a .0;
       payload-stands = b;
-      at-end = rw (length-flat v 0 0) (omega arith);
+      at-end = omega (arith, a .1);
       from-end = ap length (t .payload) ∙ omega arith;
     } in
     rw (
-      eq-eqb (length r % 16) 0 m,
+      whole-records (length r) .1 (omega (arith, a .1)),
       parses r y short 64 v 0 (record { at = 0; from = 0 }) (ends r y) (record { span = s; fits = t .fits; depth = t .depth }),
-      eq-eqb (length r / 16) (length r / 16) refl,
+      eq-eqb (valueRecordsIn (length r)) (valueRecordsIn (length r)) refl,
       eq-eqb (length y) (length y) refl,
     )
 

@@ -1,22 +1,23 @@
 -- What the refusals of writing say: where the walk met a value that its schema node does not take, and why not.
 -- Assumes nothing.
-use Prim.Native.Nat.{ℕ, _+_, _*_, _^_, _≤_, _<_}
+use Prim.Native.Nat.{ℕ, _+_, _^_, _≤_, _<_}
 use mathlib.Core.Path.{_≡_, refl}
 use mathlib.Core.List.{List}
 use borrow.Author.Tests.{leb-false, eqb-true, eqb-false}
 use lib.ListN.{length}
-use Rattle.rules.specs.Block.{nodeAt, records}
-use Rattle.rules.specs.Value.{Value, nothing, boolean, number, wide, blob, variant, repeated, tuple, Items, done, item, Values, none, more, values, recordsOf, tallyV, Fits}
-use Rattle.rules.specs.ValueTable.{TableOf, kindAt, tagAt, sizeAt, valueRecord, flat, flatV}
+use Rattle.rules.specs.Block.{nodeAt}
+use Rattle.rules.specs.Value.{Value, nothing, boolean, number, wide, blob, variant, repeated, tuple, Items, done, item, Values, none, more, values, recordsOf, Fits}
+use Rattle.rules.specs.ValueRecord.{valueRecordsIn, valueRecordAt}
+use Rattle.rules.specs.ValueTable.{TableOf, kind, sizeOf, headOf, below, belowV, heads, flat}
 use Rattle.rules.specs.Walk.{Limits, blobLimit}
 use Rattle.rules.specs.Writing.{Refused, write, writeI, writeV, writeRow}
 use Rattle.rules.specs.declared.Refusal.{Refusal}
 use Rattle.rules.specs.declared.Refusal.the-variants.{BlobTooLarge, ValueDoesNotMatchSchema, TupleLength, InvalidVariantTag}
-use Rattle.rules.proofs.Stands.{stands-left, stands-self}
 use Rattle.rules.proofs.Tests.{either}
-use Rattle.values.proofs.Sizes.{length-flatV, values-within}
-use Rattle.values.proofs.Flat.{size-is, tag-is, count-fits}
-use Rattle.values.proofs.Meets.{kind, Has, first, later, HasV, firstV, laterV, Met, itself, in-variant, in-repeated, in-tuple, Kept, has-fits, has-kept, variant-kept, repeated-kept, tuple-kept, met-fits, met-kept, kept-in, kept-kind}
+use Rattle.values.proofs.Records.{tag-is, size-is, whole-shows}
+use Rattle.values.proofs.Sizes.{length-belowV, values-within}
+use Rattle.values.proofs.Flat.{count-fits}
+use Rattle.values.proofs.Meets.{Has, first, later, HasV, firstV, laterV, Met, itself, in-variant, in-repeated, in-tuple, Kept, has-fits, has-kept, variant-kept, kept-head, kept-below, met-fits, met-kept, kept-in, kept-kind}
 use Rattle.values.proofs.Says.{Any, Says, puts, refuses, then, refused, takes, fits, tags}
 
 -- why a value is not written at node i₀, its record being r₀
@@ -87,47 +88,52 @@ honest-row sch lim v x e = refused (rw e at all)
 pub data Blames (table store : List ℕ) : Refusal → Type 0 where
   -- 14: that record's kind and payload length
   blames-blob : {k len limit n : ℕ} →
-      n < records table → kindAt table store n ≡ k → sizeAt table store n ≡ len → limit < len →
+      n < valueRecordsIn (length table) → valueRecordAt table n .kind ≡ k → valueRecordAt table n .size ≡ len → limit < len →
       Blames table store (BlobTooLarge k len limit n)
   -- 15: its kind
   blames-kind : {code k n : ℕ} →
-      n < records table → kindAt table store n ≡ k →
+      n < valueRecordsIn (length table) → valueRecordAt table n .kind ≡ k →
       Blames table store (ValueDoesNotMatchSchema code k n)
   -- 16: its child count
   blames-tuple : {expected actual n : ℕ} →
-      n < records table → kindAt table store n ≡ 17 → sizeAt table store n ≡ actual → (actual ≡ expected → ⊥) →
+      n < valueRecordsIn (length table) → valueRecordAt table n .kind ≡ 17 → valueRecordAt table n .size ≡ actual → (actual ≡ expected → ⊥) →
       Blames table store (TupleLength expected actual n)
   -- 17: the tag that it bears
   blames-tag : {code t children n : ℕ} →
-      n < records table → tagAt table store n ≡ t → children ≤ t →
+      n < valueRecordsIn (length table) → valueRecordAt table n .tag ≡ t → children ≤ t →
       Blames table store (InvalidVariantTag code t children n)
 
 module _ (sch : List ℕ) (lim : Limits) (table store : List ℕ) (whole : Value) (i₀ : ℕ) (short : length table ≤ 4294967295) (is-table : TableOf whole table store) where
   from-start : Kept table whole 0 0
-  from-start = record { before = 0; stands = rw (← (is-table .rows)) (stands-self table) }
+  from-start = record { before = 0; stands = unfold flat in whole-shows table (heads whole 0 0) .0 (is-table .rows) .0 }
 
   tag-blamed : (code t children n : ℕ) (v : Value) → children ≤ t → t < 256 ^ 2 → Kept table v t n → Blames table store (InvalidVariantTag code t children n)
-  tag-blamed code t children n v l f k = blames-tag (kept-in table k) (tag-is table store v n t (k .before) f (k .stands)) l
+  unfolding headOf
+  tag-blamed code t children n v l f k = blames-tag (kept-in table v t n k) (tag-is table n (headOf v t (k .before)) (kept-head table v t n k) f) l
+
+  size-told : (v : Value) (tag n : ℕ) → sizeOf v < 256 ^ 4 → Kept table v tag n → valueRecordAt table n .size ≡ sizeOf v
+  unfolding headOf
+  size-told v tag n f k = size-is table n (headOf v tag (k .before)) (kept-head table v tag n k) f
 
   reason-blames : {x : Refusal} → Reason sch lim whole i₀ 0 x → Blames table store x
-  unfolding flat Fits kind
+  unfolding below Fits kind sizeOf
   reason-blames (too-large {k = k} {n = n} {x = x} m q l) =
       let h = met-kept table sch from-start m in
-      blames-blob (kept-in table (h .1)) (kept-kind table (blob k x) (h .0) n (h .1)) (size-is table store n k (h .0) (length x) (h .1 .before) (met-fits sch whole i₀ 0 (is-table .fits) m .1) (h .1 .stands)) l
+      blames-blob (kept-in table (blob k x) (h .0) n (h .1)) (kept-kind table (blob k x) (h .0) n (h .1)) (size-told (blob k x) (h .0) n (met-fits sch whole i₀ 0 (is-table .fits) m .1) (h .1)) l
   reason-blames (mismatch {n = n} {v = v} m q) =
       let h = met-kept table sch from-start m in
-      blames-kind (kept-in table (h .1)) (kept-kind table v (h .0) n (h .1))
+      blames-kind (kept-in table v (h .0) n (h .1)) (kept-kind table v (h .0) n (h .1))
   reason-blames (wrong-length {n = n} {vs = vs} m q l) =
       let h = met-kept table sch from-start m in
-      let s = stands-left table (n * 16) (valueRecord 17 (h .0) (values vs) 0) (flatV vs (h .1 .before)) (h .1 .stands) in
-      let c = count-fits table store short ((n + 1) * 16) (values vs) (tallyV vs 1 0 0) (flatV vs (h .1 .before)) (tuple-kept table (h .0) n vs (h .1)) (length-flatV vs (h .1 .before)) (values-within vs) in
-      blames-tuple (kept-in table (h .1)) (kept-kind table (tuple vs) (h .0) n (h .1)) (size-is table store n 17 (h .0) (values vs) 0 c s) l
+      let b = h .1 .before in
+      let c = count-fits table store short (n + 1) (values vs) (belowV vs b) (kept-below table (tuple vs) (h .0) n (h .1)) (rw (length-belowV vs b) (values-within vs)) in
+      blames-tuple (kept-in table (tuple vs) (h .0) n (h .1)) (kept-kind table (tuple vs) (h .0) n (h .1)) (size-told (tuple vs) (h .0) n c (h .1)) l
   reason-blames (stray {t = t} {j = j} {n = n} {v = v} m q l) =
       let h = met-kept table sch from-start m in
       tag-blamed (nodeAt sch j .code) t (nodeAt sch j .children) (n + 1) v l (met-fits sch whole i₀ 0 (is-table .fits) m .0) (variant-kept table t (h .0) n (n + 1) v refl (h .1))
   reason-blames (stray-item {t = t} {j = j} {n = n} {m = i} {is = is} {v = v} m q g l) =
       let h = met-kept table sch from-start m in
-      tag-blamed (nodeAt sch j .code) t (nodeAt sch j .children) i v l (has-fits g (met-fits sch whole i₀ 0 (is-table .fits) m) .0) (has-kept table g (h .1 .before) (repeated-kept table (h .0) n is (h .1)))
+      tag-blamed (nodeAt sch j .code) t (nodeAt sch j .children) i v l (has-fits g (met-fits sch whole i₀ 0 (is-table .fits) m) .0) (has-kept table g (h .1 .before) (kept-below table (repeated is) (h .0) n (h .1)))
 
 -- The place of a refusal is a record of the value table, and what the refusal carries of the value is what that record says.
 pub blames : (sch : List ℕ) (lim : Limits) (table store : List ℕ) (v : Value) (x : Refusal) → length table ≤ 4294967295 → TableOf v table store → writeRow sch lim v ≡ Refused x → Blames table store x

@@ -1,28 +1,17 @@
 -- What the writing walk meets: values at schema nodes, with their records. They lie in the block, and in the value's table.
 -- Assumes nothing.
-use Prim.Native.Nat.{ℕ, _+_, _*_, _^_, _<_}
-use mathlib.Core.Path.{_≡_, refl}
+use Prim.Native.Nat.{ℕ, _+_, _^_, _<_}
+use mathlib.Core.Path.{_≡_}
 use mathlib.Core.List.{List, _++_}
 use native.Mathlib.Omega.{arith}
-use lib.ListN.{length, getD}
-use Rattle.rules.specs.Bytes.{Stands}
-use Rattle.rules.specs.Block.{nodeAt, records}
-use Rattle.rules.specs.Value.{Value, nothing, boolean, number, wide, blob, variant, repeated, tuple, Items, item, Values, more, items, values, recordsOf, payloadOf, Fits, FitsI, FitsV}
-use Rattle.rules.specs.ValueTable.{valueRecord, bit, flat, flatI, flatV}
-use Rattle.rules.proofs.Stands.{stands-in, stands-left, stands-right}
-use Rattle.values.proofs.Records.{length-record, kind-stands}
-use Rattle.values.proofs.Sizes.{length-flat, one-record}
-
--- the kind of a value's record
-unfoldable pub kind : Value → ℕ
-kind nothing = 0
-kind (boolean x) = 1
-kind (number k x) = k
-kind (wide k x) = k
-kind (blob k x) = k
-kind (variant t v) = 15
-kind (repeated is) = 16
-kind (tuple vs) = 17
+use lib.ListN.{length}
+use Rattle.rules.specs.Block.{nodeAt}
+use Rattle.rules.specs.Value.{Value, variant, repeated, tuple, Items, item, Values, more, values, recordsOf, payloadOf, Fits, FitsI, FitsV}
+use Rattle.rules.specs.ValueRecord.{valueRecordsIn, valueRecordAt}
+use Rattle.rules.specs.ValueTable.{kind, headOf, below, belowI, belowV, heads}
+use Rattle.rules.specs.declared.ValueRecord.{ValueRecord}
+use Rattle.values.proofs.Records.{RecordIs, record-in, kind-is, Shows, shows-left, shows-right}
+use Rattle.values.proofs.Sizes.{length-heads}
 
 -- among items whose first record is r, one is v, chosen by tag t; its record is n
 pub data Has : Items → ℕ → ℕ → Value → ℕ → Type 0 where
@@ -80,62 +69,53 @@ module _ (sch : List ℕ) (whole : Value) (i₀ r₀ : ℕ) where
 -- the record of v is number n of the table
 pub record Kept (table : List ℕ) (v : Value) (tag n : ℕ) : Type 0 where
   pub before : ℕ
-  pub stands : Stands table (n * 16) (flat v tag before)
+  pub stands : Shows table n (heads v tag before)
 
 module _ (table : List ℕ) where
   -- what follows c records
-  follows : (n m c : ℕ) (a b : List ℕ) → length a ≡ 16 * c → m ≡ n + c → Stands table (n * 16) (a ++ b) → Stands table (m * 16) b
-  follows n m c a b l e h =
-      let f : n * 16 + length a ≡ m * 16 = rw l (omega arith) in
-      rw f at (stands-right table (n * 16) a b h)
+  follows : (n c : ℕ) (a b : List ValueRecord) → length a ≡ c → Shows table n (a ++ b) → Shows table (n + c) b
+  follows n c a b l h = rw l at (shows-right table n a b h)
 
   -- an item has its records among those of all items
-  pub has-kept : {is : Items} {v : Value} {r t n : ℕ} → Has is r t v n → (p : ℕ) → Stands table (r * 16) (flatI is p) → Kept table v t n
-  unfolding flatI
-  has-kept (first {r = r} {t = t} {v = v} {is = is}) p h = record { before = p; stands = stands-left table (r * 16) (flat v t p) (flatI is (p + payloadOf v)) h }
+  pub has-kept : {is : Items} {v : Value} {r t n : ℕ} → Has is r t v n → (p : ℕ) → Shows table r (belowI is p) → Kept table v t n
+  unfolding belowI heads
+  has-kept (first {r = r} {t = t} {v = v} {is = is}) p h = record { before = p; stands = shows-left table r (heads v t p) (belowI is (p + payloadOf v)) h }
   has-kept (later {r = r} {t = t} {v = v} {is = is} g) p h =
-      has-kept g (p + payloadOf v) (follows r (r + recordsOf v) (recordsOf v) (flat v t p) (flatI is (p + payloadOf v)) (length-flat v t p) refl h)
+      has-kept g (p + payloadOf v) (follows r (recordsOf v) (heads v t p) (belowI is (p + payloadOf v)) (length-heads v t p) h)
 
-  hasV-kept : {vs : Values} {v : Value} {j r k n : ℕ} → HasV vs j r v k n → (p : ℕ) → Stands table (r * 16) (flatV vs p) → Kept table v 0 n
-  unfolding flatV
-  hasV-kept (firstV {r = r} {v = v} {vs = vs}) p h = record { before = p; stands = stands-left table (r * 16) (flat v 0 p) (flatV vs (p + payloadOf v)) h }
+  hasV-kept : {vs : Values} {v : Value} {j r k n : ℕ} → HasV vs j r v k n → (p : ℕ) → Shows table r (belowV vs p) → Kept table v 0 n
+  unfolding belowV heads
+  hasV-kept (firstV {r = r} {v = v} {vs = vs}) p h = record { before = p; stands = shows-left table r (heads v 0 p) (belowV vs (p + payloadOf v)) h }
   hasV-kept (laterV {r = r} {v = v} {vs = vs} g) p h =
-      hasV-kept g (p + payloadOf v) (follows r (r + recordsOf v) (recordsOf v) (flat v 0 p) (flatV vs (p + payloadOf v)) (length-flat v 0 p) refl h)
+      hasV-kept g (p + payloadOf v) (follows r (recordsOf v) (heads v 0 p) (belowV vs (p + payloadOf v)) (length-heads v 0 p) h)
+
+  -- a value that is kept has its record there, and after it those below
+  pub kept-head : (v : Value) (tag n : ℕ) (k : Kept table v tag n) → RecordIs table n (headOf v tag (k .before))
+  unfolding heads Shows
+  kept-head v tag n k = k .stands .0
+
+  pub kept-below : (v : Value) (tag n : ℕ) (k : Kept table v tag n) → Shows table (n + 1) (below v (k .before))
+  unfolding heads Shows
+  kept-below v tag n k = k .stands .1
 
   -- the child of a variant begins with the record after its own
   pub variant-kept : (t tag n m : ℕ) (v : Value) → m ≡ n + 1 → Kept table (variant t v) tag n → Kept table v t m
-  unfolding flat
-  variant-kept t tag n m v e k = record { before = k .before; stands = follows n m 1 (valueRecord 15 tag 1 0) (flat v t (k .before)) (length-record 15 tag 1 0) e (k .stands) }
-
-  -- the items of a repeated node begin with the record after its own
-  pub repeated-kept : (tag n : ℕ) (is : Items) (k : Kept table (repeated is) tag n) → Stands table ((n + 1) * 16) (flatI is (k .before))
-  unfolding flat
-  repeated-kept tag n is k = follows n (n + 1) 1 (valueRecord 16 tag (items is) 0) (flatI is (k .before)) (length-record 16 tag (items is) 0) refl (k .stands)
-
-  -- so do the children of a tuple
-  pub tuple-kept : (tag n : ℕ) (vs : Values) (k : Kept table (tuple vs) tag n) → Stands table ((n + 1) * 16) (flatV vs (k .before))
-  unfolding flat
-  tuple-kept tag n vs k = follows n (n + 1) 1 (valueRecord 17 tag (values vs) 0) (flatV vs (k .before)) (length-record 17 tag (values vs) 0) refl (k .stands)
+  unfolding below heads
+  variant-kept t tag n m v e k = record { before = k .before; stands = rw e (kept-below (variant t v) tag n k) }
 
   -- Each value that the walk meets has its records in the table, from the number on that the walk has for it.
   pub met-kept : (sch : List ℕ) {whole v : Value} {i₀ r₀ tag j n : ℕ} → Kept table whole tag r₀ → Met sch whole i₀ r₀ v j n → (t : ℕ) × Kept table v t n
+  unfolding below
   met-kept sch {tag = tag} k itself = (tag, k)
   met-kept sch k (in-variant {r = r} {t = t} {n = n} {v = v} m l e f) = let h = met-kept sch k m in (t, variant-kept t (h .0) r n v f (h .1))
-  met-kept sch k (in-repeated {r = r} {t = t} {is = is} m g l e) = let h = met-kept sch k m in (t, has-kept g (h .1 .before) (repeated-kept (h .0) r is (h .1)))
-  met-kept sch k (in-tuple {r = r} {vs = vs} m g e) = let h = met-kept sch k m in (0, hasV-kept g (h .1 .before) (tuple-kept (h .0) r vs (h .1)))
+  met-kept sch k (in-repeated {r = r} {t = t} {is = is} m g l e) = let h = met-kept sch k m in (t, has-kept g (h .1 .before) (kept-below (repeated is) (h .0) r (h .1)))
+  met-kept sch k (in-tuple {r = r} {vs = vs} m g e) = let h = met-kept sch k m in (0, hasV-kept g (h .1 .before) (kept-below (tuple vs) (h .0) r (h .1)))
 
   -- a value that is kept has a record in the table
-  pub kept-in : {v : Value} {tag n : ℕ} → Kept table v tag n → n < records table
-  kept-in {v} {tag} {n} k = omega (arith, stands-in table (n * 16) (flat v tag (k .before)) (k .stands), length-flat v tag (k .before), one-record v)
+  pub kept-in : (v : Value) (tag n : ℕ) → Kept table v tag n → n < valueRecordsIn (length table)
+  kept-in v tag n k = omega (arith, record-in table n (headOf v tag (k .before)) (kept-head v tag n k))
 
   -- and that record says its kind
-  pub kept-kind : (v : Value) (tag n : ℕ) → Kept table v tag n → getD table (n * 16) 0 ≡ kind v
-  unfolding flat kind
-  kept-kind nothing tag n k = kind-stands table (n * 16) 0 tag 0 0 (k .stands)
-  kept-kind (boolean x) tag n k = kind-stands table (n * 16) 1 tag 0 (bit x) (k .stands)
-  kept-kind (number c x) tag n k = kind-stands table (n * 16) c tag 0 x (k .stands)
-  kept-kind (wide c x) tag n k = kind-stands table (n * 16) c tag (length x) (k .before) (k .stands)
-  kept-kind (blob c x) tag n k = kind-stands table (n * 16) c tag (length x) (k .before) (k .stands)
-  kept-kind (variant t v) tag n k = kind-stands table (n * 16) 15 tag 1 0 (stands-left table (n * 16) (valueRecord 15 tag 1 0) (flat v t (k .before)) (k .stands))
-  kept-kind (repeated is) tag n k = kind-stands table (n * 16) 16 tag (items is) 0 (stands-left table (n * 16) (valueRecord 16 tag (items is) 0) (flatI is (k .before)) (k .stands))
-  kept-kind (tuple vs) tag n k = kind-stands table (n * 16) 17 tag (values vs) 0 (stands-left table (n * 16) (valueRecord 17 tag (values vs) 0) (flatV vs (k .before)) (k .stands))
+  pub kept-kind : (v : Value) (tag n : ℕ) → Kept table v tag n → valueRecordAt table n .kind ≡ kind v
+  unfolding headOf
+  kept-kind v tag n k = kind-is table n (headOf v tag (k .before)) (kept-head v tag n k)

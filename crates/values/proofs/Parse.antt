@@ -1,6 +1,6 @@
 -- What the rule of value tables accepts is the table of the value that it answers.
 -- Assumes nothing.
-use Prim.Native.Nat.{ℕ, zero, suc, _+_, _*_, _%_, _^_, _≤_, _<_}
+use Prim.Native.Nat.{ℕ, zero, suc, _+_, _^_, _≤_, _<_}
 use mathlib.Core.Path.{_≡_, refl, sym, ap, _∙_}
 use mathlib.Core.Bool.{Bool, true, false}
 use mathlib.Core.List.{List, []}
@@ -9,17 +9,17 @@ use borrow.Author.Tests.{ltb-true, leb-true, eqb-true}
 use lib.ListN.{length}
 use lib.Dec.{ltb, eqb}
 use Rattle.rules.specs.Choice.{pick}
-use Rattle.rules.specs.Bytes.{Stands, part}
+use Rattle.rules.specs.Bytes.{part}
 use Rattle.rules.specs.Wire.{Form, empty, truth, fixed, raw, sized, choice, series, fields, unknown, form}
-use Rattle.rules.specs.Block.{records}
-use Rattle.rules.specs.Value.{Value, variant, repeated, tuple, Items, done, Values, none, more, items, values, tall, tallI, tallV, Fits, FitsI, FitsV, payloadOf}
-use Rattle.rules.specs.ValueTable.{valueRecord, bit, pays, paysI, paysV, flat, flatI, flatV, TableOf, Spot, Parsed, Whole, Broken, _>>=_, Kind, scalar, one, list, row, other, kindOf, isRecord, kindAt, tagAt, sizeAt, dataAt, next, scalarAt, itemsAt, valuesAt, nodeOf, valueAt, exactly, tableValue}
+use Rattle.rules.specs.Value.{Value, nothing, boolean, number, wide, blob, variant, repeated, tuple, Items, done, item, Values, none, more, tall, tallI, tallV, Fits, FitsI, FitsV, payloadOf}
+use Rattle.rules.specs.ValueRecord.{valueRecordsIn, wholeValueRecords, valueRecordAt}
+use Rattle.rules.specs.ValueTable.{pays, paysI, paysV, headOf, below, belowI, belowV, heads, flat, TableOf, Spot, Parsed, Whole, Broken, _>>=_, Kind, scalar, one, list, row, other, kindOf, next, storedAt, scalarAt, tagAt, itemsAt, valuesAt, nodeOf, headed, valueAt, exactly, tableValue}
+use Rattle.rules.specs.declared.ValueRecord.{ValueRecord}
 use Rattle.rules.proofs.Tests.{and-both}
-use Rattle.rules.proofs.Stands.{length-part, part-stands, stands-fits, stands-whole}
-use Rattle.values.proofs.Records.{length-record, is-record, size-stands}
+use Rattle.rules.proofs.Stands.{length-part, part-stands, stands-whole}
+use Rattle.values.proofs.Records.{whole-records, RecordIs, is-record, tag-fits, size-fits, whole-shows}
 use Rattle.values.proofs.Sizes.{length-pays}
-use Rattle.values.proofs.Codes.{empty-code, truth-code}
-use Rattle.values.proofs.Span.{Span, Inside, join, no-span, record-span, alone-span, span-in, bears}
+use Rattle.values.proofs.Span.{Span, join, record-and, the-record, payload-span, no-span, span-in}
 
 -- what is answered has the property
 pub data Holds {A : Type 0} (P : A → Spot → Type 0) : Parsed A → Type 0 where
@@ -48,169 +48,146 @@ kinds P k a b c d e = by (ltb k 15) a (by (eqb k 15) b (by (eqb k 16) c (by (eqb
     by true u w = unfold pick in u
     by false u w = unfold pick in w
 
-bit-test : (x : ℕ) → x < 2 → bit (ltb 0 x) ≡ x
-unfolding bit
-bit-test zero h = refl
-bit-test (suc zero) h = refl
-bit-test (suc (suc x)) h = absurd (omega arith)
-
 module _ (table store : List ℕ) where
   -- from p to q stand the records and the payload of v, chosen by `tag`, at most d deep
   pub record Reads (d tag : ℕ) (p : Spot) (v : Value) (q : Spot) : Type 0 where
-    pub span : Span table store p q (flat v tag (p .from)) (pays v)
+    pub span : Span table store p q (heads v tag (p .from)) (pays v)
     pub fits : Fits v
     pub depth : tall v ≤ d
 
-  -- from p to q stand the records and the payload of n items
-  pub record ReadsI (d n : ℕ) (p : Spot) (is : Items) (q : Spot) : Type 0 where
-    pub span : Span table store p q (flatI is (p .from)) (paysI is)
+  -- from p to q stand the records and the payload of items
+  pub record ReadsI (d : ℕ) (p : Spot) (is : Items) (q : Spot) : Type 0 where
+    pub span : Span table store p q (belowI is (p .from)) (paysI is)
     pub fits : FitsI is
     pub depth : tallI is ≤ d
-    pub count : items is ≡ n
 
-  -- from p to q stand the records and the payload of n children of a tuple
-  pub record ReadsV (d n : ℕ) (p : Spot) (vs : Values) (q : Spot) : Type 0 where
-    pub span : Span table store p q (flatV vs (p .from)) (paysV vs)
+  -- from p to q stand the records and the payload of children of a tuple
+  pub record ReadsV (d : ℕ) (p : Spot) (vs : Values) (q : Spot) : Type 0 where
+    pub span : Span table store p q (belowV vs (p .from)) (paysV vs)
     pub fits : FitsV vs
     pub depth : tallV vs ≤ d
-    pub count : values vs ≡ n
 
-  -- the record that a test found
-  found : (i kind tag n x : ℕ) → isRecord table store i (valueRecord kind tag n x) ≡ true → Stands table (i * 16) (valueRecord kind tag n x)
-  found i kind tag n x e = is-record table store i (valueRecord kind tag n x) (length-record kind tag n x) .0 e
+  -- all of v but its own record stands after p; if the record at p is one, it holds what v needs
+  record Below (d : ℕ) (p : Spot) (v : Value) (q : Spot) : Type 0 where
+    span : Span table store (next table store p) q (below v (p .from)) (pays v)
+    fits : (r : ValueRecord) → RecordIs table (p .at) r → Fits v
+    depth : tall v ≤ d
 
-  scalar-reads : (f : Form) (k d tag : ℕ) (p : Spot) → form k ≡ f → Inside table store p → Holds (Reads (suc d) tag p) (scalarAt table store f k tag p)
-  unfolding scalarAt flat pays Fits tall
-  scalar-reads empty k d tag p e l = when _ (λ t.
-      let s : Stands table (p .at * 16) (valueRecord 0 tag 0 0) = rw (empty-code k e) at (found (p .at) k tag 0 0 t) in
-      holds (record { span = alone-span table store p 0 tag 0 0 (l .payload-in) s; fits = tt; depth = omega arith }))
-  scalar-reads truth k d tag p e l = when _ (λ t.
-      let x = dataAt table store (p .at) in
-      let b = and-both _ _ t in
-      let s : Stands table (p .at * 16) (valueRecord 1 tag 0 x) = rw (truth-code k e) at (found (p .at) k tag 0 x (b .1)) in
-      let u : Stands table (p .at * 16) (valueRecord 1 tag 0 (bit (ltb 0 x))) = rw (bit-test x (ltb-true x 2 (b .0))) s in
-      holds (record { span = alone-span table store p 1 tag 0 (bit (ltb 0 x)) (l .payload-in) u; fits = tt; depth = omega arith }))
-  scalar-reads (fixed w) k d tag p e l = when _ (λ t.
-      let x = dataAt table store (p .at) in
-      let b = and-both _ _ t in
-      holds (record { span = alone-span table store p k tag 0 x (l .payload-in) (found (p .at) k tag 0 x (b .1)); fits = (w, (e, ltb-true x (256 ^ w) (b .0))); depth = omega arith }))
-  scalar-reads (raw w) k d tag p e l = when _ (λ t.
-      let x = part store (p .from) w in
-      let n : length x ≡ w = length-part store (p .from) w in
-      let b = and-both _ _ t in
-      let s = record-span table store p k tag w (p .from) x (found (p .at) k tag w (p .from) (b .1)) (part-stands store (p .from) w (leb-true _ _ (b .0))) in
-      holds (record { span = rw n (rw n at s); fits = e ∙ ap raw (sym n); depth = omega arith }))
-  scalar-reads sized k d tag p e l = when _ (λ t.
-      let w = sizeAt table store (p .at) in
-      let x = part store (p .from) w in
-      let n : length x ≡ w = length-part store (p .from) w in
-      let b = and-both _ _ t in
-      let r = found (p .at) k tag w (p .from) (b .1) in
-      let s = record-span table store p k tag w (p .from) x r (part-stands store (p .from) w (leb-true _ _ (b .0))) in
-      holds (record { span = rw n (rw n at s); fits = (e, rw n (stands-fits table (p .at * 16 + 4) 4 w (size-stands table (p .at * 16) k tag w (p .from) r))); depth = omega arith }))
-  scalar-reads (choice w) k d tag p e l = fails
-  scalar-reads (series w) k d tag p e l = fails
-  scalar-reads fields k d tag p e l = fails
-  scalar-reads unknown k d tag p e l = fails
+  -- n payload bytes that are taken out of the store stand there
+  stored-reads : (make : List ℕ → Value) (n d : ℕ) (p : Spot) →
+      ((x : List ℕ) → length x ≡ n → (below (make x) (p .from) ≡ []) × ((pays (make x) ≡ x) × ((tall (make x) ≤ d) × ((r : ValueRecord) → RecordIs table (p .at) r → Fits (make x))))) →
+      Holds (Below d p) (storedAt table store make n p)
+  unfolding storedAt
+  stored-reads make n d p is = when _ (λ t.
+      let x = part store (p .from) n in
+      let e : length x ≡ n = length-part store (p .from) n in
+      let m = is x e in
+      holds (record {
+        span = rw (m .0, m .1 .0) (payload-span table store (next table store p) n x e (part-stands store (p .from) n (leb-true _ _ t)));
+        fits = m .1 .1 .1;
+        depth = m .1 .1 .0;
+      }))
+
+  scalar-reads : (f : Form) (d : ℕ) (p : Spot) → form (valueRecordAt table (p .at) .kind) ≡ f → p .from ≤ length store → Holds (Below (suc d) p) (scalarAt table store f (valueRecordAt table (p .at)) p)
+  unfolding scalarAt below pays Fits tall
+  scalar-reads empty d p e l = holds {a = nothing} (record { span = no-span table store (next table store p) l; fits = λ r h. tt; depth = omega arith })
+  scalar-reads truth d p e l = holds {a = boolean (ltb 0 (valueRecordAt table (p .at) .content))} (record { span = no-span table store (next table store p) l; fits = λ r h. tt; depth = omega arith })
+  scalar-reads (fixed w) d p e l = when _ (λ t.
+      let x = valueRecordAt table (p .at) .content in
+      holds {a = number (valueRecordAt table (p .at) .kind) x} (record { span = no-span table store (next table store p) l; fits = λ r h. (w, (e, ltb-true x (256 ^ w) t)); depth = omega arith }))
+  scalar-reads (raw w) d p e l = stored-reads (wide (valueRecordAt table (p .at) .kind)) w (suc d) p (λ x n. (refl, (refl, (omega arith, λ r h. e ∙ ap raw (sym n)))))
+  scalar-reads sized d p e l = stored-reads (blob (valueRecordAt table (p .at) .kind)) (valueRecordAt table (p .at) .size) (suc d) p (λ x n. (refl, (refl, (omega arith, λ r h. (e, rw n (size-fits table (p .at) r h))))))
+  scalar-reads (choice w) d p e l = fails
+  scalar-reads (series w) d p e l = fails
+  scalar-reads fields d p e l = fails
+  scalar-reads unknown d p e l = fails
 
   -- how a child is read
   Reader : ℕ → (ℕ → Spot → Parsed Value) → Type 0
-  Reader d child = (tag : ℕ) (p : Spot) → Inside table store p → Holds (Reads d tag p) (child tag p)
+  Reader d child = (tag : ℕ) (p : Spot) → p .from ≤ length store → Holds (Reads d tag p) (child tag p)
 
   -- a tag that a child's record bears fits its two bytes
-  tag-fits : {v : Value} {q : Spot} (d tag : ℕ) (p : Spot) → Reads d tag p v q → tagAt table store (p .at) < 256 ^ 2
-  tag-fits {v} d tag p a = stands-fits table (p .at * 16 + 2) 2 tag (bears table store v (p .at * 16) tag (p .from) (a .span .rows-stand))
+  bears : {v : Value} {q : Spot} (d tag : ℕ) (p : Spot) → Reads d tag p v q → tagAt table store (p .at) < 256 ^ 2
+  unfolding heads
+  bears {v} d tag p a = tag-fits table (p .at) (headOf v tag (p .from)) (the-record table store _ _ _ (a .span))
 
   -- the payload of what follows begins where that of v ends
-  goes-on : {v : Value} {q : Spot} (d tag : ℕ) (p : Spot) (rest : ℕ → List ℕ) → Reads d tag p v q → rest (q .from) ≡ rest (p .from + payloadOf v)
+  goes-on : {v : Value} {q : Spot} (d tag : ℕ) (p : Spot) (rest : ℕ → List ValueRecord) → Reads d tag p v q → rest (q .from) ≡ rest (p .from + payloadOf v)
   goes-on {v} {q} d tag p rest a = ap rest (rw (length-pays v) at (a .span .from-end))
 
-  items-read : (d : ℕ) (child : ℕ → Spot → Parsed Value) → Reader d child → (n : ℕ) (p : Spot) → Inside table store p → Holds (ReadsI d n p) (itemsAt table store child n p)
-  unfolding Reader itemsAt flatI paysI FitsI tallI items
-  items-read d child ok zero p l = holds {a = done} (record { span = no-span table store p l; fits = tt; depth = omega arith; count = refl })
+  items-read : (d : ℕ) (child : ℕ → Spot → Parsed Value) → Reader d child → (n : ℕ) (p : Spot) → p .from ≤ length store → Holds (ReadsI d p) (itemsAt table store child n p)
+  unfolding Reader itemsAt heads belowI paysI FitsI tallI
+  items-read d child ok zero p l = holds {a = done} (record { span = no-span table store p l; fits = tt; depth = omega arith })
   items-read d child ok (suc n) p l =
       let t = tagAt table store (p .at) in
       then (ok t p l) (λ (v, q) a.
       then (items-read d child ok n q (span-in table store (a .span))) (λ (is, r) b.
-      holds (record {
-        span = rw (← (goes-on d t p (flatI is) a)) (join table store (flat v t (p .from)) (flatI is (q .from)) (pays v) (paysI is) (a .span) (b .span));
-        fits = (tag-fits d t p a, (a .fits, b .fits));
+      holds {a = item t v is} {q = r} (record {
+        span = rw (← (goes-on d t p (belowI is) a)) (join table store (heads v t (p .from)) (belowI is (q .from)) (pays v) (paysI is) (a .span) (b .span));
+        fits = (bears d t p a, (a .fits, b .fits));
         depth = omega (arith, a .depth, b .depth);
-        count = ap suc (b .count);
       })))
 
-  values-read : (d : ℕ) (child : ℕ → Spot → Parsed Value) → Reader d child → (n : ℕ) (p : Spot) → Inside table store p → Holds (ReadsV d n p) (valuesAt table store child n p)
-  unfolding Reader valuesAt flatV paysV FitsV tallV values
-  values-read d child ok zero p l = holds {a = none} (record { span = no-span table store p l; fits = tt; depth = omega arith; count = refl })
+  values-read : (d : ℕ) (child : ℕ → Spot → Parsed Value) → Reader d child → (n : ℕ) (p : Spot) → p .from ≤ length store → Holds (ReadsV d p) (valuesAt table store child n p)
+  unfolding Reader valuesAt heads belowV paysV FitsV tallV
+  values-read d child ok zero p l = holds {a = none} (record { span = no-span table store p l; fits = tt; depth = omega arith })
   values-read d child ok (suc n) p l =
       then (ok 0 p l) (λ (v, q) a.
       then (values-read d child ok n q (span-in table store (a .span))) (λ (vs, r) b.
       holds {a = more v vs} {q = r} (record {
-        span = rw (← (goes-on d 0 p (flatV vs) a)) (join table store (flat v 0 (p .from)) (flatV vs (q .from)) (pays v) (paysV vs) (a .span) (b .span));
+        span = rw (← (goes-on d 0 p (belowV vs) a)) (join table store (heads v 0 (p .from)) (belowV vs (q .from)) (pays v) (paysV vs) (a .span) (b .span));
         fits = (a .fits, b .fits);
         depth = omega (arith, a .depth, b .depth);
-        count = ap suc (b .count);
       })))
 
-  node-reads : (d : ℕ) (child : ℕ → Spot → Parsed Value) → Reader d child → (tag : ℕ) (p : Spot) → Inside table store p → Holds (Reads (suc d) tag p) (nodeOf table store child (kindOf (kindAt table store (p .at))) tag p)
-  unfolding Reader nodeOf flat pays Fits tall
-  node-reads d child ok tag p l =
-      kinds (λ k. Holds (Reads (suc d) tag p) (nodeOf table store child k tag p)) (kindAt table store (p .at))
-      (scalar-reads (form (kindAt table store (p .at))) (kindAt table store (p .at)) d tag p refl l)
-      (when _ (λ e.
-      let s = alone-span table store p 15 tag 1 0 (l .payload-in) (found (p .at) 15 tag 1 0 e) in
-      let t = tagAt table store (p .at + 1) in
-      then (ok t (next table store p) (span-in table store s)) (λ (v, q) a.
-      holds {a = variant t v} {q = q} (record {
-        span = join table store (valueRecord 15 tag 1 0) (flat v t (p .from)) [] (pays v) s (a .span);
-        fits = (tag-fits d t (next table store p) a, a .fits);
-        depth = omega (arith, a .depth);
-      }))))
-      (when _ (λ e.
-      let n = sizeAt table store (p .at) in
-      let s = alone-span table store p 16 tag n 0 (l .payload-in) (found (p .at) 16 tag n 0 e) in
-      then (items-read d child ok n (next table store p) (span-in table store s)) (λ (is, q) a.
-      holds {a = repeated is} {q = q} (record {
-        span = rw (a .count) (join table store (valueRecord 16 tag n 0) (flatI is (p .from)) [] (paysI is) s (a .span));
-        fits = a .fits;
-        depth = omega (arith, a .depth);
-      }))))
-      (when _ (λ e.
-      let n = sizeAt table store (p .at) in
-      let s = alone-span table store p 17 tag n 0 (l .payload-in) (found (p .at) 17 tag n 0 e) in
-      then (values-read d child ok n (next table store p) (span-in table store s)) (λ (vs, q) a.
-      holds {a = tuple vs} {q = q} (record {
-        span = rw (a .count) (join table store (valueRecord 17 tag n 0) (flatV vs (p .from)) [] (paysV vs) s (a .span));
-        fits = a .fits;
-        depth = omega (arith, a .depth);
-      }))))
+  node-reads : (d : ℕ) (child : ℕ → Spot → Parsed Value) → Reader d child → (p : Spot) → p .from ≤ length store →
+      Holds (Below (suc d) p) (nodeOf table store child (kindOf (valueRecordAt table (p .at) .kind)) (valueRecordAt table (p .at)) p)
+  unfolding Reader nodeOf below heads pays Fits tall
+  node-reads d child ok p l =
+      let r = valueRecordAt table (p .at) in
+      kinds (λ k. Holds (Below (suc d) p) (nodeOf table store child k r p)) (r .kind)
+      (scalar-reads (form (r .kind)) d p refl l)
+      (let t = tagAt table store (p .at + 1) in
+      then (ok t (next table store p) l) (λ (v, q) a.
+      holds {a = variant t v} {q = q} (record { span = a .span; fits = λ x h. (bears d t (next table store p) a, a .fits); depth = omega (arith, a .depth) })))
+      (then (items-read d child ok (r .size) (next table store p) l) (λ (is, q) a.
+      holds {a = repeated is} {q = q} (record { span = a .span; fits = λ x h. a .fits; depth = omega (arith, a .depth) })))
+      (then (values-read d child ok (r .size) (next table store p) l) (λ (vs, q) a.
+      holds {a = tuple vs} {q = q} (record { span = a .span; fits = λ x h. a .fits; depth = omega (arith, a .depth) })))
       fails
 
+  -- the test of the record makes it whole
+  headed-reads : (d tag : ℕ) (p : Spot) (x : Parsed Value) → Holds (Below d p) x → Holds (Reads d tag p) (headed table store tag p x)
+  unfolding headed heads
+  headed-reads d tag p (Whole v q) a = when _ (λ t.
+      let b = held a in
+      let h = is-record table (p .at) (headOf v tag (p .from)) .0 t in
+      holds {a = v} {q = q} (record { span = record-and table store (headOf v tag (p .from)) (below v (p .from)) (pays v) h (b .span); fits = b .fits _ h; depth = b .depth }))
+  headed-reads d tag p Broken a = fails
+
   -- a value that is read at a spot has its records and its payload from there on
-  pub reads : (d tag : ℕ) (p : Spot) → Inside table store p → Holds (Reads d tag p) (valueAt table store d tag p)
+  pub reads : (d tag : ℕ) (p : Spot) → p .from ≤ length store → Holds (Reads d tag p) (valueAt table store d tag p)
   unfolding valueAt Reader
   reads zero tag p l = fails
-  reads (suc d) tag p l = node-reads d (valueAt table store d) (reads d) tag p l
-
-  start : Inside table store (record { at = 0; from = 0 })
-  start = record { rows-in = omega arith; payload-in = omega arith }
+  reads (suc d) tag p l = headed-reads (suc d) tag p _ (node-reads d (valueAt table store d) (reads d) p l)
 
   -- the end of a table: all records, and all bytes of the store
   abbrev pub ends : Spot
-  ends = record { at = records table; from = length store }
+  ends = record { at = valueRecordsIn (length table); from = length store }
 
   exact : Holds (λ v q. TableOf v table store) (tableValue table store)
   unfolding tableValue
-  exact = when _ (λ e. by (valueAt table store 64 0 (record { at = 0; from = 0 })) (reads 64 0 (record { at = 0; from = 0 }) start) (eqb-true _ _ e))
+  exact = when _ (λ e. by (valueAt table store 64 0 (record { at = 0; from = 0 })) (reads 64 0 (record { at = 0; from = 0 }) (omega arith)) e)
     where
-      by : (x : Parsed Value) → Holds (Reads 64 0 (record { at = 0; from = 0 })) x → length table % 16 ≡ 0 → Holds (λ v q. TableOf v table store) (exactly table store x)
-      by (Whole v q) h m = unfold exactly in when _ (λ t.
+      by : (x : Parsed Value) → Holds (Reads 64 0 (record { at = 0; from = 0 })) x → wholeValueRecords (length table) ≡ true → Holds (λ v q. TableOf v table store) (exactly table store x)
+      by (Whole v q) h m = unfold exactly flat in when _ (λ t.
           let a = held h in
           let b = and-both _ _ t in
-          let i : q .at ≡ records table = eqb-true _ _ (b .0) in
+          let w = whole-records (length table) .0 m in
+          let i : q .at ≡ valueRecordsIn (length table) = eqb-true _ _ (b .0) in
           let f : q .from ≡ length store = eqb-true _ _ (b .1) in
           holds (record {
-            rows = stands-whole table (flat v 0 0) (a .span .rows-stand) (omega (arith, a .span .at-end));
+            rows = whole-shows table (heads v 0 0) .1 (a .span .rows-stand, omega (arith, a .span .at-end));
             payload = stands-whole store (pays v) (a .span .payload-stands) (omega (arith, a .span .from-end));
             fits = a .fits;
             depth = a .depth;

@@ -1,13 +1,13 @@
--- How long the table of a value is: sixteen bytes for each record, and its payload bytes.
+-- How long the table of a value is: its records, their bytes, and its payload bytes.
 -- Assumes nothing.
 use Prim.Native.Nat.{ℕ, _+_, _*_, _≤_}
-use mathlib.Core.Path.{_≡_, refl, _∙_}
-use mathlib.Core.List.{List, _++_}
+use mathlib.Core.Path.{_≡_, refl, ap, _∙_}
 use native.Mathlib.Omega.{arith}
 use lib.ListN.{length, length-append}
 use Rattle.rules.specs.Value.{Value, nothing, boolean, number, wide, blob, variant, repeated, tuple, Items, done, item, Values, none, more, items, values, tally, tallyI, tallyV, recordsOf, payloadOf}
-use Rattle.rules.specs.ValueTable.{valueRecord, bit, pays, paysI, paysV, flat, flatI, flatV}
-use Rattle.values.proofs.Records.{length-record}
+use Rattle.rules.specs.ValueRecord.{valueRecordStart}
+use Rattle.rules.specs.ValueTable.{pays, paysI, paysV, below, belowI, belowV, heads, flat}
+use Rattle.values.proofs.Records.{length-layouts}
 
 mutual
   unfolding pays payloadOf tally
@@ -33,41 +33,40 @@ mutual
   length-paysV none = refl
   length-paysV (more v vs) = simp length-append (omega (arith, length-pays v, length-paysV vs))
 
--- a node's record and the records below it
-below : (k tag n x c : ℕ) (rest : List ℕ) → length rest ≡ 16 * c → length (valueRecord k tag n x ++ rest) ≡ 16 * (1 + c)
-below k tag n x c rest e = length-append (valueRecord k tag n x) rest ∙ rw (length-record k tag n x) (omega arith)
-
--- some records and others after them
-beside : (a b : List ℕ) (c d : ℕ) → length a ≡ 16 * c → length b ≡ 16 * d → length (a ++ b) ≡ 16 * (c + d)
-beside a b c d e f = length-append a b ∙ omega arith
-
--- a record by itself, of a node that counts for 1 and nothing times its bytes
-alone : (k tag n x c : ℕ) → length (valueRecord k tag n x) ≡ 16 * (1 + 0 * c)
-alone k tag n x c = length-record k tag n x ∙ omega arith
+-- ---- the records
 
 mutual
-  unfolding flat recordsOf tally
+  unfolding below recordsOf tally
 
-  -- a value's records have sixteen bytes for each node
-  pub length-flat : (v : Value) (tag p : ℕ) → length (flat v tag p) ≡ 16 * recordsOf v
-  length-flat nothing tag p = length-record 0 tag 0 0
-  length-flat (boolean x) tag p = length-record 1 tag 0 (bit x)
-  length-flat (number k x) tag p = length-record k tag 0 x
-  length-flat (wide k x) tag p = alone k tag (length x) p (length x)
-  length-flat (blob k x) tag p = alone k tag (length x) p (length x)
-  length-flat (variant t v) tag p = below 15 tag 1 0 (recordsOf v) (flat v t p) (length-flat v t p)
-  length-flat (repeated is) tag p = below 16 tag (items is) 0 (tallyI is 1 0 0) (flatI is p) (length-flatI is p)
-  length-flat (tuple vs) tag p = below 17 tag (values vs) 0 (tallyV vs 1 0 0) (flatV vs p) (length-flatV vs p)
+  -- a value has as many records as it counts for, its own among them
+  length-below : (v : Value) (p : ℕ) → 1 + length (below v p) ≡ recordsOf v
+  length-below nothing p = refl
+  length-below (boolean x) p = refl
+  length-below (number k x) p = refl
+  length-below (wide k x) p = omega arith
+  length-below (blob k x) p = omega arith
+  length-below (variant t v) p = omega (arith, length-below v p)
+  length-below (repeated is) p = omega (arith, length-belowI is p)
+  length-below (tuple vs) p = omega (arith, length-belowV vs p)
 
-  -- so have the records of items
-  pub length-flatI : (is : Items) (p : ℕ) → length (flatI is p) ≡ 16 * tallyI is 1 0 0
-  length-flatI done p = refl
-  length-flatI (item t v is) p = beside (flat v t p) (flatI is (p + payloadOf v)) (recordsOf v) (tallyI is 1 0 0) (length-flat v t p) (length-flatI is (p + payloadOf v))
+  -- so have items
+  pub length-belowI : (is : Items) (p : ℕ) → length (belowI is p) ≡ tallyI is 1 0 0
+  length-belowI done p = refl
+  length-belowI (item t v is) p = simp length-append (omega (arith, length-below v p, length-belowI is (p + payloadOf v)))
 
-  -- and those of the children of a tuple
-  pub length-flatV : (vs : Values) (p : ℕ) → length (flatV vs p) ≡ 16 * tallyV vs 1 0 0
-  length-flatV none p = refl
-  length-flatV (more v vs) p = beside (flat v 0 p) (flatV vs (p + payloadOf v)) (recordsOf v) (tallyV vs 1 0 0) (length-flat v 0 p) (length-flatV vs (p + payloadOf v))
+  -- and the children of a tuple
+  pub length-belowV : (vs : Values) (p : ℕ) → length (belowV vs p) ≡ tallyV vs 1 0 0
+  length-belowV none p = refl
+  length-belowV (more v vs) p = simp length-append (omega (arith, length-below v p, length-belowV vs (p + payloadOf v)))
+
+pub length-heads : (v : Value) (tag p : ℕ) → length (heads v tag p) ≡ recordsOf v
+unfolding heads
+length-heads v tag p = omega (arith, length-below v p)
+
+-- and their bytes
+pub length-flat : (v : Value) (tag p : ℕ) → length (flat v tag p) ≡ valueRecordStart (recordsOf v)
+unfolding flat
+length-flat v tag p = length-layouts (heads v tag p) ∙ ap valueRecordStart (length-heads v tag p)
 
 -- a value has a record
 pub one-record : (v : Value) → 1 ≤ recordsOf v

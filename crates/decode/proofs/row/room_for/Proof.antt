@@ -6,28 +6,35 @@ use Rattle.decode.specs.Steps.{roomFor}
 use borrow.Author.Needs.{needs}
 use Rattle.decode.proofs.row.room_for.Statement.{statement}
 use Rattle.decode.proofs.row.room_for.Tie as tie
-use Rattle.decode.proofs.row.room_for.Reads as reads
-use Rattle.decode.proofs.row.room_for.Lts as lts
-use Rattle.decode.proofs.row.room_in.Reads as room-in-reads
 
 room-in-requires : tie.Need-room-in-requires
 room-in-requires c κs = search needs
 
+records-in-requires : tie.Need-records-in-requires
+records-in-requires c κs = search needs
+
 returns : tie.Need-returns
 unfolding roomFor pick
-returns c = rw (lt-leb _ _ (rw (c .before .before .room-in .ensures) at (c .if1 .taken)))
+returns c =
+    let whole = c .before .before in
+    rw (lt-leb _ _ (rw (whole .records-in .ensures, whole .before .room-in .ensures) at (c .if1 .taken)))
 
 room-in-requires-2 : tie.Need-room-in-requires-2
 room-in-requires-2 c κs = search needs
 
 returns-2 : tie.Need-returns-2
 unfolding roomFor pick
-returns-2 c = rw (le-leb _ _ (rw (c .before .before .before .before .before .room-in .ensures) at (c .before .before .before .if1 .left)), lt-leb _ _ (rw (c .before .before .room-in2 .ensures) at (c .if2 .taken)))
+returns-2 c =
+    let whole = c .before .before .before .before .before in
+    rw (le-leb _ _ (rw (whole .records-in .ensures, whole .before .room-in .ensures) at (c .before .before .before .if1 .left)), lt-leb _ _ (rw (c .before .before .room-in2 .ensures) at (c .if2 .taken)))
 
 returns-3 : tie.Need-returns-3
 unfolding roomFor pick
-returns-3 c = rw (le-leb _ _ (rw (c .before .before .before .before .before .room-in .ensures) at (c .before .before .before .if1 .left)), le-leb _ _ (rw (c .before .before .room-in2 .ensures) at (c .if2 .left)))
+returns-3 c =
+    let whole = c .before .before .before .before .before in
+    rw (le-leb _ _ (rw (whole .records-in .ensures, whole .before .room-in .ensures) at (c .before .before .before .if1 .left)), le-leb _ _ (rw (c .before .before .room-in2 .ensures) at (c .if2 .left)))
 
 pub room-for-spec : {M : Type 1} → statement M
 room-for-spec =
-    tie.close (tie.spec room-in-requires returns room-in-requires-2 returns-2 returns-3)
+    tie.close
+    (tie.spec room-in-requires records-in-requires returns room-in-requires-2 returns-2 returns-3)

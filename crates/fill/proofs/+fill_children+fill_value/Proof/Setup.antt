@@ -12,7 +12,7 @@ use Rattle.fill.proofs.leaf_at.Reads as leaf-at-reads
 use Rattle.fill.proofs.kind_of.Reads as kind-of-reads
 use Rattle.fill.proofs.moved.Reads as moved-reads
 use Rattle.fill.proofs.next_child.Reads as next-child-reads
-use Rattle.fill.proofs.writer.put_record.Reads as put-record-reads
+use Rattle.record.proofs.value.put_record.Reads as put-record-reads
 use Rattle.wire.proofs.numbers.u32_at.Reads as u32-at-reads
 
 abbrev pub μ-fill-children : Measures 4 fill-children-kinds.ps ℕ

@@ -1,8 +1,8 @@
 use borrow.Author.Needs.{needs}
-use Prim.Native.Nat.{_*_}
-use Rattle.fill.proofs.Writes.{record-fields}
-use Rattle.fill.proofs.writer.put_record.Statement.{statement}
-use Rattle.fill.proofs.writer.put_record.Tie as tie
+use Rattle.rules.specs.ValueRecord.{valueRecordStart}
+use Rattle.record.proofs.Fields.{record-fields}
+use Rattle.record.proofs.value.put_record.Statement.{statement}
+use Rattle.record.proofs.value.put_record.Tie as tie
 
 mul-at : tie.Need-mul-at
 mul-at c = search needs
@@ -38,7 +38,7 @@ returns : tie.Need-returns
 returns c =
     let wide = c .before .before .before .before .before .before .before .before .before .before .before .before .before .before .before in
     let a = wide .before .before .before .args in
-    cc (record-fields (a .records .now) (a .i * 16) (wide .wide .result) (a .tag) (a .size) (a .«data») (wide .wide .ensures .1), wide .wide .ensures .0)
+    cc (record-fields (a .records .now) (valueRecordStart (a .i)) (wide .wide .result) (a .tag) (a .size) (a .content) (wide .wide .ensures .1), wide .wide .ensures .0)
 
 pub put-record-spec : {M : Type 1} → statement M
 put-record-spec =

@@ -1,47 +1,21 @@
--- Laws of what is written: a record by its fields, and a copy turn by turn.
+-- Laws of a copy, turn by turn.
 -- Assumes nothing.
-use Prim.Native.Nat.{ℕ, zero, suc, _+_, _-_, _/_, _%_, _≤_, _<_, min}
+use Prim.Native.Nat.{ℕ, zero, suc, _+_, _-_, _≤_, _<_, min}
 use mathlib.Core.Path.{_≡_, refl, sym, ap, _∙_}
-use mathlib.Core.List.{List, [], _∷_, _++_, append-assoc}
+use mathlib.Core.List.{List, [], _∷_, _++_}
 use native.Mathlib.Omega.{arith}
 use native.Mathlib.Nat.{add-zero, sub-zero}
-use lib.ListN.{length, getD, set, length-append}
-use lib.Seq.{set-comm, set-set}
-use Rattle.rules.specs.Bytes.{le, part, over}
-use Rattle.rules.specs.ValueTable.{valueRecord}
-use Rattle.rules.proofs.Over.{over-at}
-use Rattle.rules.proofs.Stands.{length-le, length-part}
+use lib.ListN.{length, getD, set}
+use lib.Seq.{set-set}
+use Rattle.rules.specs.Bytes.{part, over}
+use Rattle.rules.proofs.Over.{over-at, set-over}
+use Rattle.rules.proofs.Stands.{length-part}
 use Rattle.wire.proofs.Parts.{part-step, part-end}
-
--- a byte and a zero, as a number in two bytes
-byte-zero : (x : ℕ) → x < 256 → le 2 x ≡ x ∷ 0 ∷ []
-unfolding le
-byte-zero x h =
-    let e : x % 256 ≡ x = omega arith in
-    let f : x / 256 ≡ 0 = omega arith in
-    rw (e, f)
-
--- the fields of a record, one after the other
-pub record-fields : (s : List ℕ) (at kind tag size x : ℕ) → kind < 256 → over (over (over (over s at (le 2 kind)) (at + 2) (le 2 tag)) (at + 4) (le 4 size)) (at + 8) (le 8 x) ≡ over s at (valueRecord kind tag size x)
-unfolding valueRecord
-record-fields s at kind tag size x h =
-    let a : length (le 2 kind) ≡ 2 = length-le 2 kind in
-    let b : length (le 2 kind ++ le 2 tag) ≡ 4 = simp (length-append, length-le) in
-    let c : length ((le 2 kind ++ le 2 tag) ++ le 4 size) ≡ 8 = simp (length-append, length-le) in
-    rw (over-at (le 2 kind) (le 2 tag) s at (at + 2) (omega arith), over-at (le 2 kind ++ le 2 tag) (le 4 size) s at (at + 4) (omega arith), over-at ((le 2 kind ++ le 2 tag) ++ le 4 size) (le 8 x) s at (at + 8) (omega arith), byte-zero kind h) (simp append-assoc)
 
 -- the first of what is written
 over-first : (s : List ℕ) (at x : ℕ) (xs : List ℕ) → over s at (x ∷ xs) ≡ over (set s at x) (at + 1) xs
 unfolding over
 over-first s at x xs = refl
-
--- a store before what is written may as well be made first
-set-over : (xs s : List ℕ) (at i b : ℕ) → i < at → set (over s at xs) i b ≡ over (set s i b) at xs
-unfolding over
-set-over [] s at i b h = refl
-set-over (x ∷ xs) s at i b h =
-    set-over xs (set s at x) (at + 1) i b (omega arith)
-    ∙ ap (λ (l : List ℕ). over l (at + 1) xs) (set-comm s at i x b (λ e. omega arith))
 
 -- what is written over by as much or more might as well not have been written
 over-again : (xs ys s : List ℕ) (at : ℕ) → length xs ≤ length ys → over (over s at xs) at ys ≡ over s at ys
@@ -98,12 +72,3 @@ module _ (src dst : List ℕ) (from at n : ℕ) where
   pub copy-end : (k : ℕ) → n ≤ k → over dst (at + k) (part src (from + k) (n - k)) ≡ dst
   unfolding over
   copy-end k h = rw (part-end src (from + k) n k h)
-
--- ---- a front that is written last
-
-pub over-front : (xs ys s : List ℕ) (at : ℕ) → over (over s (at + length xs) ys) at xs ≡ over s at (xs ++ ys)
-unfolding over
-over-front [] ys s at = rw add-zero
-over-front (x ∷ xs) ys s at =
-    let e : at + suc (length xs) ≡ (at + 1) + length xs = omega arith in
-    rw e (ap (λ (l : List ℕ). over l (at + 1) xs) (set-over ys s ((at + 1) + length xs) at x (omega arith)) ∙ over-front xs ys (set s at x) (at + 1))

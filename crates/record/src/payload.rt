@@ -1,30 +1,10 @@
-// The one writer of value records, and the copying of payload bytes.
+// Payload bytes, copied from one slice into another.
 ghost use mathlib.Core.Path.{_≡_};
-ghost use Prim.Native.Nat.{_+_, _*_, _^_, _≤_, _<_, min};
+ghost use Prim.Native.Nat.{_+_, _^_, _≤_, _<_, min};
 ghost use lib.ListN.{length};
 ghost use Rattle.rules.specs.Bytes.{part, over};
-ghost use Rattle.rules.specs.ValueTable.{valueRecord};
-use wire::store::put16;
-use wire::store::put32;
 use wire::store::put64;
 use wire::u64_at;
-use wire::wide;
-
-// The bytes of a value record. Room is counted in it.
-pub const RECORD: usize = 16;
-
-// Record i. `size` is a child count or a payload length, `data` a payload's start or a scalar's wire bytes.
-pub fn put_record(records: &mut [u8], i: usize, kind: u8, tag: u64, size: u64, data: u64)
-    requires { ⌜ i * 16 + 16 ≤ length (now records) ⌝ }
-    ensures { λ _. ⌜ now (records .exit) ≡ over (now (records .entry)) (i * 16) (valueRecord kind tag size «data») ⌝ }
-{
-    let at = i * RECORD;
-    // the kind, and the zero above it
-    put16(records, at, wide(kind));
-    put16(records, at + 2, tag);
-    put32(records, at + 4, size);
-    put64(records, at + 8, data);
-}
 
 // Fewer bytes than a word has.
 fn copy_few(input: &[u8], from: usize, n: usize, payload: &mut [u8], to: usize)
