@@ -5,10 +5,9 @@ use mathlib.Core.Path.{_≡_, sym, _∙_}
 use mathlib.Core.List.{List}
 use Rattle.rules.specs.Bytes.{Bytes}
 use Rattle.rules.specs.Format.{Format}
-use Rattle.rules.specs.Reading.{limits, skipRule, Decoded, untouched, decodeRule}
+use Rattle.rules.specs.Reading.{limits, skipRule, Decoded, roomTest, untouched, decodeRule}
 use Rattle.rules.specs.declared.Settings.{Settings}
-use Rattle.rules.specs.declared.Read.{Read}
-use Rattle.rows.proofs.Decoding.{SameButRoom, skip-decode, Leaves, decode-leaves}
+use Rattle.rows.proofs.Decoding.{decode-tested, Leaves, decode-leaves}
 
 -- what the contract says of an answer and of both slices afterwards
 pub record Met (f : Format) (s : Settings) (inp : List ℕ) (at : ℕ) (rs ps : List ℕ) (d : Decoded) : Type 0 where
@@ -28,9 +27,9 @@ module _ (f : Format) (s : Settings) (inp : List ℕ) (at : ℕ) (rs ps : List �
   pub no-second-answer : (d d′ : Decoded) → Met f s inp at rs ps d → Met f s inp at rs ps d′ → d ≡ d′
   no-second-answer d d′ m m′ = all-of-it d m ∙ sym (all-of-it d′ m′)
 
-  -- the answer is skip's, but for the two refusals for room
-  pub answers-as-skip : (d : Decoded) → Met f s inp at rs ps d → (r : Read) → r ≡ skipRule f s inp at → SameButRoom at rs ps r (d .answer)
-  answers-as-skip d m r e = rw (e, m .answer) (skip-decode at rs ps f s inp)
+  -- the answer is skip's, tested for room
+  pub answers-as-skip : (d : Decoded) → Met f s inp at rs ps d → d .answer ≡ roomTest at rs ps (skipRule f s inp at)
+  answers-as-skip d m = m .answer ∙ decode-tested at rs ps f s inp
 
   -- and the slices have the table of the row that stands there, or are as they were
   pub leaves-the-row : Bytes inp → (d : Decoded) → Met f s inp at rs ps d → Leaves f inp (limits s) at rs ps d

@@ -14,13 +14,13 @@ use Rattle.rules.specs.Choice.{pick, _and_}
 use Rattle.rules.specs.Bytes.{Stands}
 use Rattle.rules.specs.Wire.{Form, empty, truth, fixed, raw, sized, form, written, writtenIf, typeOf, typeIn, wireTypes}
 use Rattle.rules.specs.Value.{Value, nothing, boolean, number, wide, blob, variant, repeated, tuple, Items, done, item, Values, none, more, items, values, tallyI, tallyV, tall, tallI, tallV, Fits, FitsI, FitsV, recordsOf, payloadOf}
-use Rattle.rules.specs.ValueTable.{valueRecord, bit, pays, paysI, paysV, flat, flatI, flatV, TableOf, Spot, Parsed, Whole, Broken, _>>=_, kindOf, isRecord, kindAt, tagAt, sizeAt, dataAt, next, scalarAt, itemsAt, valuesAt, nodeOf, valueAt, exactly, tableValue}
+use Rattle.rules.specs.ValueTable.{valueRecord, bit, pays, paysI, paysV, flat, flatI, flatV, TableOf, Spot, Parsed, Whole, Broken, _>>=_, kindOf, isRecord, kindAt, tagAt, sizeAt, dataAt, next, scalarAt, itemsAt, valuesAt, nodeOf, valueAt, exactly, ends, tableValue}
 use Rattle.rules.proofs.Stands.{stands-in, stands-left, stands-part, stands-le, stands-self}
 use Rattle.values.proofs.Records.{length-record, is-record, kind-stands, size-stands, data-stands}
 use Rattle.values.proofs.Sizes.{length-pays, length-flat, length-flatI, length-flatV, items-within, values-within}
 use Rattle.values.proofs.Codes.{fixed-code, raw-code, sized-code}
 use Rattle.values.proofs.Span.{Span, left, right, rest-span, lands, lands-next, lands-here, bears}
-use Rattle.values.proofs.Parse.{Reads, ends, is-table}
+use Rattle.values.proofs.Parse.{Reads, is-table}
 
 -- a boolean as a number, and back
 test-bit : (x : Bool) → ltb 0 (bit x) ≡ x

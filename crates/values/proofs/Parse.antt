@@ -195,10 +195,6 @@ module _ (table store : List ℕ) where
   start : Inside table store (record { at = 0; from = 0 })
   start = record { rows-in = omega arith; payload-in = omega arith }
 
-  -- the end of a table: all records, and all bytes of the store
-  abbrev pub ends : Spot
-  ends = record { at = records table; from = length store }
-
   exact : Holds (λ v q. TableOf v table store) (tableValue table store)
   unfolding tableValue
   exact = when _ (λ e. by (valueAt table store 64 0 (record { at = 0; from = 0 })) (reads 64 0 (record { at = 0; from = 0 }) start) (eqb-true _ _ e))
