@@ -207,7 +207,7 @@ pub decoded-conforms : (f : Format) (s : Settings) (inp : List ℕ) (at : ℕ) (
 decoded-conforms = decoded-row
 
 -- where decode answers no row, both slices are as before
-pub decode-leaves-alone : (f : Format) (s : Settings) (inp : List ℕ) (at : ℕ) (rs ps : List ℕ) → Bytes inp → NoRow (decodeRule f s inp at rs ps .answer) →
+pub decode-leaves-alone : (f : Format) (s : Settings) (inp : List ℕ) (at : ℕ) (rs ps : List ℕ) → NoRow (decodeRule f s inp at rs ps .answer) →
     decodeRule f s inp at rs ps ≡ untouched (decodeRule f s inp at rs ps .answer) rs ps
 decode-leaves-alone = decoded-none
 

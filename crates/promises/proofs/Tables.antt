@@ -2,11 +2,12 @@
 -- Assumes nothing.
 use Prim.Native.Nat.{ℕ, _+_, _-_, _*_, _/_, _≤_, _<_}
 use mathlib.Core.Path.{_≡_, refl, sym, ap, _∙_}
-use mathlib.Core.Bool.{true}
+use mathlib.Core.Bool.{Bool, true, false}
 use mathlib.Core.List.{List, _++_}
 use native.Mathlib.Omega.{arith}
 use lib.ListN.{length, take, drop}
 use lib.Seq.{take-append-seam, drop-append-seam}
+use Rattle.rules.specs.Choice.{pick}
 use Rattle.rules.specs.Bytes.{Bytes, over}
 use Rattle.rules.specs.Schema.{Schema, deep, Valid}
 use Rattle.rules.specs.Block.{block, Denotes}
@@ -14,14 +15,16 @@ use Rattle.rules.specs.Format.{Format, tables, tableSchema, sizesOk, formatRule
 use Rattle.rules.specs.Value.{Value, tall, recordsOf, payloadOf}
 use Rattle.rules.specs.ValueTable.{TableOf, flat, pays}
 use Rattle.rules.specs.Grammar.{TableRow, table-row}
-use Rattle.rules.specs.Walk.{Limits, Pos, after}
-use Rattle.rules.specs.Reading.{limits, start, schemaOf, Accepts, extent, Decoded, room, untouched, decodeRule, NoRow, LeavesRow}
+use Rattle.rules.specs.Walk.{Limits, Pos, Answer, Got, after}
+use Rattle.rules.specs.Reading.{limits, start, rowAt, schemaOf, Accepts, extent, whenAccepted, Decoded, room, untouched, filled, decodeFrom, decodeRule, NoRow, LeavesRow}
 use Rattle.rules.specs.Answers.{rowSaid, readSaid}
 use Rattle.rules.specs.Good.{GoodTable}
 use Rattle.rules.specs.declared.Settings.{Settings}
 use Rattle.rules.specs.declared.Located.the-variants.{Block}
+use Rattle.rules.specs.declared.Checked.{Checked}
 use Rattle.rules.specs.declared.Checked.the-variants.{Accepted}
 use Rattle.rules.specs.declared.Extent.{Extent}
+use Rattle.rules.specs.declared.Read.{Read}
 use Rattle.rules.specs.declared.Read.the-variants.{Row}
 use Rattle.rules.proofs.Checks.{pick-accepted}
 use Rattle.rules.proofs.Answers.{read-row}
@@ -131,11 +134,28 @@ module _ (f : Format) (s : Settings) (inp : List ℕ) (at : ℕ) (rs ps : List �
       by (row-written {t} {v} {q} ok a m n) h = let z : extent at t q ≡ e = cc in rw (← z) (row-left f inp (limits s) at rs ps ok a m n)
       by (unchanged {a} n) h = absurd (rw h at n)
 
-  -- where it answers none, both are as before
+-- ---- where decode answers no row, both slices are as before
+module _ (f : Format) (s : Settings) (inp : List ℕ) (at : ℕ) (rs ps : List ℕ) where
+  abbrev Still : Decoded → Type 0
+  Still d = NoRow (d .answer) → d ≡ untouched (d .answer) rs ps
+
+  either : (b : Bool) (x y : Decoded) → Still x → Still y → Still (pick b x y)
+  unfolding pick
+  either true x y h k = h
+  either false x y h k = k
+
+  as-before : (a : Read) → Still (untouched a rs ps)
+  as-before a h = refl
+
+  filled-still : (a : Answer (ℕ × Value)) → Still (filled at a rs ps)
+  unfolding filled NoRow
+  filled-still (Got (t, v) q) = either _ _ _ (either _ _ _ (λ h. absurd h) (as-before _)) (as-before _)
+  filled-still (Answer.Refused r) = as-before _
+
   pub decoded-none : NoRow (decodeRule f s inp at rs ps .answer) → decodeRule f s inp at rs ps ≡ untouched (decodeRule f s inp at rs ps .answer) rs ps
-  unfolding NoRow
-  decoded-none = by (decode-leaves f s inp at rs ps bs)
+  unfolding decodeRule
+  decoded-none = either _ _ _ (format (formatRules f)) (as-before _)
     where
-      by : {d : Decoded} → Leaves f inp (limits s) at rs ps d → NoRow (d .answer) → d ≡ untouched (d .answer) rs ps
-      by (row-written ok a m n) h = absurd h
-      by (unchanged n) h = refl
+      format : (c : Checked) → Still (whenAccepted (λ r. untouched (Read.Refused r) rs ps) c (decodeFrom f inp (limits s) at rs ps))
+      format Checked.Accepted = unfold whenAccepted decodeFrom in either _ _ _ (as-before _) (filled-still (rowAt f inp (limits s) at))
+      format (Checked.Refused r) = unfold whenAccepted in as-before _
