@@ -15,6 +15,7 @@ use Rattle.rules.specs.Schema.{deep, NonEmpty}
 use Rattle.rules.specs.Block.{records, block, nodeAt, nameIn}
 use Rattle.rules.specs.SchemaRules.{notTuple}
 use Rattle.rules.specs.Format.{Format, blockDepthOk, referenceAt, entryAt, entryName, resolved, tables, tableSchema, entryDepthOk, referenceDepthOk, depthsOk, entryRule, rootOf, inlineRule, referenceRule, rulesOrder, sizesOk, formatRules, formatRule}
+use Rattle.rules.specs.Good.{schemaFrom}
 use Rattle.rules.specs.declared.Located.{Located}
 use Rattle.rules.specs.declared.Located.the-variants.{Block, NoTable, NoEntry}
 use Rattle.rules.specs.declared.Refusal.{Refusal}
@@ -26,7 +27,6 @@ use Rattle.blocks.proofs.Honest.{Broken, unexpected, too-many, Says, si
 use Rattle.blocks.proofs.BlockReasons.{refuted, says-map, says-else, says-each, block-says, deep-says, root-says}
 use Rattle.blocks.proofs.Lookup.{lookup-there, lookup-misses}
 use Rattle.blocks.proofs.Forms.{FormedInline, FormedName, FormedReference, Forms, forms-accept}
-use Rattle.blocks.proofs.Formats.{schemaFrom}
 
 module _ (f : Format) where
   -- The blocks of a format: those of its registry entries, and those of its inline references.

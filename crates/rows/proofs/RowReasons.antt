@@ -12,6 +12,7 @@ use lib.ListN.{length}
 use Rattle.rules.specs.Choice.{pick}
 use Rattle.rules.specs.Bytes.{Bytes}
 use Rattle.rules.specs.Block.{block, treeAt}
+use Rattle.rules.specs.Good.{TableSchema}
 use Rattle.rules.specs.Format.{Format, tables, tableSchema, formatRules}
 use Rattle.rules.specs.Value.{Value}
 use Rattle.rules.specs.Walk.{Limits, Pos, Answer, Got, Refused, _>>=_, onward}
@@ -21,7 +22,7 @@ use Rattle.rules.specs.declared.Located.the-variants.{NoTable}
 use Rattle.rules.specs.declared.Refusal.{Refusal}
 use Rattle.rules.specs.declared.Checked.the-variants.{Accepted}
 use Rattle.rules.proofs.Stands.{length-le}
-use Rattle.blocks.proofs.Tables.{TableSchema, table-schema}
+use Rattle.blocks.proofs.Tables.{table-schema}
 use Rattle.rows.proofs.Span.{in-end}
 use Rattle.rows.proofs.Sound.{Says, gets, refuses, if-refused, as-why, then, Spent, number-says, walk-says}
 use Rattle.rows.proofs.TableRows.{row-accepts, row-agrees}
