@@ -26,6 +26,9 @@ pub le-one : (s : List ℕ) (at : ℕ) → leAt s at 1 ≡ getD s at 0
 unfolding leAt
 le-one s at = omega arith
 
+pub byte : (s : List ℕ) (at b : ℕ) → b ≡ getD s at 0 → b ≡ leAt s at 1
+byte s at b e = e ∙ sym (le-one s at)
+
 -- w bytes and v above them, read
 le-parts : (s : List ℕ) (w v at : ℕ) → leAt s at (w + v) ≡ leAt s at w + 256 ^ w * leAt s (at + w) v
 unfolding leAt
@@ -37,14 +40,14 @@ le-parts s (suc w) v at =
     let f : at + suc w ≡ (at + 1) + w = omega arith in
     rw (e, f, le-parts s w v (at + 1), pow-succ' 256 w, mul-assoc 256 (256 ^ w)) (omega arith)
 
--- The one law of the readers: where one part is read and the other, this is the number in both.
-module _ (s : List ℕ) (at w v low high : ℕ) (l : low ≡ leAt s at w) (h : high ≡ leAt s (at + w) v) where
+-- The one law of the readers: where w bytes are read, and v from the place after them, this is the number in all.
+module _ (s : List ℕ) (at next w v low high : ℕ) (l : low ≡ leAt s at w) (h : high ≡ leAt s next v) (e : next ≡ at + w) where
   pub read-parts : low + 256 ^ w * high ≡ leAt s at (w + v)
-  read-parts = rw (l, h) (sym (le-parts s w v at))
+  read-parts = rw (l, h, e) (sym (le-parts s w v at))
 
   -- and up to eight bytes it fits
   pub parts-fit : Bytes s → w + v ≤ 8 → low + 256 ^ w * high < 256 ^ 8
-  parts-fit bs e = rw read-parts (le-within s bs at (w + v) 8 e)
+  parts-fit bs b = rw read-parts (le-within s bs at (w + v) 8 b)
 
 -- w bytes and v above them, written
 le-append : (w v x : ℕ) → le (w + v) x ≡ le w x ++ le v (x / 256 ^ w)
@@ -77,6 +80,5 @@ le-all s at w k h =
 pub le-step : (s : List ℕ) (at w k : ℕ) → 0 < k → k ≤ w → leAt s (at + k) (w - k) * 256 + getD s (at + (k - 1)) 0 ≡ leAt s (at + (k - 1)) (w - (k - 1))
 le-step s at w k h l =
     let p : w - (k - 1) ≡ 1 + (w - k) = omega arith in
-    let q : (at + (k - 1)) + 1 ≡ at + k = omega arith in
-    let whole = read-parts s (at + (k - 1)) 1 (w - k) _ _ (sym (le-one s (at + (k - 1)))) refl in
-    rw (p, ← whole, q) (omega arith)
+    let whole = read-parts s (at + (k - 1)) (at + k) 1 (w - k) _ _ (byte s (at + (k - 1)) _ refl) refl (omega arith) in
+    rw (p, ← whole) (omega arith)

@@ -10,27 +10,19 @@ pub fn wide(x: u8) -> u64
     x as u64
 }
 
-// One byte, as a number in bytes.
-fn u8_at(s: &[u8], at: usize) -> u64
-    requires { ⌜ at + 1 ≤ length (now s) ⌝ }
-    ensures { λ r. ⌜ r ≡ leAt (now (s .entry)) at 1 ⌝ }
-{
-    wide(s[at])
-}
-
-// Each wider number is its two halves, the upper one above the bytes of the lower: a compiler makes one load of them.
+// Byte by byte in Horner's form, of which a compiler makes one load. (Of four bytes in two halves it did not everywhere.)
 pub fn u16_at(s: &[u8], at: usize) -> u64
     requires { ⌜ at + 2 ≤ length (now s) ⌝ }
     ensures { λ r. ⌜ r ≡ leAt (now (s .entry)) at 2 ⌝ }
 {
-    u8_at(s, at) + 256 * u8_at(s, at + 1)
+    wide(s[at]) + 256 * wide(s[at + 1])
 }
 
 pub fn u32_at(s: &[u8], at: usize) -> u64
     requires { ⌜ at + 4 ≤ length (now s) ⌝ }
     ensures { λ r. ⌜ r ≡ leAt (now (s .entry)) at 4 ⌝ }
 {
-    u16_at(s, at) + 65536 * u16_at(s, at + 2)
+    wide(s[at]) + 256 * (wide(s[at + 1]) + 256 * (wide(s[at + 2]) + 256 * wide(s[at + 3])))
 }
 
 pub fn u64_at(s: &[u8], at: usize) -> u64
@@ -46,7 +38,7 @@ pub fn field(s: &[u8], at: usize, width: usize) -> u64
     ensures { λ r. ⌜ r ≡ leAt (now (s .entry)) at width ⌝ }
 {
     match width {
-        1 => u8_at(s, at),
+        1 => wide(s[at]),
         2 => u16_at(s, at),
         4 => u32_at(s, at),
         8 => u64_at(s, at),

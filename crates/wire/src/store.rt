@@ -4,21 +4,14 @@ ghost use Prim.Native.Nat.{_+_, _≤_};
 ghost use lib.ListN.{length};
 ghost use Rattle.rules.specs.Bytes.{le, over};
 
-// The lowest byte.
-fn put8(s: &mut [u8], at: usize, x: u64)
-    requires { ⌜ at + 1 ≤ length (now s) ⌝ }
-    ensures { λ _. ⌜ now (s .exit) ≡ over (now (s .entry)) at (le 1 x) ⌝ }
-{
-    s[at] = (x % 256) as u8;
-}
-
-// Each wider number in two halves, the upper one after the lower: a compiler makes one store of them.
+// Byte by byte, little-endian: a compiler makes one store of it, and of each wider one.
 pub fn put16(s: &mut [u8], at: usize, x: u64)
     requires { ⌜ at + 2 ≤ length (now s) ⌝ }
     ensures { λ _. ⌜ now (s .exit) ≡ over (now (s .entry)) at (le 2 x) ⌝ }
 {
-    put8(s, at, x);
-    put8(s, at + 1, x / 256);
+    let high = x / 256;
+    s[at] = (x % 256) as u8;
+    s[at + 1] = (high % 256) as u8;
 }
 
 pub fn put32(s: &mut [u8], at: usize, x: u64)

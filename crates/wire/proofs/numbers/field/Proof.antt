@@ -1,9 +1,13 @@
 use borrow.Author.Needs.{needs}
+use Rattle.wire.proofs.Fields.{byte}
 use Rattle.wire.proofs.numbers.field.Statement.{statement}
 use Rattle.wire.proofs.numbers.field.Tie as tie
 
-u8-at-requires : tie.Need-u8-at-requires
-u8-at-requires c κs = search needs
+shared-slice-read-wide : tie.Need-shared-slice-read-wide
+shared-slice-read-wide c = search needs
+
+wide-requires : tie.Need-wide-requires
+wide-requires c κs = search needs
 
 u16-at-requires : tie.Need-u16-at-requires
 u16-at-requires c κs = search needs
@@ -18,7 +22,7 @@ by-bytes-requires : tie.Need-by-bytes-requires
 by-bytes-requires c κs = search needs
 
 returns : tie.Need-returns
-returns c = rw (c .before .match .keys1) (c .u8-at .ensures)
+returns c = rw (c .before .before .match .keys1) (byte _ _ _ (c .wide .ensures .0))
 
 returns-2 : tie.Need-returns-2
 returns-2 c = rw (c .before .match .keys2) (c .u16-at .ensures)
@@ -36,7 +40,7 @@ pub field-spec : {M : Type 1} → statement M
 field-spec =
     tie.close
     (tie.spec
-    u8-at-requires
+    shared-slice-read-wide wide-requires
     u16-at-requires
     u32-at-requires
     u64-at-requires

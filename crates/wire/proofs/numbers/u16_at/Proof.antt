@@ -1,31 +1,45 @@
-use Prim.Native.Nat.{_+_, _*_, _^_, _<_}
-use native.Mathlib.Omega.{arith}
 use borrow.Author.Needs.{needs}
-use Rattle.wire.proofs.Fields.{read-parts, parts-fit}
+use native.Mathlib.Omega.{arith}
+use Rattle.wire.proofs.Fields.{byte, read-parts}
 use Rattle.wire.proofs.numbers.u16_at.Statement.{statement}
 use Rattle.wire.proofs.numbers.u16_at.Tie as tie
 
-u8-at-requires : tie.Need-u8-at-requires
-u8-at-requires c κs = search needs
+shared-slice-read-wide : tie.Need-shared-slice-read-wide
+shared-slice-read-wide c = search needs
 
-add-u8-at : tie.Need-add-u8-at
-add-u8-at c = search needs
+wide-requires : tie.Need-wide-requires
+wide-requires c κs = search needs
 
-u8-at-requires-2 : tie.Need-u8-at-requires-2
-u8-at-requires-2 c κs = search needs
+add-wide : tie.Need-add-wide
+add-wide c = search needs
 
-fits : (c : tie.After-u8-at2) → c .before .u8-at .result + 256 ^ 1 * c .u8-at2 .result < 256 ^ 8
-fits c = parts-fit _ _ 1 1 _ _ (c .before .u8-at .ensures) (c .u8-at2 .ensures) (λ i. c .before .before .shared-slice-known .given i .fits) (omega arith)
+shared-slice-read-wide-2 : tie.Need-shared-slice-read-wide-2
+shared-slice-read-wide-2 c = search needs
+
+wide-requires-2 : tie.Need-wide-requires-2
+wide-requires-2 c κs = search needs
 
 mul-result : tie.Need-mul-result
-mul-result c = omega (arith, fits c)
+mul-result c = search needs
 
 add-result : tie.Need-add-result
-add-result c = omega (arith, fits c)
+add-result c = search needs
 
 returns : tie.Need-returns
-returns c = read-parts _ _ 1 1 _ _ (c .before .u8-at .ensures) (c .u8-at2 .ensures)
+returns c =
+    let b0 = byte _ _ _ (c .before .before .wide .ensures .0) in
+    let b1 = byte _ _ _ (c .wide2 .ensures .0) in
+    read-parts _ _ _ 1 1 _ _ b0 b1 (omega arith)
 
 pub u16-at-spec : {M : Type 1} → statement M
 u16-at-spec =
-    tie.close (tie.spec u8-at-requires add-u8-at u8-at-requires-2 mul-result add-result returns)
+    tie.close
+    (tie.spec
+    shared-slice-read-wide
+    wide-requires
+    add-wide
+    shared-slice-read-wide-2
+    wide-requires-2
+    mul-result
+    add-result
+    returns)

@@ -15,7 +15,7 @@ u32-at-requires-2 : tie.Need-u32-at-requires-2
 u32-at-requires-2 c κs = search needs
 
 fits : (c : tie.After-u32-at2) → c .before .u32-at .result + 256 ^ 4 * c .u32-at2 .result < 256 ^ 8
-fits c = parts-fit _ _ 4 4 _ _ (c .before .u32-at .ensures) (c .u32-at2 .ensures) (λ i. c .before .before .shared-slice-known .given i .fits) (omega arith)
+fits c = parts-fit _ _ _ 4 4 _ _ (c .before .u32-at .ensures) (c .u32-at2 .ensures) (omega arith) (λ i. c .before .before .shared-slice-known .given i .fits) (omega arith)
 
 mul-result : tie.Need-mul-result
 mul-result c = omega (arith, fits c)
@@ -24,7 +24,7 @@ add-result : tie.Need-add-result
 add-result c = omega (arith, fits c)
 
 returns : tie.Need-returns
-returns c = read-parts _ _ 4 4 _ _ (c .before .u32-at .ensures) (c .u32-at2 .ensures)
+returns c = read-parts _ _ _ 4 4 _ _ (c .before .u32-at .ensures) (c .u32-at2 .ensures) (omega arith)
 
 pub u64-at-spec : {M : Type 1} → statement M
 u64-at-spec =

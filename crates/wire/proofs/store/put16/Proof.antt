@@ -1,24 +1,33 @@
 use borrow.Author.Needs.{needs}
-use Rattle.wire.proofs.Fields.{write-parts}
+use native.Mathlib.Omega.{arith}
+use lib.ListN.{length-set}
+use mathlib.Core.Path.{refl}
+use Rattle.rules.specs.Bytes.{le, over}
 use Rattle.wire.proofs.store.put16.Statement.{statement}
 use Rattle.wire.proofs.store.put16.Tie as tie
 
-put8-requires : tie.Need-put8-requires
-put8-requires c κs = search needs
+cast-s : tie.Need-cast-s
+cast-s c = search needs
 
-add-put8 : tie.Need-add-put8
-add-put8 c = search needs
+slice-write-s : tie.Need-slice-write-s
+slice-write-s c = search needs
 
-put8-requires-2 : tie.Need-put8-requires-2
-put8-requires-2 c κs = search needs
+cast-s-2 : tie.Need-cast-s-2
+cast-s-2 c = search needs
+
+add-s : tie.Need-add-s
+add-s c = search needs
+
+slice-write-s-2 : tie.Need-slice-write-s-2
+slice-write-s-2 c = simp length-set (omega arith)
 
 same-length : tie.Need-same-length
 same-length c = search needs
 
 returns : tie.Need-returns
-returns c =
-    let first = c .before .before .before .before .before .before in
-    write-parts _ _ _ _ 1 1 _ (first .put8 .ensures) (c .before .before .put82 .ensures)
+unfolding over le
+returns c = refl
 
 pub put16-spec : {M : Type 1} → statement M
-put16-spec = tie.close (tie.spec put8-requires add-put8 put8-requires-2 same-length returns)
+put16-spec =
+    tie.close (tie.spec cast-s slice-write-s cast-s-2 add-s slice-write-s-2 same-length returns)
