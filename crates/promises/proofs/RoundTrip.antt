@@ -10,6 +10,7 @@ use lib.Dec.{leb}
 use lib.ListN.{length}
 use Rattle.rules.specs.Choice.{pick, _and_}
 use Rattle.rules.specs.Bytes.{le, over}
+use Rattle.rules.specs.Refusals.{NoOutputRoom}
 use Rattle.rules.specs.Schema.{Schema}
 use Rattle.rules.specs.Block.{block, blockTree, Denotes}
 use Rattle.rules.specs.Format.{Format, tables, encoderRules, encoderRule}
@@ -20,7 +21,6 @@ use Rattle.rules.specs.Walk.{Limits, blobLimit, Pos, after}
 use Rattle.rules.specs.Reading.{settingsOk, limits, start, schemaOf, Accepts, extent, whenAccepted, Decoded, room, decodeRule}
 use Rattle.rules.specs.Writing.{Wrote, Put, writeRow, Encoded, unwritten, placed, encodeValue, encodeRule}
 use Rattle.rules.specs.declared.Settings.{Settings}
-use Rattle.rules.specs.declared.Refusal.{Refusal}
 use Rattle.rules.specs.declared.Checked.{Checked}
 use Rattle.rules.specs.declared.Read.{Read}
 use Rattle.rules.specs.declared.Written.{Written}
@@ -102,7 +102,7 @@ module _ (s : Settings) (table names : List ℕ) (first n : ℕ) (recs pay out :
   encodes-only h = by (writeRow (block table first n) (limits s) v) refl (rw comes-to at h)
     where
       room-for : (b : List ℕ) (t : Bool) → leb (at + length b) (room out) ≡ t → writeRow (block table first n) (limits s) v ≡ Put b →
-          IsRow (pick t (record { answer = Written.Row (record { table = 0; bytes = length b; records = recordsOf v; payload = payloadOf v }); output = over out at b }) (unwritten out (Refusal.NoOutputRoom (length b) at)) .answer) → Encodable sch (limits s) v out at
+          IsRow (pick t (record { answer = Written.Row (record { table = 0; bytes = length b; records = recordsOf v; payload = payloadOf v }); output = over out at b }) (unwritten out (NoOutputRoom (length b) at)) .answer) → Encodable sch (limits s) v out at
       room-for b true q e h =
           let f = writes-row (block table first n) names (limits s) v sch b stands (is .fits) .0 e in
           record { conforms = f .conforms; within = f .within; fits = rw (f .bytes) at (leb-true (at + length b) (room out) q) }

@@ -18,7 +18,7 @@ use Rattle.rules.specs.Walk.{Limits, blobLimit, Pos, Answer, Got, Refused, _>>=
 use Rattle.rules.specs.declared.Node.{Node}
 use Rattle.rules.specs.declared.Width.the-variants.{Fixed}
 use Rattle.rules.specs.declared.Refusal.{Refusal}
-use Rattle.rules.specs.declared.Refusal.the-variants.{Truncated, RowTooLarge, BlobTooLarge, InvalidVariantTag}
+use Rattle.rules.specs.Refusals.{Truncated, RowTooLarge, BlobTooLarge, InvalidVariantTag}
 use Rattle.rules.proofs.Stands.{length-le, stands-le}
 use Rattle.rows.proofs.Conform.{valid-child}
 use Rattle.rows.proofs.Complete.{tag-wide}

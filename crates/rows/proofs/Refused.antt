@@ -18,7 +18,7 @@ use Rattle.rules.specs.Walk.{Limits, Pos, Answer, Got, Refused, _>>=_}
 use Rattle.rules.specs.Reading.{start, rootFrom, rowAt, schemaIn, schemaOf}
 use Rattle.rules.specs.declared.Located.the-variants.{Block}
 use Rattle.rules.specs.declared.Refusal.{Refusal}
-use Rattle.rules.specs.declared.Refusal.the-variants.{MissingTableSchema}
+use Rattle.rules.specs.Refusals.{MissingTableSchema}
 use Rattle.rules.specs.declared.Checked.the-variants.{Accepted}
 use Rattle.blocks.proofs.Tables.{table-schema}
 use Rattle.rules.proofs.Stands.{stands-le}

@@ -9,7 +9,7 @@ use Rattle.rules.specs.Choice.{pick, _and_, all}
 use Rattle.rules.specs.Bytes.{le, leAt, part, over, order, isEqual, isLess}
 use Rattle.rules.specs.Wire.{form, written, writtenIf, typeOf, typeIn, wireTypes, widthOf, endTag, maximum}
 use Rattle.rules.specs.Names.{ascii}
-use Rattle.rules.specs.Refusals.{said, _then_, inOrder}
+use Rattle.rules.specs.Refusals.{lineOf, refusalNumber, _then_, inOrder}
 use Rattle.rules.specs.Schema.{deep, child}
 use Rattle.rules.specs.Block.{nodeAt, records, block, earlier, nameOk, childrenOk, recordOk, recordAt, blockOk, nameIn, treesFrom, treeAt, blockTree, depthOf}
 use Rattle.rules.specs.SchemaRules.{nodeRule, ruleAt, schemaRule, notTuple, rootRule, nameRule, childRule, tableRule}
@@ -61,7 +61,7 @@ pub record Line : Type 0 where
 shown : Read → List ℕ
 shown End = []
 shown (Row e) = 0 ∷ e .table ∷ e .bytes ∷ e .records ∷ e .payload ∷ []
-shown (Refused r) = said r .number ∷ said r .place ∷ said r .carries
+shown (Refused r) = refusalNumber r ∷ r .place ∷ lineOf (r .why) .carries
 
 settings : Line → Settings
 settings l = record { «node_charge» = 48; «max_blob_bytes» = l .blob; «max_row_bytes» = l .row }
@@ -139,5 +139,5 @@ outcomes =
     ∷ []
 
 pub rows-hold : map outcome lines ≡ outcomes
-unfolding outcome lines outcomes refused accepted line with-limits full A B oneTable schemaRecord ascii shown settings encodedAgain again pick _and_ all le leAt part over order isEqual isLess form written writtenIf typeOf typeIn wireTypes widthOf endTag maximum said _then_ inOrder deep child nodeAt block earlier nameOk childrenOk recordOk recordAt blockOk nameIn treesFrom treeAt blockTree depthOf nodeRule ruleAt schemaRule notTuple rootRule nameRule childRule tableRule blockFormOk blockDepthOk blockRule referenceAt entryAt entryName lookup resolved tableSchema referenceOk ascending entryOk referenceFormOk formsOk entryDepthOk referenceDepthOk depthsOk entryRule rootOf inlineRule referenceRule rulesOrder sizesOk formatRules oneBlock encoderRules tally items values recordsOf payloadOf valueRecord bit pays flat _parsed>>=_ kindOf isRecord scalarAt itemsAt valuesAt nodeOf valueAt exactly tableValue blobLimit _>>=_ numberOf bytesOf charged blobOf childOf pairsOf fieldsOf valueOf walk settingsOk limits start rootFrom rowAt extent skipped skipFrom whenAccepted skipRule room filled decodeFrom decodeRule _wrote>>=_ kindFor fitting tagged write writeRow placed encodeValue encodeRule
+unfolding outcome lines outcomes refused accepted line with-limits full A B oneTable schemaRecord ascii shown settings encodedAgain again pick _and_ all le leAt part over order isEqual isLess form written writtenIf typeOf typeIn wireTypes widthOf endTag maximum lineOf _then_ inOrder deep child nodeAt block earlier nameOk childrenOk recordOk recordAt blockOk nameIn treesFrom treeAt blockTree depthOf nodeRule ruleAt schemaRule notTuple rootRule nameRule childRule tableRule blockFormOk blockDepthOk blockRule referenceAt entryAt entryName lookup resolved tableSchema referenceOk ascending entryOk referenceFormOk formsOk entryDepthOk referenceDepthOk depthsOk entryRule rootOf inlineRule referenceRule rulesOrder sizesOk formatRules oneBlock encoderRules tally items values recordsOf payloadOf valueRecord bit pays flat _parsed>>=_ kindOf isRecord scalarAt itemsAt valuesAt nodeOf valueAt exactly tableValue blobLimit _>>=_ numberOf bytesOf charged blobOf childOf pairsOf fieldsOf valueOf walk settingsOk limits start rootFrom rowAt extent skipped skipFrom whenAccepted skipRule room filled decodeFrom decodeRule _wrote>>=_ kindFor fitting tagged write writeRow placed encodeValue encodeRule
 rows-hold = refl

@@ -11,7 +11,7 @@ use Rattle.rules.specs.ValueTable.{TableOf, kindAt, tagAt, sizeAt, valueRecord,
 use Rattle.rules.specs.Walk.{Limits, blobLimit}
 use Rattle.rules.specs.Writing.{Refused, write, writeI, writeV, writeRow}
 use Rattle.rules.specs.declared.Refusal.{Refusal}
-use Rattle.rules.specs.declared.Refusal.the-variants.{BlobTooLarge, ValueDoesNotMatchSchema, TupleLength, InvalidVariantTag}
+use Rattle.rules.specs.Refusals.{BlobTooLarge, ValueDoesNotMatchSchema, TupleLength, InvalidVariantTag}
 use Rattle.rules.proofs.Stands.{stands-left, stands-self}
 use Rattle.values.proofs.Sizes.{length-flatV, values-within}
 use Rattle.values.proofs.Flat.{size-is, tag-is, count-fits}

@@ -11,7 +11,7 @@ use Rattle.rules.specs.Block.{nodeAt}
 use Rattle.rules.specs.Walk.{Limits}
 use Rattle.rules.specs.Writing.{Wrote, Put, Refused, _>>=_, kindFor, fitting, tagged}
 use Rattle.rules.specs.declared.Refusal.{Refusal}
-use Rattle.rules.specs.declared.Refusal.the-variants.{ValueDoesNotMatchSchema, InvalidVariantTag}
+use Rattle.rules.specs.Refusals.{ValueDoesNotMatchSchema, InvalidVariantTag}
 
 -- no property at all
 unfoldable pub Any : {A : Type 0} → A → Type 0
