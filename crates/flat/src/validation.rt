@@ -11,6 +11,7 @@ use rules::Children;
 use rules::Node;
 use rules::Purpose;
 use rules::Refusal;
+use rules::Why;
 
 // What the rules say of a node by itself.
 fn node_rule(place: u64, n: Node) -> Checked
@@ -24,9 +25,11 @@ fn node_rule(place: u64, n: Node) -> Checked
             if children == 0 {
                 return Checked::Accepted;
             }
-            Checked::Refused(Refusal::UnexpectedChildren {
-                wire_type: code,
-                count: children,
+            Checked::Refused(Refusal {
+                why: Why::UnexpectedChildren {
+                    wire_type: code,
+                    count: children,
+                },
                 place,
             })
         }
@@ -34,15 +37,17 @@ fn node_rule(place: u64, n: Node) -> Checked
             if children <= maximum {
                 return Checked::Accepted;
             }
-            Checked::Refused(Refusal::TooManyChildren {
-                wire_type: code,
-                count: children,
-                maximum,
+            Checked::Refused(Refusal {
+                why: Why::TooManyChildren {
+                    wire_type: code,
+                    count: children,
+                    maximum,
+                },
                 place,
             })
         }
         Children::Any => Checked::Accepted,
-        Children::Unknown => Checked::Refused(Refusal::BadSchemaTable),
+        Children::Unknown => Checked::Refused(Refusal::BAD_SCHEMA_TABLE),
     }
 }
 
@@ -53,7 +58,7 @@ pub fn validate(s: &[u8], base: u64, depth: u64, i: u64) -> Checked
     ensures { λ r. ⌜ r ≡ schemaRule (now (s .entry)) base depth i ⌝ }
 {
     if depth == 0 {
-        return Checked::Refused(Refusal::TooDeep);
+        return Checked::Refused(Refusal::TOO_DEEP);
     }
     let n = node_at(s, i);
     let own = node_rule(base + i, n);
@@ -80,8 +85,14 @@ fn not_tuple(purpose: Purpose, found: u8, place: u64) -> Refusal
     ensures { λ r. ⌜ r ≡ notTuple purpose found place ⌝ }
 {
     match purpose {
-        Purpose::Format => Refusal::TableSchemaRootMustBeTuple { found, place },
-        Purpose::Encoder => Refusal::TableSchemaMustBeTuple { found, place },
+        Purpose::Format => Refusal {
+            why: Why::TableSchemaRootMustBeTuple { found },
+            place,
+        },
+        Purpose::Encoder => Refusal {
+            why: Why::TableSchemaMustBeTuple { found },
+            place,
+        },
     }
 }
 
@@ -106,7 +117,10 @@ fn name_rule(place: u64, index: u64, n: Node) -> Checked
             return Checked::Accepted;
         }
     }
-    Checked::Refused(Refusal::TableSchemaChildMissingName { index, place })
+    Checked::Refused(Refusal {
+        why: Why::TableSchemaChildMissingName { index },
+        place,
+    })
 }
 
 // A table's root is a tuple, and each of its direct children has a name.

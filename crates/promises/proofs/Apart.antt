@@ -5,10 +5,11 @@ use mathlib.Core.Path.{_≡_, refl, sym, ap, _∙_}
 use mathlib.Core.List.{List, [], _∷_}
 use native.Mathlib.Omega.{arith}
 use lib.ListN.{getD}
-use Rattle.rules.specs.Refusals.{Said, said}
-use Rattle.rules.specs.Answers.{noneSaid, rowSaid, readSaid, stopSaid, writtenSaid, checkedSaid}
+use Rattle.rules.specs.Refusals.{lineOf}
+use Rattle.rules.specs.Answers.{Said, said, noneSaid, rowSaid, readSaid, stopSaid, writtenSaid, checkedSaid}
 use Rattle.rules.specs.declared.Refusal.{Refusal}
-use Rattle.rules.specs.declared.Refusal.the-variants.{Setting, BadSchemaTable, TooDeep, UnexpectedChildren, TooManyChildren, EmptyTableSchemas, UnknownRegistryReference, TableSchemaRootMustBeTuple, TableSchemaMustBeTuple, TableSchemaChildMissingName, MissingTableSchema, Truncated, RowTooLarge, BlobTooLarge, ValueDoesNotMatchSchema, TupleLength, InvalidVariantTag, BadValueTable, NoNodeRoom, NoPayloadRoom, NoOutputRoom}
+use Rattle.rules.specs.declared.Why.{Why}
+use Rattle.rules.specs.declared.Why.the-variants as why
 use Rattle.rules.specs.declared.Checked.{Checked}
 use Rattle.rules.specs.declared.Extent.{Extent}
 use Rattle.rules.specs.declared.Read.{Read}
@@ -16,62 +17,70 @@ use Rattle.rules.specs.declared.Stop.{Stop}
 use Rattle.rules.specs.declared.Written.{Written}
 use Rattle.rules.proofs.Answers.{refusal-number, one-row}
 
--- the refusals in the order of their numbers, with a place and three values
-cases : ℕ → ℕ → ℕ → ℕ → List Refusal
-cases p a b c =
-    Setting
-    ∷ BadSchemaTable
-    ∷ TooDeep
-    ∷ UnexpectedChildren a b p
-    ∷ TooManyChildren a b c p
-    ∷ EmptyTableSchemas
-    ∷ UnknownRegistryReference a
-    ∷ TableSchemaRootMustBeTuple a p
-    ∷ TableSchemaMustBeTuple a p
-    ∷ TableSchemaChildMissingName a p
-    ∷ MissingTableSchema a p
-    ∷ Truncated a p
-    ∷ RowTooLarge a p
-    ∷ BlobTooLarge a b c p
-    ∷ ValueDoesNotMatchSchema a b p
-    ∷ TupleLength a b p
-    ∷ InvalidVariantTag a b c p
-    ∷ BadValueTable
-    ∷ NoNodeRoom a p
-    ∷ NoPayloadRoom a p
-    ∷ NoOutputRoom a p
+-- the reasons in the order of their numbers, with three values
+cases : ℕ → ℕ → ℕ → List Why
+cases a b c =
+    why.Setting
+    ∷ why.BadSchemaTable
+    ∷ why.TooDeep
+    ∷ why.UnexpectedChildren a b
+    ∷ why.TooManyChildren a b c
+    ∷ why.EmptyTableSchemas
+    ∷ why.UnknownRegistryReference a
+    ∷ why.TableSchemaRootMustBeTuple a
+    ∷ why.TableSchemaMustBeTuple a
+    ∷ why.TableSchemaChildMissingName a
+    ∷ why.MissingTableSchema a
+    ∷ why.Truncated a
+    ∷ why.RowTooLarge a
+    ∷ why.BlobTooLarge a b c
+    ∷ why.ValueDoesNotMatchSchema a b
+    ∷ why.TupleLength a b
+    ∷ why.InvalidVariantTag a b c
+    ∷ why.BadValueTable
+    ∷ why.NoNodeRoom a
+    ∷ why.NoPayloadRoom a
+    ∷ why.NoOutputRoom a
     ∷ []
 
--- the refusal that says so
-back : Said → Refusal
-back x = getD (cases (x .place) (getD (x .carries) 0 0) (getD (x .carries) 1 0) (getD (x .carries) 2 0)) (x .number - 1) Setting
+-- the one of a number and what it carries
+back : ℕ → List ℕ → Why
+back n xs = getD (cases (getD xs 0 0) (getD xs 1 0) (getD xs 2 0)) (n - 1) why.Setting
 
-back-said : (r : Refusal) → back (said r) ≡ r
-unfolding back cases said
-back-said Setting = refl
-back-said BadSchemaTable = refl
-back-said TooDeep = refl
-back-said (UnexpectedChildren type count place) = refl
-back-said (TooManyChildren type count maximum place) = refl
-back-said EmptyTableSchemas = refl
-back-said (UnknownRegistryReference table) = refl
-back-said (TableSchemaRootMustBeTuple found place) = refl
-back-said (TableSchemaMustBeTuple found place) = refl
-back-said (TableSchemaChildMissingName index place) = refl
-back-said (MissingTableSchema index place) = refl
-back-said (Truncated context place) = refl
-back-said (RowTooLarge limit place) = refl
-back-said (BlobTooLarge type length limit place) = refl
-back-said (ValueDoesNotMatchSchema type kind place) = refl
-back-said (TupleLength expected actual place) = refl
-back-said (InvalidVariantTag type tag children place) = refl
-back-said BadValueTable = refl
-back-said (NoNodeRoom needed place) = refl
-back-said (NoPayloadRoom needed place) = refl
-back-said (NoOutputRoom needed place) = refl
+back-line : (w : Why) → back (lineOf w .number) (lineOf w .carries) ≡ w
+unfolding back cases lineOf
+back-line why.Setting = refl
+back-line why.BadSchemaTable = refl
+back-line why.TooDeep = refl
+back-line (why.UnexpectedChildren type count) = refl
+back-line (why.TooManyChildren type count maximum) = refl
+back-line why.EmptyTableSchemas = refl
+back-line (why.UnknownRegistryReference table) = refl
+back-line (why.TableSchemaRootMustBeTuple found) = refl
+back-line (why.TableSchemaMustBeTuple found) = refl
+back-line (why.TableSchemaChildMissingName index) = refl
+back-line (why.MissingTableSchema index) = refl
+back-line (why.Truncated context) = refl
+back-line (why.RowTooLarge limit) = refl
+back-line (why.BlobTooLarge type length limit) = refl
+back-line (why.ValueDoesNotMatchSchema type kind) = refl
+back-line (why.TupleLength expected actual) = refl
+back-line (why.InvalidVariantTag type tag children) = refl
+back-line why.BadValueTable = refl
+back-line (why.NoNodeRoom needed) = refl
+back-line (why.NoPayloadRoom needed) = refl
+back-line (why.NoOutputRoom needed) = refl
 
 pub refusals-apart : (r r′ : Refusal) → said r ≡ said r′ → r ≡ r′
-refusals-apart r r′ e = sym (back-said r) ∙ (ap back e ∙ back-said r′)
+unfolding said
+refusals-apart r r′ e =
+    let n : lineOf (r .why) .number ≡ lineOf (r′ .why) .number = ap (λ (z : Said). z .number) e in
+    let c : lineOf (r .why) .carries ≡ lineOf (r′ .why) .carries = ap (λ (z : Said). z .carries) e in
+    let p : r .place ≡ r′ .place = ap (λ (z : Said). z .place) e in
+    let b : back (lineOf (r .why) .number) (lineOf (r .why) .carries) ≡ back (lineOf (r′ .why) .number) (lineOf (r′ .why) .carries) = rw (n, c) in
+    let w : r .why ≡ r′ .why = sym (back-line (r .why)) ∙ (b ∙ back-line (r′ .why)) in
+    let z : _≡_ {A = Refusal} (record { why = r .why; place = r .place }) r′ = rw (w, p) in
+    z
 
 -- what is no refusal says 0
 not-row : (r : Refusal) (e : Extent) → said r ≡ rowSaid e → ⊥

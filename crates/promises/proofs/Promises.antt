@@ -8,8 +8,7 @@ use mathlib.Core.List.{List, _++_, map}
 use mathlib.Core.Logic.{_↔_}
 use lib.ListN.{length, drop}
 use Rattle.rules.specs.Bytes.{Bytes, part}
-use Rattle.rules.specs.Refusals.{Said, said}
-use Rattle.rules.specs.Answers.{rowSaid, readSaid, stopSaid, writtenSaid, checkedSaid}
+use Rattle.rules.specs.Answers.{Said, said, rowSaid, readSaid, stopSaid, writtenSaid, checkedSaid}
 use Rattle.rules.specs.Schema.{Schema, deep, nodes}
 use Rattle.rules.specs.Block.{records, blockTree, Denotes, Formed, blockOk, Ordered}
 use Rattle.rules.specs.SchemaRules.{schemaRule, ruleAt, firstOf, preorder}

@@ -12,7 +12,7 @@ use lib.ListN.{length, take, drop}
 use lib.Seq.{length-take-le}
 use Rattle.rules.specs.Choice.{pick, _and_}
 use Rattle.rules.specs.Bytes.{le, part, over}
-use Rattle.rules.specs.Refusals.{Said, said}
+use Rattle.rules.specs.Refusals.{Setting, NoOutputRoom, lineOf}
 use Rattle.rules.specs.Schema.{Schema}
 use Rattle.rules.specs.Block.{block}
 use Rattle.rules.specs.Format.{Format, encoderRules, encoderRule}
@@ -21,12 +21,11 @@ use Rattle.rules.specs.ValueTable.{TableOf, Parsed, Whole, Broken, tableValue}
 use Rattle.rules.specs.Grammar.{Row, table-row, encoded, encodedRow}
 use Rattle.rules.specs.Walk.{blobLimit, Pos, after}
 use Rattle.rules.specs.Reading.{limits, start, schemaOf, Accepts, extent, whenAccepted, room, recordRoom, decodeRule}
-use Rattle.rules.specs.Answers.{rowSaid, writtenSaid}
+use Rattle.rules.specs.Answers.{Said, said, rowSaid, writtenSaid}
 use Rattle.rules.specs.Writing.{Wrote, Put, writeRow, Encoded, unwritten, placed, encodeValue, encodeOk, encodeRule, encodeFrom}
 use Rattle.rules.specs.RoundTrip.{EncodeAsked, Encodable, encodedInto, EncodeRefuses, by-setting, by-schema, by-table, by-row, by-room, ReadAsked, decodedAs}
 use Rattle.rules.specs.declared.Settings.{Settings}
 use Rattle.rules.specs.declared.Refusal.{Refusal}
-use Rattle.rules.specs.declared.Refusal.the-variants.{Setting, NoOutputRoom}
 use Rattle.rules.specs.declared.Checked.{Checked}
 use Rattle.rules.specs.declared.Extent.{Extent}
 use Rattle.rules.specs.declared.Written.{Written}
@@ -65,7 +64,7 @@ module _ (s : Settings) (table names : List ℕ) (first n : ℕ) (recs pay out :
   records-short ok = leb-true _ _ (and-both _ _ (and-both _ _ (and-both _ _ ok .0) .0) .1)
 
   ends : Ends encode
-  unfolding encodeRule said
+  unfolding encodeRule said lineOf
   ends = settings (encodeOk s table names recs pay out at) refl
     where
       row : encodeOk s table names recs pay out at ≡ true → encoderRules table names first n ≡ Checked.Accepted → (v : Value) → TableOf v recs pay →
@@ -100,7 +99,7 @@ module _ (s : Settings) (table names : List ℕ) (first n : ℕ) (recs pay out :
 
   -- it says x just if x is what the order says
   pub refused-in-order : (x : Said) → 0 < x .number → (writtenSaid (encode .answer) ≡ x) ↔ Refuses x
-  unfolding encodeRule pick whenAccepted encodeValue placed writtenSaid said
+  unfolding encodeRule pick whenAccepted encodeValue placed writtenSaid said lineOf
   refused-in-order x l = (λ e. rw e at (ended ends (rw e l) .1), by)
     where
       by : {x : Said} → Refuses x → writtenSaid (encode .answer) ≡ x

@@ -14,7 +14,7 @@ use Rattle.rules.specs.Bytes.{leAt}
 use Rattle.rules.specs.Wire.{Form, empty, truth, fixed, raw, sized, choice, series, fields, unknown, wireTypes, typeIn, typeOf, written, writtenIf, form, widthOf}
 use Rattle.rules.specs.Block.{nodeAt, Closed, Formed, records}
 use Rattle.rules.specs.declared.Refusal.{Refusal}
-use Rattle.rules.specs.declared.Refusal.the-variants.{TooDeep, Truncated}
+use Rattle.rules.specs.Refusals.{TooDeep, Truncated}
 use Rattle.rules.proofs.Tests.{all-each}
 use Rattle.blocks.proofs.Form as blocks
 use Rattle.read.specs.Budget.{spent}

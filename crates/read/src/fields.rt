@@ -2,10 +2,12 @@
 ghost use mathlib.Core.Path.{_≡_};
 ghost use Prim.Native.Nat.{_+_, _≤_, _<_};
 ghost use lib.ListN.{length};
+ghost use Rattle.rules.specs.Refusals.{Truncated};
 ghost use Rattle.rules.specs.Wire.{form, widthOf};
 ghost use Rattle.read.specs.Fields.{numberAt, keptOf};
 ghost use Rattle.read.specs.Children.{shapeOf, endsAt};
 use rules::Refusal;
+use rules::Why;
 use wire::codes::tag_width;
 use wire::u16_at;
 use wire::u32_at;
@@ -19,10 +21,10 @@ pub enum Number {
 
 // A field that the stream's end cuts.
 fn truncated(context: u8, at: usize) -> Number
-    ensures { λ r. ⌜ r ≡ Number.Refused (Refusal.Truncated context at) ⌝ }
+    ensures { λ r. ⌜ r ≡ Number.Refused (Truncated context at) ⌝ }
 {
-    Number::Refused(Refusal::Truncated {
-        context,
+    Number::Refused(Refusal {
+        why: Why::Truncated { context },
         place: at as u64,
     })
 }

@@ -19,6 +19,7 @@ use super::fields::read_length;
 use super::fields::read_tag;
 use rules::Refusal;
 use rules::Settings;
+use rules::Why;
 use wire::codes::fixed_width;
 use wire::u32_at;
 
@@ -51,7 +52,7 @@ fn dear(charged: Charged) -> Skipped
 {
     match charged {
         Charged::Refused(why) => Skipped::Refused(why),
-        Charged::Left(_) => Skipped::Refused(Refusal::Setting),
+        Charged::Left(_) => Skipped::Refused(Refusal::SETTING),
     }
 }
 
@@ -60,7 +61,7 @@ fn cut(length: Number) -> Skipped
 {
     match length {
         Number::Refused(why) => Skipped::Refused(why),
-        Number::Is(_, _) => Skipped::Refused(Refusal::Setting),
+        Number::Is(_, _) => Skipped::Refused(Refusal::SETTING),
     }
 }
 
@@ -69,7 +70,7 @@ fn no_child(tag: Number) -> Pick
 {
     match tag {
         Number::Refused(why) => Pick::Refused(why),
-        Number::Is(_, _) => Pick::Refused(Refusal::Setting),
+        Number::Is(_, _) => Pick::Refused(Refusal::SETTING),
     }
 }
 
@@ -79,7 +80,7 @@ fn refused(value: Skipped) -> Skipped
 {
     match value {
         Skipped::Refused(why) => Skipped::Refused(why),
-        Skipped::At(_) => Skipped::Refused(Refusal::Setting),
+        Skipped::At(_) => Skipped::Refused(Refusal::SETTING),
     }
 }
 
@@ -92,8 +93,8 @@ fn skip_fixed(code: u8, input: &[u8], p: Pos) -> Skipped
     let at = p.at;
     let width = fixed_width(code);
     if input.len() - at < width {
-        return Skipped::Refused(Refusal::Truncated {
-            context: code,
+        return Skipped::Refused(Refusal {
+            why: Why::Truncated { context: code },
             place: at as u64,
         });
     }
@@ -121,10 +122,12 @@ fn skip_blob(code: u8, input: &[u8], p: Pos) -> Skipped
     let left = (input.len() - next) as u64;
     let limit = blob_limit(budget, code);
     if limit < n {
-        return Skipped::Refused(Refusal::BlobTooLarge {
-            wire_type: code,
-            length: n,
-            limit,
+        return Skipped::Refused(Refusal {
+            why: Why::BlobTooLarge {
+                wire_type: code,
+                length: n,
+                limit,
+            },
             place: at as u64,
         });
     }
@@ -133,8 +136,8 @@ fn skip_blob(code: u8, input: &[u8], p: Pos) -> Skipped
         return dear(paid);
     };
     if left < n {
-        return Skipped::Refused(Refusal::Truncated {
-            context: 14,
+        return Skipped::Refused(Refusal {
+            why: Why::Truncated { context: 14 },
             place: next as u64,
         });
     }
@@ -186,10 +189,12 @@ fn next_child(code: u8, first: u64, count: u64, i: u64, input: &[u8], at: usize)
         return Pick::End(next);
     }
     if count <= tag {
-        return Pick::Refused(Refusal::InvalidVariantTag {
-            wire_type: code,
-            tag,
-            children: count,
+        return Pick::Refused(Refusal {
+            why: Why::InvalidVariantTag {
+                wire_type: code,
+                tag,
+                children: count,
+            },
             place: at as u64,
         });
     }
@@ -264,7 +269,7 @@ fn skip_value(block: &[u8], node: usize, depth: usize, input: &[u8], p: Pos, cha
     ensures { λ r. ⌜ r ≡ skim (now (block .entry)) (now (input .entry)) charge depth node p ⌝ }
 {
     if depth == 0 {
-        return Skipped::Refused(Refusal::TooDeep);
+        return Skipped::Refused(Refusal::TOO_DEEP);
     }
     let at = p.at;
     let budget = p.budget;

@@ -18,7 +18,7 @@ use Rattle.rules.specs.Grammar.{TableRow, table-row, Conforms}
 use Rattle.rules.specs.Walk.{Limits, Pos, Answer, Got, after}
 use Rattle.rules.specs.Reading.{settingsOk, limits, start, rowAt, schemaOf, Accepts, extent, skipped, skipFrom, whenAccepted, skipRule, Decoded, room, recordRoom, roomTest, untouched, filled, decodeFrom, decodeRule, NoRow}
 use Rattle.rules.specs.declared.Settings.{Settings}
-use Rattle.rules.specs.declared.Refusal.the-variants.{Setting, NoNodeRoom, NoPayloadRoom}
+use Rattle.rules.specs.Refusals.{Setting, NoNodeRoom, NoPayloadRoom}
 use Rattle.rules.specs.declared.Checked.{Checked}
 use Rattle.rules.specs.declared.Read.{Read}
 use Rattle.rules.specs.declared.Read.the-variants.{Row, End, Refused}

@@ -18,7 +18,7 @@ use Rattle.rules.specs.Reasons.{Cut, Number, StandsWhole, NodeReason, dear-node
 use Rattle.rules.specs.declared.Node.{Node}
 use Rattle.rules.specs.declared.Width.the-variants.{Fixed, Variable}
 use Rattle.rules.specs.declared.Refusal.{Refusal}
-use Rattle.rules.specs.declared.Refusal.the-variants.{Truncated, RowTooLarge}
+use Rattle.rules.specs.Refusals.{Truncated, RowTooLarge}
 use Rattle.rules.proofs.Stands.{length-le, stands-in}
 use Rattle.rows.proofs.Only.{tag-wide}
 use Rattle.rows.proofs.Conform.{valid-child}

@@ -17,7 +17,7 @@ use Rattle.rules.specs.Reading.{settingsOk, limits, start, rowAt, extent, skipp
 use Rattle.rules.specs.Answers.{readSaid, stopSaid}
 use Rattle.rules.specs.declared.Settings.{Settings}
 use Rattle.rules.specs.declared.Refusal.{Refusal}
-use Rattle.rules.specs.declared.Refusal.the-variants.{Setting}
+use Rattle.rules.specs.Refusals.{Setting}
 use Rattle.rules.specs.declared.Checked.{Checked}
 use Rattle.rules.specs.declared.Extent.{Extent}
 use Rattle.rules.specs.declared.Read.{Read}

@@ -17,7 +17,7 @@ use Rattle.rules.specs.Walk.{Limits, blobLimit, Pos, Answer, Got, Refused, _>>=
 use Rattle.rules.specs.Reasons.{Cut, Number, StandsWhole, NodeReason, dear-node, in-node, BodyReason, cut-scalar, cut-length, long-blob, dear-blob, cut-payload, of-variant, of-repeated, of-tuple, TagReason, cut-tag, stray-tag, in-child, PairsReason, this-pair, later-pair, FieldsReason, this-field, later-field}
 use Rattle.rules.specs.declared.Node.{Node}
 use Rattle.rules.specs.declared.Refusal.{Refusal}
-use Rattle.rules.specs.declared.Refusal.the-variants.{Truncated, RowTooLarge, InvalidVariantTag}
+use Rattle.rules.specs.Refusals.{Truncated, RowTooLarge, InvalidVariantTag}
 use Rattle.rules.proofs.Tests.{either}
 use Rattle.rules.proofs.Stands.{length-le, length-part, stands-in, part-stands, stands-le, leAt-lt, leAt-stands}
 use Rattle.rows.proofs.Only.{tag-wide}

@@ -4,39 +4,44 @@ use Prim.Native.Nat.{ℕ}
 use mathlib.Core.Path.{_≡_, refl, ap}
 use mathlib.Core.Logic.{_↔_}
 use native.Mathlib.Omega.{arith}
-use Rattle.rules.specs.Refusals.{Said, said}
-use Rattle.rules.specs.Answers.{noneSaid, rowSaid, readSaid, checkedSaid}
+use Rattle.rules.specs.Refusals.{lineOf}
+use Rattle.rules.specs.Answers.{Said, said, noneSaid, rowSaid, readSaid, checkedSaid}
 use Rattle.rules.specs.declared.Refusal.{Refusal}
-use Rattle.rules.specs.declared.Refusal.the-variants.{Setting, BadSchemaTable, TooDeep, UnexpectedChildren, TooManyChildren, EmptyTableSchemas, UnknownRegistryReference, TableSchemaRootMustBeTuple, TableSchemaMustBeTuple, TableSchemaChildMissingName, MissingTableSchema, Truncated, RowTooLarge, BlobTooLarge, ValueDoesNotMatchSchema, TupleLength, InvalidVariantTag, BadValueTable, NoNodeRoom, NoPayloadRoom, NoOutputRoom}
+use Rattle.rules.specs.declared.Why.{Why}
+use Rattle.rules.specs.declared.Why.the-variants as why
 use Rattle.rules.specs.declared.Checked.{Checked}
 use Rattle.rules.specs.declared.Checked.the-variants.{Accepted, Refused}
 use Rattle.rules.specs.declared.Extent.{Extent}
 use Rattle.rules.specs.declared.Read.{Read}
 
 -- no refusal has the number 0
+line-number : (w : Why) → lineOf w .number ≡ 0 → ⊥
+unfolding lineOf
+line-number why.Setting e = omega arith
+line-number why.BadSchemaTable e = omega arith
+line-number why.TooDeep e = omega arith
+line-number (why.UnexpectedChildren type count) e = omega arith
+line-number (why.TooManyChildren type count maximum) e = omega arith
+line-number why.EmptyTableSchemas e = omega arith
+line-number (why.UnknownRegistryReference table) e = omega arith
+line-number (why.TableSchemaRootMustBeTuple found) e = omega arith
+line-number (why.TableSchemaMustBeTuple found) e = omega arith
+line-number (why.TableSchemaChildMissingName index) e = omega arith
+line-number (why.MissingTableSchema index) e = omega arith
+line-number (why.Truncated context) e = omega arith
+line-number (why.RowTooLarge limit) e = omega arith
+line-number (why.BlobTooLarge type length limit) e = omega arith
+line-number (why.ValueDoesNotMatchSchema type kind) e = omega arith
+line-number (why.TupleLength expected actual) e = omega arith
+line-number (why.InvalidVariantTag type tag children) e = omega arith
+line-number why.BadValueTable e = omega arith
+line-number (why.NoNodeRoom needed) e = omega arith
+line-number (why.NoPayloadRoom needed) e = omega arith
+line-number (why.NoOutputRoom needed) e = omega arith
+
 pub refusal-number : (r : Refusal) → said r .number ≡ 0 → ⊥
 unfolding said
-refusal-number Setting e = omega arith
-refusal-number BadSchemaTable e = omega arith
-refusal-number TooDeep e = omega arith
-refusal-number (UnexpectedChildren type count place) e = omega arith
-refusal-number (TooManyChildren type count maximum place) e = omega arith
-refusal-number EmptyTableSchemas e = omega arith
-refusal-number (UnknownRegistryReference table) e = omega arith
-refusal-number (TableSchemaRootMustBeTuple found place) e = omega arith
-refusal-number (TableSchemaMustBeTuple found place) e = omega arith
-refusal-number (TableSchemaChildMissingName index place) e = omega arith
-refusal-number (MissingTableSchema index place) e = omega arith
-refusal-number (Truncated context place) e = omega arith
-refusal-number (RowTooLarge limit place) e = omega arith
-refusal-number (BlobTooLarge type length limit place) e = omega arith
-refusal-number (ValueDoesNotMatchSchema type kind place) e = omega arith
-refusal-number (TupleLength expected actual place) e = omega arith
-refusal-number (InvalidVariantTag type tag children place) e = omega arith
-refusal-number BadValueTable e = omega arith
-refusal-number (NoNodeRoom needed place) e = omega arith
-refusal-number (NoPayloadRoom needed place) e = omega arith
-refusal-number (NoOutputRoom needed place) e = omega arith
+refusal-number r e = line-number (r .why) e
 
 -- a check says 0 just if it accepts
 pub check-number : {P : Type 0} (c : Checked) → (c ≡ Accepted) ↔ P → (checkedSaid c .number ≡ 0) ↔ P

@@ -1,13 +1,25 @@
 -- What each answer says in document 01's numbers. A refusal says its number, its place and what it carries; where nothing is refused the
 -- number is 0, and what is returned stands where a refusal's values stand.
 -- Assumes nothing: these are definitions.
-use mathlib.Core.List.{[], _∷_}
-use Rattle.rules.specs.Refusals.{Said, said}
+use Prim.Native.Nat.{ℕ}
+use mathlib.Core.List.{List, [], _∷_}
+use Rattle.rules.specs.Refusals.{lineOf, refusalNumber}
+use Rattle.rules.specs.declared.Refusal.{Refusal}
 use Rattle.rules.specs.declared.Checked.{Checked}
 use Rattle.rules.specs.declared.Extent.{Extent}
 use Rattle.rules.specs.declared.Read.{Read}
 use Rattle.rules.specs.declared.Stop.{Stop}
 use Rattle.rules.specs.declared.Written.{Written}
+
+-- number, place, and then what is carried or returned
+pub record Said : Type 0 where
+  pub number : ℕ
+  pub place : ℕ
+  pub carries : List ℕ
+
+-- what a refusal says
+unfoldable pub said : Refusal → Said
+said r = record { number = refusalNumber r; place = r .place; carries = lineOf (r .why) .carries }
 
 -- nothing is refused, and nothing returned
 unfoldable pub noneSaid : Said

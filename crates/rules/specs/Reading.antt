@@ -20,7 +20,7 @@ use Rattle.rules.specs.declared.Settings.{Settings}
 use Rattle.rules.specs.declared.Located.{Located}
 use Rattle.rules.specs.declared.Located.the-variants.{Block, NoTable, NoEntry}
 use Rattle.rules.specs.declared.Refusal.{Refusal}
-use Rattle.rules.specs.declared.Refusal.the-variants.{Setting, UnknownRegistryReference, MissingTableSchema, NoNodeRoom, NoPayloadRoom}
+use Rattle.rules.specs.Refusals.{Setting, UnknownRegistryReference, MissingTableSchema, NoNodeRoom, NoPayloadRoom}
 use Rattle.rules.specs.declared.Checked.{Checked}
 use Rattle.rules.specs.declared.Extent.{Extent}
 use Rattle.rules.specs.declared.Read.{Read}

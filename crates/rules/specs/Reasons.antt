@@ -15,7 +15,7 @@ use Rattle.rules.specs.Walk.{Limits, blobLimit, Pos}
 use Rattle.rules.specs.Reading.{schemaOf, Accepts}
 use Rattle.rules.specs.declared.Width.the-variants.{Fixed}
 use Rattle.rules.specs.declared.Refusal.{Refusal}
-use Rattle.rules.specs.declared.Refusal.the-variants.{MissingTableSchema, Truncated, RowTooLarge, BlobTooLarge, InvalidVariantTag}
+use Rattle.rules.specs.Refusals.{MissingTableSchema, Truncated, RowTooLarge, BlobTooLarge, InvalidVariantTag}
 
 module _ (inp : List ℕ) where
   -- the input ends within the n bytes from a place on

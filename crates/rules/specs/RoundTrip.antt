@@ -6,7 +6,7 @@ use mathlib.Core.Bool.{true, false}
 use mathlib.Core.List.{List, [], _∷_}
 use lib.ListN.{length}
 use Rattle.rules.specs.Bytes.{Stands, over}
-use Rattle.rules.specs.Refusals.{Said, said}
+use Rattle.rules.specs.Answers.{Said, said}
 use Rattle.rules.specs.Schema.{Schema}
 use Rattle.rules.specs.Block.{block}
 use Rattle.rules.specs.Format.{Format, tableSchema, formatRule, encoderRules}

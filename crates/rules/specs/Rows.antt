@@ -6,12 +6,11 @@ use mathlib.Core.List.{List, [], _∷_, _++_}
 use lib.ListN.{take, replicate}
 use Rattle.rules.specs.Bytes.{le}
 use Rattle.rules.specs.Names.{ascii}
-use Rattle.rules.specs.Refusals.{Said}
 use Rattle.rules.specs.Block.{records}
 use Rattle.rules.specs.Format.{Format}
 use Rattle.rules.specs.ValueRecord.{valueRecordStart}
 use Rattle.rules.specs.Reading.{skipRule, Decoded, decodeRule}
-use Rattle.rules.specs.Answers.{noneSaid, readSaid}
+use Rattle.rules.specs.Answers.{Said, noneSaid, readSaid}
 use Rattle.rules.specs.Writing.{encodeFrom}
 use Rattle.rules.specs.declared.Settings.{Settings}
 use Rattle.rules.specs.declared.Read.{Read}

@@ -16,7 +16,7 @@ use Rattle.rules.specs.Walk.{Limits, blobLimit}
 use Rattle.rules.specs.Reading.{settingsOk, limits, room, whenAccepted}
 use Rattle.rules.specs.declared.Settings.{Settings}
 use Rattle.rules.specs.declared.Refusal.{Refusal}
-use Rattle.rules.specs.declared.Refusal.the-variants.{Setting, BlobTooLarge, ValueDoesNotMatchSchema, TupleLength, InvalidVariantTag, BadValueTable, NoOutputRoom}
+use Rattle.rules.specs.Refusals.{Setting, BlobTooLarge, ValueDoesNotMatchSchema, TupleLength, InvalidVariantTag, BadValueTable, NoOutputRoom}
 use Rattle.rules.specs.declared.Written.{Written}
 use Rattle.rules.specs.declared.Written.the-variants.{Row}
 

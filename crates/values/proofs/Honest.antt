@@ -12,7 +12,7 @@ use Rattle.rules.specs.ValueTable.{TableOf, kind, sizeOf, headOf, below, belowV
 use Rattle.rules.specs.Walk.{Limits, blobLimit}
 use Rattle.rules.specs.Writing.{Refused, write, writeI, writeV, writeRow}
 use Rattle.rules.specs.declared.Refusal.{Refusal}
-use Rattle.rules.specs.declared.Refusal.the-variants.{BlobTooLarge, ValueDoesNotMatchSchema, TupleLength, InvalidVariantTag}
+use Rattle.rules.specs.Refusals.{BlobTooLarge, ValueDoesNotMatchSchema, TupleLength, InvalidVariantTag}
 use Rattle.rules.proofs.Tests.{either}
 use Rattle.values.proofs.Records.{tag-is, size-is, whole-shows}
 use Rattle.values.proofs.Sizes.{length-belowV, values-within}

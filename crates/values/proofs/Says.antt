@@ -9,7 +9,7 @@ use Rattle.rules.specs.Block.{nodeAt}
 use Rattle.rules.specs.Walk.{Limits}
 use Rattle.rules.specs.Writing.{Wrote, Put, Refused, _>>=_, kindFor, fitting, tagged}
 use Rattle.rules.specs.declared.Refusal.{Refusal}
-use Rattle.rules.specs.declared.Refusal.the-variants.{ValueDoesNotMatchSchema, InvalidVariantTag}
+use Rattle.rules.specs.Refusals.{ValueDoesNotMatchSchema, InvalidVariantTag}
 use Rattle.rules.proofs.Tests.{either}
 
 -- no property at all
