@@ -12,9 +12,9 @@ use Rattle.rules.specs.Choice.{pick, all}
 use Rattle.rules.specs.Bytes.{part}
 use Rattle.rules.specs.Refusals.{_then_, inOrder}
 use Rattle.rules.specs.Schema.{Schema, TableRoot}
-use Rattle.rules.specs.Block.{records, block, blockTree}
+use Rattle.rules.specs.Block.{nodeSize, block, blockTree}
 use Rattle.rules.specs.SchemaRules.{tableRule}
-use Rattle.rules.specs.Format.{Format, blockDepthOk, referenceAt, entryAt, entryName, resolved, tables, entryDepthOk, referenceDepthOk, depthsOk, entryRule, rootOf, inlineRule, referenceRule, rulesOrder, sizesOk, formatRules, formatRule}
+use Rattle.rules.specs.Format.{referenceSize, entrySize, entryCount, Format, blockDepthOk, referenceAt, entryAt, entryName, resolved, tables, entryDepthOk, referenceDepthOk, depthsOk, entryRule, rootOf, inlineRule, referenceRule, rulesOrder, sizesOk, formatRules, formatRule}
 use Rattle.rules.specs.declared.Reference.{Reference}
 use Rattle.rules.specs.declared.Located.{Located}
 use Rattle.rules.specs.declared.Located.the-variants.{Block, NoTable, NoEntry}
@@ -48,7 +48,7 @@ module _ (f : Format) where
     pub kind : r .kind ≡ 1
     pub name : r .start + r .len ≤ length (f .names)
     pub entry : ℕ
-    pub below : entry < records (f .registry)
+    pub below : entry < entryCount (f .registry)
     pub same : entryName (f .names) (f .registry) entry ≡ part (f .names) (r .start) (r .len)
     pub root : TableRoot (schemaFrom (entryAt (f .registry) entry .first) (entryAt (f .registry) entry .count))
 
@@ -60,12 +60,12 @@ module _ (f : Format) where
 
   -- Whole records in table, references and registry; at least one table; good entries, their names strictly ascending; good references.
   pub record GoodTables : Type 0 where
-    pub whole-table : length (f .table) % 16 ≡ 0
-    pub whole-references : length (f .references) % 16 ≡ 0
-    pub whole-registry : length (f .registry) % 16 ≡ 0
+    pub whole-table : length (f .table) % nodeSize ≡ 0
+    pub whole-references : length (f .references) % referenceSize ≡ 0
+    pub whole-registry : length (f .registry) % entrySize ≡ 0
     pub some : 0 < tables f
-    pub entries : (j : ℕ) → j < records (f .registry) → GoodEntry j
-    pub ascends : Ascending (entryName (f .names) (f .registry)) (records (f .registry))
+    pub entries : (j : ℕ) → j < entryCount (f .registry) → GoodEntry j
+    pub ascends : Ascending (entryName (f .names) (f .registry)) (entryCount (f .registry))
     pub references : (t : ℕ) → t < tables f → GoodReference (referenceAt (f .references) t)
 
   -- Besides, each of the four slices has at most 4,294,967,295 bytes.
@@ -118,7 +118,7 @@ module _ (f : Format) where
         (λ (n : ByName f r). let z = ne-eqb (r .kind) 0 (λ e. omega (arith, n .kind)) in (rw z, rw z))
         (g .either)
 
-  module _ (entries : (j : ℕ) → j < records (f .registry) → GoodEntry f j) (up : Ascending (entryName (f .names) (f .registry)) (records (f .registry))) (r : Reference) where
+  module _ (entries : (j : ℕ) → j < entryCount (f .registry) → GoodEntry f j) (up : Ascending (entryName (f .names) (f .registry)) (entryCount (f .registry))) (r : Reference) where
     pub placed : GoodReference f r → Placed r
     unfolding resolved pick
     placed g = ⊎-elim
@@ -178,8 +178,8 @@ module _ (f : Format) where
         references = λ t h. reference-good (good w d v) (w .ascends) (referenceAt (f .references) t) t (w .references t h) (all-each _ _ t (d .1) h) (in-order-iff _ _ .0 (v .1) t h);
       }
     where
-      good : Forms f → (all (entryDepthOk f) (records (f .registry)) ≡ true) × (all (referenceDepthOk f) (tables f) ≡ true) → (inOrder (entryRule f) 0 (records (f .registry)) ≡ Accepted) × (inOrder (referenceRule f) 0 (tables f) ≡ Accepted) →
-          (j : ℕ) → j < records (f .registry) → GoodEntry f j
+      good : Forms f → (all (entryDepthOk f) (entryCount (f .registry)) ≡ true) × (all (referenceDepthOk f) (tables f) ≡ true) → (inOrder (entryRule f) 0 (entryCount (f .registry)) ≡ Accepted) × (inOrder (referenceRule f) 0 (tables f) ≡ Accepted) →
+          (j : ℕ) → j < entryCount (f .registry) → GoodEntry f j
       good w d v j h = record {
         name = w .entries j h .name;
         good = passes _ _ _ _ .0 (record { form-ok = form-accepts _ _ _ _ .1 (w .entries j h .formed); depth-ok = all-each _ _ j (d .0) h; rules-ok = in-order-iff _ _ .0 (v .0) j h });

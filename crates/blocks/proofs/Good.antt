@@ -9,7 +9,7 @@ use borrow.Author.Tests.{leb-true, eqb-true, le-leb, eq-eqb}
 use lib.ListN.{length}
 use Rattle.rules.specs.Refusals.{_then_}
 use Rattle.rules.specs.Schema.{deep, Valid, TableRoot}
-use Rattle.rules.specs.Block.{records, block, Formed, treeAt, blockTree, Ordered}
+use Rattle.rules.specs.Block.{nodeSize, records, block, Formed, treeAt, blockTree, Ordered}
 use Rattle.rules.specs.SchemaRules.{tableRule}
 use Rattle.rules.specs.Format.{blockFormOk, blockDepthOk, blockRule, oneBlock, schemaAnswer, encoderRules, encoderRule}
 use Rattle.rules.specs.declared.Purpose.{Purpose}
@@ -39,7 +39,7 @@ pub record GoodBlock (table names : List ℕ) (first n : ℕ) : Type 0 where
 pub record GoodSchema (table names : List ℕ) (first n : ℕ) : Type 0 where
   pub table-size : length table ≤ 4294967295
   pub names-size : length names ≤ 4294967295
-  pub whole : length table % 16 ≡ 0
+  pub whole : length table % nodeSize ≡ 0
   pub good : GoodBlock table names first n
 
 -- The encoder wants besides that the schema's root is a tuple whose children have non-empty names.

@@ -1,7 +1,7 @@
 -- 'Rows on both sides of each edge': document 01's table, computed on the rules of the whole calls. Flat bytes go in; number,
 -- place and carried values come out, and an accepted row is decoded and encoded again.
 -- Assumes nothing.
-use Prim.Native.Nat.{ℕ, _*_}
+use Prim.Native.Nat.{ℕ}
 use mathlib.Core.Path.{_≡_, refl}
 use mathlib.Core.List.{List, [], _∷_, _++_, map}
 use lib.ListN.{take, replicate}
@@ -15,7 +15,7 @@ use Rattle.rules.specs.Block.{nodeAt, records, block, earlier, nameOk, c
 use Rattle.rules.specs.SchemaRules.{nodeRule, ruleAt, schemaRule, notTuple, rootRule, nameRule, childRule, tableRule}
 use Rattle.rules.specs.Format.{Format, blockFormOk, blockDepthOk, blockRule, referenceAt, entryAt, entryName, lookup, resolved, tableSchema, referenceOk, ascending, entryOk, referenceFormOk, formsOk, entryDepthOk, referenceDepthOk, depthsOk, entryRule, rootOf, inlineRule, referenceRule, rulesOrder, sizesOk, formatRules, oneBlock, encoderRules}
 use Rattle.rules.specs.Value.{tally, items, values, recordsOf, payloadOf}
-use Rattle.rules.specs.ValueRecord.{layout, layouts, valueRecordAt, isRecord}
+use Rattle.rules.specs.ValueRecord.{valueRecordStart, layout, layouts, valueRecordAt, isRecord}
 use Rattle.rules.specs.ValueTable.{bit, pays, kind, sizeOf, contentOf, headOf, below, heads, flat, _>>=_ as _parsed>>=_, kindOf, storedAt, scalarAt, itemsAt, valuesAt, nodeOf, headed, valueAt, exactly, tableValue}
 use Rattle.rules.specs.Walk.{blobLimit, _>>=_, numberOf, bytesOf, charged, blobOf, childOf, pairsOf, fieldsOf, valueOf, walk}
 use Rattle.rules.specs.Reading.{settingsOk, limits, start, rootFrom, rowAt, extent, skipped, skipFrom, whenAccepted, skipRule, Decoded, room, filled, decodeFrom, decodeRule}
@@ -76,7 +76,7 @@ again : Line → Read → Decoded → List ℕ
 again l End d = []
 again l (Refused r) d = []
 again l (Row e) d =
-    let x = encodeRule (settings l) (l .format .table) (l .format .names) 0 (records (l .format .table)) (take (16 * e .records) (d .records)) (take (e .payload) (d .payload)) (replicate 12 0) 0 in
+    let x = encodeRule (settings l) (l .format .table) (l .format .names) 0 (records (l .format .table)) (take (valueRecordStart (e .records)) (d .records)) (take (e .payload) (d .payload)) (replicate 12 0) 0 in
     encodedAgain (x .answer) (x .output)
 
 -- what skip answers, what decode answers, and the bytes of the row encoded again
