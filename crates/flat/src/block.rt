@@ -1,7 +1,6 @@
 // The flat form of a schema block (2), and its depth (3).
 ghost use mathlib.Core.Path.{_≡_};
-ghost use Prim.Native.Nat.{_+_, _≤_};
-ghost use lib.ListN.{length};
+ghost use Prim.Native.Nat.{_+_};
 ghost use Rattle.rules.specs.Block.{spanOk, nameOk, childrenOk, recordOk, blockOk, Ordered, depthOf};
 use record::node::NODE_SIZE;
 use record::node::node_at;

@@ -8,9 +8,8 @@ use native.Mathlib.Omega.{arith}
 use native.Mathlib.Nat.{add-zero}
 use borrow.Author.Tests.{lt-leb, le-leb, ltb-true, ltb-false}
 use lib.Dec.{ltb, leb}
-use lib.ListN.{length, getD}
+use lib.ListN.{length}
 use Rattle.rules.specs.Choice.{pick, _and_, all}
-use Rattle.rules.specs.Bytes.{leAt}
 use Rattle.rules.specs.Wire.{Form, empty, truth, fixed, raw, sized, choice, series, fields, unknown, wireTypes, typeIn, typeOf, written, writtenIf, form, widthOf}
 use Rattle.rules.specs.Block.{nodeStart, nodeAt, Closed, Formed}
 use Rattle.rules.specs.declared.Refusal.{Refusal}

@@ -4,7 +4,7 @@ ghost use mathlib.Core.List.{[]};
 ghost use Prim.Native.Nat.{_+_, _≤_};
 ghost use lib.ListN.{length};
 ghost use Rattle.rules.specs.Bytes.{part};
-ghost use Rattle.rules.specs.Format.{entryCount, entryAt, referenceAt, lookup, resolved, tableSchema};
+ghost use Rattle.rules.specs.Format.{entryCount, lookup, resolved, tableSchema};
 ghost use Rattle.schema.specs.Slices.{slices, EntriesNamed, ReferencesNamed};
 use record::entry::ENTRY_SIZE;
 use record::entry::entry_at;

@@ -1,7 +1,7 @@
 use borrow.Author.Needs.{needs}
 use native.Mathlib.Omega.{arith}
 use Prim.Native.Nat.{ℕ}
-use mathlib.Core.Path.{refl, _∙_}
+use mathlib.Core.Path.{_∙_}
 use Rattle.fill.proofs.Leads.{reached-leaf, reached-children}
 use Rattle.fill.proofs.fill_value.Reads as fill-value
 use Rattle.fill.proofs.+fill_children+fill_value.Lts-fill_value as lts

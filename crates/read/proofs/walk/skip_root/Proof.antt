@@ -1,4 +1,4 @@
-use mathlib.Core.Path.{refl, sym, _∙_}
+use mathlib.Core.Path.{sym, _∙_}
 use Rattle.read.proofs.Root.{root-dear, root-paid, root-ready}
 use borrow.Author.Needs.{needs}
 use Rattle.read.proofs.walk.skip_root.Statement.{statement}
