@@ -23,7 +23,8 @@ extern "C" {
 #define SKIFF_DEFAULT_MAX_BLOB_BYTES UINT64_C(134217728)
 #define SKIFF_DEFAULT_MAX_ROW_BYTES UINT64_C(268435456)
 
-/* Why a call is refused. Some numbers belong to calls that are not in this header. */
+/* Why a call is refused. Some numbers belong to calls that are not in this header. `check-refusals` compares
+ * this list with the rules' table. */
 enum skiff_refusal {
     SKIFF_NO_REFUSAL = 0,
     SKIFF_SETTING = 1,                         /* a setting, a slice's length or a position */
@@ -32,21 +33,21 @@ enum skiff_refusal {
     SKIFF_UNEXPECTED_CHILDREN = 4,             /* carries type, count */
     SKIFF_TOO_MANY_CHILDREN = 5,               /* carries type, count, maximum */
     SKIFF_EMPTY_TABLE_SCHEMAS = 6,             /* a format without tables */
-    SKIFF_UNKNOWN_REGISTRY_REFERENCE = 7,      /* carries the table */
-    SKIFF_TABLE_SCHEMA_ROOT_MUST_BE_TUPLE = 8, /* carries the type found */
-    SKIFF_TABLE_SCHEMA_MUST_BE_TUPLE = 9,      /* the same in writing */
-    SKIFF_TABLE_SCHEMA_CHILD_MISSING_NAME = 10, /* carries the column's index */
-    SKIFF_MISSING_TABLE_SCHEMA = 11,           /* carries the table that a row names */
-    SKIFF_TRUNCATED = 12,                      /* carries what was cut: enum skiff_context */
-    SKIFF_ROW_TOO_LARGE = 13,                  /* carries the limit */
+    SKIFF_UNKNOWN_REGISTRY_REFERENCE = 7,      /* carries table */
+    SKIFF_TABLE_SCHEMA_ROOT_MUST_BE_TUPLE = 8, /* carries found: the root's type */
+    SKIFF_TABLE_SCHEMA_MUST_BE_TUPLE = 9,      /* carries found: the same in writing */
+    SKIFF_TABLE_SCHEMA_CHILD_MISSING_NAME = 10, /* carries index: the column's */
+    SKIFF_MISSING_TABLE_SCHEMA = 11,           /* carries index: the table that a row names */
+    SKIFF_TRUNCATED = 12,                      /* carries context: what was cut, enum skiff_context */
+    SKIFF_ROW_TOO_LARGE = 13,                  /* carries limit */
     SKIFF_BLOB_TOO_LARGE = 14,                 /* carries type, length, limit */
     SKIFF_VALUE_DOES_NOT_MATCH_SCHEMA = 15,    /* carries type, kind */
     SKIFF_TUPLE_LENGTH = 16,                   /* carries expected, actual */
     SKIFF_INVALID_VARIANT_TAG = 17,            /* carries type, tag, children */
     SKIFF_BAD_VALUE_TABLE = 18,
-    SKIFF_NO_NODE_ROOM = 19,                   /* carries the records needed */
-    SKIFF_NO_PAYLOAD_ROOM = 20,                /* carries the bytes needed */
-    SKIFF_NO_OUTPUT_ROOM = 21                  /* carries the bytes needed */
+    SKIFF_NO_NODE_ROOM = 19,                   /* carries needed: records */
+    SKIFF_NO_PAYLOAD_ROOM = 20,                /* carries needed: payload bytes */
+    SKIFF_NO_OUTPUT_ROOM = 21                  /* carries needed: output bytes */
 };
 
 /* What a stream was cut in. A type of fixed width has its own wire code, 1 to 12. */

@@ -9,14 +9,13 @@ use native.Mathlib.Omega.{arith}
 use borrow.Author.Tests.{le-leb, eq-eqb, eqb-false}
 use lib.ListN.{length}
 use Rattle.rules.specs.Choice.{pick}
-use Rattle.rules.specs.Refusals.{said, inOrder}
+use Rattle.rules.specs.Refusals.{lineOf, refusalNumber, inOrder, Setting, BadSchemaTable, TooDeep, TableSchemaMustBeTuple, TableSchemaChildMissingName}
 use Rattle.rules.specs.Schema.{deep, NonEmpty}
 use Rattle.rules.specs.Block.{nodeSize, block, nodeAt, nameIn, blockTree}
 use Rattle.rules.specs.SchemaRules.{notTuple, rootRule, nameRule, childRule, tableRule}
 use Rattle.rules.specs.Format.{blockDepthOk, blockRule, oneBlock, schemaAnswer, encoderRule}
 use Rattle.rules.specs.declared.Node.{Node}
 use Rattle.rules.specs.declared.Refusal.{Refusal}
-use Rattle.rules.specs.declared.Refusal.the-variants.{Setting, BadSchemaTable, TooDeep, TableSchemaMustBeTuple, TableSchemaChildMissingName}
 use Rattle.rules.specs.declared.Purpose.{Purpose}
 use Rattle.rules.specs.declared.Checked.{Checked}
 use Rattle.rules.specs.declared.Checked.the-variants.{Accepted, Refused}
@@ -149,24 +148,24 @@ module _ (table names : List ℕ) (first n : ℕ) where
 
 -- ---- the numbers alone
 module _ (table names : List ℕ) (first n : ℕ) where
-  schema-number : (r : Refusal) → SchemaReason table names first n r → said r .number ≤ 5
-  unfolding said
+  schema-number : (r : Refusal) → SchemaReason table names first n r → refusalNumber r ≤ 5
+  unfolding lineOf
   schema-number _ (too-long h) = omega arith
   schema-number _ (bad-form h) = omega arith
   schema-number _ (too-deep h) = omega arith
   schema-number _ (broken (unexpected i m h)) = omega arith
   schema-number _ (broken (too-many i m h)) = omega arith
 
-  table-number : (r : Refusal) → TableReason table names first n r → (said r .number ≤ 5) ⊎ ((said r .number ≡ 9) ⊎ (said r .number ≡ 10))
-  unfolding said
+  table-number : (r : Refusal) → TableReason table names first n r → (refusalNumber r ≤ 5) ⊎ ((refusalNumber r ≡ 9) ⊎ (refusalNumber r ≡ 10))
+  unfolding lineOf
   table-number r (of-schema h) = inl (schema-number r h)
   table-number _ (not-tuple h) = inr (inl refl)
   table-number _ (no-name l h) = inr (inr refl)
 
   -- A schema is refused by 1 to 5 alone.
-  pub schema-numbers : (r : Refusal) → schemaAnswer table names first n ≡ Refused r → said r .number ≤ 5
+  pub schema-numbers : (r : Refusal) → schemaAnswer table names first n ≡ Refused r → refusalNumber r ≤ 5
   schema-numbers r e = schema-number r (schema-honest table names first n r e)
 
   -- The encoder's block is refused by 1 to 5, 9 and 10 alone.
-  pub encoder-numbers : (r : Refusal) → encoderRule table names first n ≡ Refused r → (said r .number ≤ 5) ⊎ ((said r .number ≡ 9) ⊎ (said r .number ≡ 10))
+  pub encoder-numbers : (r : Refusal) → encoderRule table names first n ≡ Refused r → (refusalNumber r ≤ 5) ⊎ ((refusalNumber r ≡ 9) ⊎ (refusalNumber r ≡ 10))
   encoder-numbers r e = table-number r (encoder-honest table names first n r e)

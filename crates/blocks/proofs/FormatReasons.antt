@@ -10,15 +10,15 @@ use lib.ListN.{length}
 use lib.Dec.{eqb}
 use Rattle.rules.specs.Choice.{pick, _and_, all}
 use Rattle.rules.specs.Bytes.{part}
-use Rattle.rules.specs.Refusals.{said, _then_, inOrder}
+use Rattle.rules.specs.Refusals.{lineOf, refusalNumber, _then_, inOrder, Setting, BadSchemaTable, TooDeep, EmptyTableSchemas, UnknownRegistryReference, TableSchemaRootMustBeTuple, TableSchemaChildMissingName}
 use Rattle.rules.specs.Schema.{deep, NonEmpty}
 use Rattle.rules.specs.Block.{block, nodeAt, nameIn}
 use Rattle.rules.specs.SchemaRules.{notTuple}
 use Rattle.rules.specs.Format.{entryCount, Format, blockDepthOk, referenceAt, entryAt, entryName, resolved, tables, tableSchema, entryDepthOk, referenceDepthOk, depthsOk, entryRule, rootOf, inlineRule, referenceRule, rulesOrder, sizesOk, formatRules, formatRule}
+use Rattle.rules.specs.Good.{schemaFrom}
 use Rattle.rules.specs.declared.Located.{Located}
 use Rattle.rules.specs.declared.Located.the-variants.{Block, NoTable, NoEntry}
 use Rattle.rules.specs.declared.Refusal.{Refusal}
-use Rattle.rules.specs.declared.Refusal.the-variants.{Setting, BadSchemaTable, TooDeep, EmptyTableSchemas, UnknownRegistryReference, TableSchemaRootMustBeTuple, TableSchemaChildMissingName}
 use Rattle.rules.specs.declared.Purpose.{Purpose}
 use Rattle.rules.specs.declared.Checked.the-variants.{Refused}
 use Rattle.rules.proofs.Tests.{and-both, and-true, all-each}
@@ -26,7 +26,6 @@ use Rattle.blocks.proofs.Honest.{Broken, unexpected, too-many, Says, si
 use Rattle.blocks.proofs.BlockReasons.{refuted, says-map, says-else, says-each, block-says, deep-says, root-says}
 use Rattle.blocks.proofs.Lookup.{lookup-there, lookup-misses}
 use Rattle.blocks.proofs.Forms.{FormedInline, FormedName, FormedReference, Forms, forms-accept}
-use Rattle.blocks.proofs.Formats.{schemaFrom}
 
 module _ (f : Format) where
   -- The blocks of a format: those of its registry entries, and those of its inline references.
@@ -151,8 +150,8 @@ module _ (f : Format) where
   pub format-honest : (r : Refusal) → formatRule f ≡ Refused r → FormatReason f r
   format-honest r e = reason (rw e at format-says)
 
-  number : (r : Refusal) → FormatReason f r → (said r .number ≤ 8) ⊎ (said r .number ≡ 10)
-  unfolding said
+  number : (r : Refusal) → FormatReason f r → (refusalNumber r ≤ 8) ⊎ (refusalNumber r ≡ 10)
+  unfolding lineOf
   number _ (too-long h) = inl (omega arith)
   number _ (bad-form h) = inl (omega arith)
   number _ (too-deep b h) = inl (omega arith)
@@ -164,5 +163,21 @@ module _ (f : Format) where
   number _ (no-name h s k c) = inr refl
 
   -- So a format is refused by 1 to 8 and 10 alone.
-  pub format-numbers : (r : Refusal) → formatRule f ≡ Refused r → (said r .number ≤ 8) ⊎ (said r .number ≡ 10)
+  pub format-numbers : (r : Refusal) → formatRule f ≡ Refused r → (refusalNumber r ≤ 8) ⊎ (refusalNumber r ≡ 10)
   format-numbers r e = number r (format-honest r e)
+
+  stays : (r : Refusal) → FormatReason f r → lineOf (r .why) .moves ≡ false
+  unfolding lineOf
+  stays _ (too-long h) = refl
+  stays _ (bad-form h) = refl
+  stays _ (too-deep b h) = refl
+  stays _ (broken b (unexpected i m h)) = refl
+  stays _ (broken b (too-many i m h)) = refl
+  stays _ (no-tables h) = refl
+  stays _ (unknown h k n) = refl
+  stays _ (not-tuple h s c) = refl
+  stays _ (no-name h s k c) = refl
+
+  -- Where a format is refused, the place does not move with the stream.
+  pub format-stays : (r : Refusal) → formatRule f ≡ Refused r → lineOf (r .why) .moves ≡ false
+  format-stays r e = stays r (format-honest r e)

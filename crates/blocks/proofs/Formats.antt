@@ -1,20 +1,20 @@
 -- Which formats the check accepts.
 -- Assumes nothing.
-use Prim.Native.Nat.{ℕ, _+_, _%_, _≤_, _<_}
+use Prim.Native.Nat.{ℕ, _<_}
 use mathlib.Core.Path.{_≡_, refl}
 use mathlib.Core.Bool.{true}
 use mathlib.Core.Logic.{_⊎_, inl, inr, ⊎-elim, _↔_}
 use native.Mathlib.Omega.{arith}
 use borrow.Author.Tests.{leb-true, eqb-false, le-leb, eq-eqb, ne-eqb}
-use lib.ListN.{length}
 use lib.Dec.{eqb}
 use Rattle.rules.specs.Choice.{pick, all}
 use Rattle.rules.specs.Bytes.{part}
 use Rattle.rules.specs.Refusals.{_then_, inOrder}
-use Rattle.rules.specs.Schema.{Schema, TableRoot}
-use Rattle.rules.specs.Block.{nodeSize, block, blockTree}
+use Rattle.rules.specs.Schema.{TableRoot}
+use Rattle.rules.specs.Block.{block}
 use Rattle.rules.specs.SchemaRules.{tableRule}
-use Rattle.rules.specs.Format.{referenceSize, entrySize, entryCount, Format, blockDepthOk, referenceAt, entryAt, entryName, resolved, tables, entryDepthOk, referenceDepthOk, depthsOk, entryRule, rootOf, inlineRule, referenceRule, rulesOrder, sizesOk, formatRules, formatRule}
+use Rattle.rules.specs.Format.{entryCount, Format, blockDepthOk, referenceAt, entryAt, entryName, resolved, tables, entryDepthOk, referenceDepthOk, depthsOk, entryRule, rootOf, inlineRule, referenceRule, rulesOrder, sizesOk, formatRules, formatRule}
+use Rattle.rules.specs.Good.{GoodBlock, Ascending, schemaFrom, GoodEntry, Inline, ByName, GoodReference, GoodTables, GoodFormat}
 use Rattle.rules.specs.declared.Reference.{Reference}
 use Rattle.rules.specs.declared.Located.{Located}
 use Rattle.rules.specs.declared.Located.the-variants.{Block, NoTable, NoEntry}
@@ -23,58 +23,9 @@ use Rattle.rules.specs.declared.Checked.the-variants.{Accepted}
 use Rattle.rules.proofs.Tests.{and-both, and-true, all-each, all-true}
 use Rattle.rules.proofs.Checks.{refused-not, then-both, pick-accepted}
 use Rattle.blocks.proofs.Turns.{then-accepted, accepted-pick, none-refused, in-order-iff, in-turn}
-use Rattle.blocks.proofs.Good.{GoodBlock, form-accepts, passes, root-accepts}
-use Rattle.blocks.proofs.Lookup.{Ascending, lookup-finds}
+use Rattle.blocks.proofs.Good.{form-accepts, passes, root-accepts}
+use Rattle.blocks.proofs.Lookup.{lookup-finds}
 use Rattle.blocks.proofs.Forms.{FormedInline, FormedName, FormedReference, Forms, forms-accept}
-
-module _ (f : Format) where
-  -- The schema that n records from record `first` on denote, with the names of the format's store.
-  abbrev pub schemaFrom : ℕ → ℕ → Schema
-  schemaFrom first n = blockTree (block (f .table) first n) (f .names)
-
-  -- A registry entry: its name lies in the store, and its block is good.
-  pub record GoodEntry (j : ℕ) : Type 0 where
-    pub name : entryAt (f .registry) j .start + entryAt (f .registry) j .len ≤ length (f .names)
-    pub good : GoodBlock (f .table) (f .names) (entryAt (f .registry) j .first) (entryAt (f .registry) j .count)
-
-  -- An inline reference: kind 0, and a good block that is fit for a table.
-  pub record Inline (r : Reference) : Type 0 where
-    pub kind : r .kind ≡ 0
-    pub good : GoodBlock (f .table) (f .names) (r .start) (r .len)
-    pub root : TableRoot (schemaFrom (r .start) (r .len))
-
-  -- A reference by name: kind 1, a name that lies in the store and that an entry of the registry has, whose schema is fit for a table.
-  pub record ByName (r : Reference) : Type 0 where
-    pub kind : r .kind ≡ 1
-    pub name : r .start + r .len ≤ length (f .names)
-    pub entry : ℕ
-    pub below : entry < entryCount (f .registry)
-    pub same : entryName (f .names) (f .registry) entry ≡ part (f .names) (r .start) (r .len)
-    pub root : TableRoot (schemaFrom (entryAt (f .registry) entry .first) (entryAt (f .registry) entry .count))
-
-  -- A table reference: the bytes that have to be 0 are, and it is of one of the two kinds.
-  pub record GoodReference (r : Reference) : Type 0 where
-    pub spare : r .spare ≡ 0
-    pub rest : r .rest ≡ 0
-    pub either : Inline r ⊎ ByName r
-
-  -- Whole records in table, references and registry; at least one table; good entries, their names strictly ascending; good references.
-  pub record GoodTables : Type 0 where
-    pub whole-table : length (f .table) % nodeSize ≡ 0
-    pub whole-references : length (f .references) % referenceSize ≡ 0
-    pub whole-registry : length (f .registry) % entrySize ≡ 0
-    pub some : 0 < tables f
-    pub entries : (j : ℕ) → j < entryCount (f .registry) → GoodEntry j
-    pub ascends : Ascending (entryName (f .names) (f .registry)) (entryCount (f .registry))
-    pub references : (t : ℕ) → t < tables f → GoodReference (referenceAt (f .references) t)
-
-  -- Besides, each of the four slices has at most 4,294,967,295 bytes.
-  pub record GoodFormat : Type 0 where
-    pub table-size : length (f .table) ≤ 4294967295
-    pub names-size : length (f .names) ≤ 4294967295
-    pub references-size : length (f .references) ≤ 4294967295
-    pub registry-size : length (f .registry) ≤ 4294967295
-    pub good : GoodTables
 
 module _ (f : Format) where
   record Rooted (l : Located) : Type 0 where

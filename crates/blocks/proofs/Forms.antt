@@ -13,11 +13,11 @@ use Rattle.rules.specs.Choice.{pick, _and_}
 use Rattle.rules.specs.Bytes.{isLess}
 use Rattle.rules.specs.Block.{nodeSize}
 use Rattle.rules.specs.Format.{referenceSize, entrySize, entryCount, Format, blockFormOk, referenceAt, entryAt, entryName, tables, referenceOk, ascending, entryOk, referenceFormOk, formsOk}
+use Rattle.rules.specs.Good.{Ascending}
 use Rattle.rules.specs.declared.Reference.{Reference}
 use Rattle.rules.proofs.Tests.{and-both, and-true, all-each, all-true, pick-either}
 use Rattle.rules.proofs.Orders.{is-less}
 use Rattle.blocks.proofs.Good.{FormedBlock, form-accepts}
-use Rattle.blocks.proofs.Lookup.{Ascending}
 
 module _ (f : Format) where
   -- A registry entry: its name lies in the store, and its block is formed.

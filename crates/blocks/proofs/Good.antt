@@ -1,6 +1,6 @@
 -- One block of the record table by itself: what the check of a schema and the encoder's check accept.
 -- Assumes nothing.
-use Prim.Native.Nat.{ℕ, _+_, _%_, _≤_}
+use Prim.Native.Nat.{ℕ, _+_, _≤_}
 use mathlib.Core.Path.{_≡_}
 use mathlib.Core.Bool.{true}
 use mathlib.Core.List.{List}
@@ -9,8 +9,9 @@ use borrow.Author.Tests.{leb-true, eqb-true, le-leb, eq-eqb}
 use lib.ListN.{length}
 use Rattle.rules.specs.Refusals.{_then_}
 use Rattle.rules.specs.Schema.{deep, Valid, TableRoot}
-use Rattle.rules.specs.Block.{nodeSize, records, block, Formed, treeAt, blockTree, Ordered}
+use Rattle.rules.specs.Block.{records, block, Formed, treeAt, blockTree, Ordered}
 use Rattle.rules.specs.SchemaRules.{tableRule}
+use Rattle.rules.specs.Good.{GoodBlock, GoodSchema, GoodTable}
 use Rattle.rules.specs.Format.{blockFormOk, blockDepthOk, blockRule, oneBlock, schemaAnswer, encoderRules, encoderRule}
 use Rattle.rules.specs.declared.Purpose.{Purpose}
 use Rattle.rules.specs.declared.Checked.the-variants.{Accepted}
@@ -27,25 +28,6 @@ use Rattle.blocks.proofs.Roots.{table-accepts}
 pub record FormedBlock (table names : List ℕ) (first n : ℕ) : Type 0 where
   pub inside : first + n ≤ records table
   pub formed : Formed (block table first n) (length names)
-
--- A good block lies in the record table, has the form of a schema, is at most 64 deep, and its schema keeps the rules.
-pub record GoodBlock (table names : List ℕ) (first n : ℕ) : Type 0 where
-  pub inside : first + n ≤ records table
-  pub formed : Formed (block table first n) (length names)
-  pub depth : deep (blockTree (block table first n) names) ≤ 64
-  pub valid : Valid (blockTree (block table first n) names)
-
--- Slices that are not too long, a table of whole records, and a good block in it.
-pub record GoodSchema (table names : List ℕ) (first n : ℕ) : Type 0 where
-  pub table-size : length table ≤ 4294967295
-  pub names-size : length names ≤ 4294967295
-  pub whole : length table % nodeSize ≡ 0
-  pub good : GoodBlock table names first n
-
--- The encoder wants besides that the schema's root is a tuple whose children have non-empty names.
-pub record GoodTable (table names : List ℕ) (first n : ℕ) : Type 0 where
-  pub schema : GoodSchema table names first n
-  pub root : TableRoot (blockTree (block table first n) names)
 
 -- ---- the tree of a block that is not too deep
 pub tree-within : (s store : List ℕ) → Ordered s → deep (blockTree s store) ≤ 64 → treeAt s store 64 0 ≡ blockTree s store

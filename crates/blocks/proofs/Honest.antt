@@ -10,17 +10,17 @@ use lib.ListN.{length}
 use lib.Dec.{eqb}
 use Rattle.rules.specs.Choice.{pick, _and_, all}
 use Rattle.rules.specs.Wire.{form, written, writtenIf, typeOf, typeIn, wireTypes, maximum}
-use Rattle.rules.specs.Refusals.{_then_, inOrder}
-use Rattle.rules.specs.Block.{NodeIn, nodeAt, records, Closed, Shallow, Formed}
+use Rattle.rules.specs.Refusals.{_then_, inOrder, UnexpectedChildren, TooManyChildren}
+use Rattle.rules.specs.Block.{NodeIn, nodeAt, records, Closed, Formed}
 use Rattle.rules.specs.SchemaRules.{nodeRule, ruleAt, schemaRule}
 use Rattle.rules.specs.declared.Refusal.{Refusal}
-use Rattle.rules.specs.declared.Refusal.the-variants.{UnexpectedChildren, TooManyChildren}
 use Rattle.rules.specs.declared.Checked.{Checked}
 use Rattle.rules.specs.declared.Checked.the-variants.{Accepted, Refused}
 use Rattle.rules.specs.declared.Children.{Children}
 use Rattle.rules.specs.declared.Children.the-variants.{None, UpTo, Any, Unknown}
 use Rattle.rules.proofs.Tests.{all-each}
 use Rattle.blocks.proofs.Form.{closed}
+use Rattle.blocks.proofs.Levels.{Shallow}
 
 pub data Broken (s : List ℕ) (base : ℕ) : Refusal → Type 0 where
   unexpected : {i : ℕ} →

@@ -9,8 +9,13 @@ use native.Mathlib.Nat.{eq-or-lt-of-le}
 use native.Mathlib.Numerals.{add-one}
 use lib.ListN.{length}
 use Rattle.rules.specs.Schema.{Schema, Schemas, deep, deeps}
-use Rattle.rules.specs.Block.{nodeSize, NodeIn, nodeAt, records, treesFrom, treeAt, blockTree, Denotes, denotes, DenoteAll, no-node, a-node, Closed, Shallow, earlier, Ordered}
+use Rattle.rules.specs.Block.{nodeSize, NodeIn, nodeAt, records, treesFrom, treeAt, blockTree, Denotes, denotes, DenoteAll, no-node, a-node, Closed, earlier, Ordered}
 use Rattle.blocks.proofs.Form.{earlier-suc, earlier-mono, whole, closed, before}
+
+-- node i and all below it lie within d levels
+unfoldable pub Shallow : List ℕ → ℕ → ℕ → Type 0
+Shallow s zero i = ⊥
+Shallow s (suc d) i = (t : ℕ) → t < nodeAt s i .children → Shallow s d (nodeAt s i .first + t)
 
 -- how many records the first d levels have
 unfoldable pub edge : List ℕ → ℕ → ℕ

@@ -10,15 +10,12 @@ use native.Mathlib.Decide.{decLt}
 use Rattle.rules.specs.Choice.{pick}
 use Rattle.rules.specs.Bytes.{order, isEqual}
 use Rattle.rules.specs.Format.{entryCount, entryAt, entryName, lookup}
+use Rattle.rules.specs.Good.{Ascending}
 use Rattle.rules.specs.declared.Order.{Order}
 use Rattle.rules.specs.declared.Order.the-variants.{Less, Equal, Greater}
 use Rattle.rules.specs.declared.Located.{Located}
 use Rattle.rules.specs.declared.Located.the-variants.{Block, NoTable, NoEntry}
 use Rattle.rules.proofs.Orders.{order-equal, order-same, order-less-trans}
-
--- Strictly ascending: each of n names is less than the one after it.
-abbrev pub Ascending : (ℕ → List ℕ) → ℕ → Type 0
-Ascending name n = (j : ℕ) → j + 1 < n → order (name j) (name (j + 1)) ≡ Less
 
 -- ---- ascending names
 

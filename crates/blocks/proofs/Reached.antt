@@ -6,18 +6,10 @@ use mathlib.Core.List.{List}
 use mathlib.Core.Logic.{⊎-elim}
 use native.Mathlib.Omega.{arith}
 use native.Mathlib.Nat.{eq-or-lt-of-le}
-use Rattle.rules.specs.Schema.{Schema, node, Schemas, nil, cons}
+use Rattle.rules.specs.Schema.{nodes, nodesAll}
 use Rattle.rules.specs.Block.{nodeAt, records, treesFrom, treeAt, blockTree, earlier, Ordered}
 use Rattle.blocks.proofs.Form.{earlier-suc, earlier-mono}
 use Rattle.blocks.proofs.Levels.{edge, first-of, edge-within, edge-stays, edge-up, edge-all}
-
-unfoldable mutual
-  pub nodes : Schema → ℕ
-  nodes (node k m ss) = suc (nodesAll ss)
-
-  pub nodesAll : Schemas → ℕ
-  nodesAll nil = 0
-  nodesAll (cons s ss) = nodes s + nodesAll ss
 
 module _ (s store : List ℕ) (f : Ordered s) where
   -- the nodes of n trees from i on, looked at to depth d

@@ -10,7 +10,7 @@ use Rattle.rules.specs.Choice.{pick}
 use Rattle.rules.specs.Wire.{form, writtenIf, typeOf, typeIn, wireTypes, maximum}
 use Rattle.rules.specs.Refusals.{_then_, inOrder}
 use Rattle.rules.specs.Schema.{Schema, count, Allows, Valid, valid, ValidAll, no-schema, a-schema}
-use Rattle.rules.specs.Block.{nodeAt, nameIn, treesFrom, treeAt, Shallow}
+use Rattle.rules.specs.Block.{nodeAt, nameIn, treesFrom, treeAt}
 use Rattle.rules.specs.SchemaRules.{nodeRule, ruleAt, schemaRule, firstOf, listed, preorder}
 use Rattle.rules.specs.declared.Node.{Node}
 use Rattle.rules.specs.declared.Checked.{Checked}
@@ -18,6 +18,7 @@ use Rattle.rules.specs.declared.Checked.the-variants.{Accepted}
 use Rattle.rules.specs.declared.Children.{Children}
 use Rattle.rules.specs.declared.Children.the-variants.{None, UpTo, Any, Unknown}
 use Rattle.rules.proofs.Checks.{refused-not, then-both, then-assoc, pick-accepted}
+use Rattle.blocks.proofs.Levels.{Shallow}
 
 -- one level
 pub schemaRule-suc : (s : List ℕ) (base d i : ℕ) → (d ≡ 0 → ⊥) → schemaRule s base d i ≡ nodeRule (base + i) (nodeAt s i) (maximum (form (nodeAt s i .code))) then inOrder (schemaRule s base (d - 1)) (nodeAt s i .first) (nodeAt s i .children)

@@ -19,7 +19,7 @@ use Rattle.rules.specs.ValueTable.{flat, pays}
 use Rattle.rules.specs.Walk.{Limits, Pos, Answer, Got, Refused, walk, _>>=_}
 use Rattle.rules.specs.Reading.{start, extent, skipped, Decoded, room, untouched, filled}
 use Rattle.rules.specs.declared.Refusal.{Refusal}
-use Rattle.rules.specs.declared.Refusal.the-variants.{NoNodeRoom, NoPayloadRoom}
+use Rattle.rules.specs.Refusals.{NoNodeRoom, NoPayloadRoom}
 use Rattle.rules.specs.declared.Located.the-variants.{Block}
 use Rattle.rules.specs.declared.Checked.the-variants.{Accepted}
 use Rattle.rules.specs.declared.Extent.{Extent}

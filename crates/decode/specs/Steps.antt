@@ -7,7 +7,7 @@ use lib.Dec.{leb}
 use Rattle.rules.specs.Choice.{pick}
 use Rattle.rules.specs.Block.{records, block}
 use Rattle.rules.specs.ValueRecord.{valueRecordsIn}
-use Rattle.rules.specs.declared.Refusal.the-variants.{NoNodeRoom, NoPayloadRoom}
+use Rattle.rules.specs.Refusals.{NoNodeRoom, NoPayloadRoom}
 use Rattle.rules.specs.declared.Extent.{Extent}
 use Rattle.rules.specs.declared.Read.{Read}
 use Rattle.rules.specs.declared.Read.the-variants.{Row, Refused}

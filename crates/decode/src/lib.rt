@@ -32,10 +32,10 @@ pub fn next_row(
     ensures payload { λ r. ⌜ now (payload .exit) ≡ decodeRule (slices (now (table .entry)) (now (names .entry)) (now (references .entry)) (now (registry .entry))) settings (now (input .entry)) position (now (records .entry)) (now (payload .entry)) .payload ⌝ }
 {
     if !within_bounds(settings, table, names, references, registry, input) {
-        return Read::Refused(Refusal::Setting);
+        return Read::Refused(Refusal::SETTING);
     }
     if (input.len() as u64) < position {
-        return Read::Refused(Refusal::Setting);
+        return Read::Refused(Refusal::SETTING);
     }
     let format = format_rules(table, names, references, registry);
     let Checked::Accepted = format else {

@@ -15,17 +15,17 @@ use fill::fill_row;
 use record::node::NODE_SIZE;
 use record::value::records_in;
 use rules::Extent;
+use rules::LONGEST;
 use rules::Read;
 use rules::Refusal;
 use rules::Settings;
+use rules::Why;
 use stream::row::Place;
 use stream::row::block_at;
 use stream::row::no_row;
 use stream::row::row_of;
 
 // Of a slice to be written only so many bytes count.
-const LONGEST: usize = 4294967295;
-
 fn room_in(len: usize) -> u64
     ensures { λ r. ⌜ r ≡ min len 4294967295 ⌝ }
 {
@@ -40,14 +40,18 @@ pub fn room_for(row: Extent, at: usize, records: usize, payload: usize) -> Read
     ensures { λ r. ⌜ r ≡ roomFor at (min records 4294967295) (min payload 4294967295) row ⌝ }
 {
     if records_in(room_in(records)) < row.records {
-        return Read::Refused(Refusal::NoNodeRoom {
-            needed: row.records,
+        return Read::Refused(Refusal {
+            why: Why::NoNodeRoom {
+                needed: row.records,
+            },
             place: at as u64,
         });
     }
     if room_in(payload) < row.payload {
-        return Read::Refused(Refusal::NoPayloadRoom {
-            needed: row.payload,
+        return Read::Refused(Refusal {
+            why: Why::NoPayloadRoom {
+                needed: row.payload,
+            },
             place: at as u64,
         });
     }

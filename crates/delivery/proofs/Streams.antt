@@ -13,7 +13,7 @@ use Rattle.rules.specs.Bytes.{Bytes, part, over}
 use Rattle.rules.specs.Format.{Format, sizesOk, shortOk}
 use Rattle.rules.specs.Reading.{settingsOk, defaults, refusedRun, runRule, rowCount, byteCount, ranOf}
 use Rattle.rules.specs.Windows.{goesOn, movedStop, added}
-use Rattle.rules.specs.declared.Refusal.the-variants.{Setting}
+use Rattle.rules.specs.Refusals.{Setting}
 use Rattle.rules.specs.declared.Stop.{Stop}
 use Rattle.rules.specs.declared.Ran.{Ran}
 use Rattle.rules.proofs.Tests.{and-false}

@@ -13,39 +13,16 @@ fn say_number(n: u64) {
     io::print_decimal(STDOUT_FILENO, n);
 }
 
-// Document 01's name of a refusal from 11 on: of a row, of a value table, of a lent slice.
-fn say_row_name(why: Refusal) {
-    match why {
-        Refusal::MissingTableSchema { .. } => say(b"MissingTableSchema"),
-        Refusal::Truncated { .. } => say(b"Truncated"),
-        Refusal::RowTooLarge { .. } => say(b"RowTooLarge"),
-        Refusal::BlobTooLarge { .. } => say(b"BlobTooLarge"),
-        Refusal::ValueDoesNotMatchSchema { .. } => say(b"ValueDoesNotMatchSchema"),
-        Refusal::TupleLength { .. } => say(b"TupleLength"),
-        Refusal::InvalidVariantTag { .. } => say(b"InvalidVariantTag"),
-        Refusal::BadValueTable => say(b"BadValueTable"),
-        Refusal::NoNodeRoom { .. } => say(b"NoNodeRoom"),
-        Refusal::NoPayloadRoom { .. } => say(b"NoPayloadRoom"),
-        Refusal::NoOutputRoom { .. } => say(b"NoOutputRoom"),
-        _ => {}
+// Document 01's name of a refusal, which is followed by blanks.
+fn say_name(name: [u8; 28]) {
+    let mut n = 0;
+    while n < 28 {
+        if name[n] == b' ' {
+            break;
+        }
+        n += 1;
     }
-}
-
-// Document 01's name of a refusal. In two functions, since what is to be proved of one `match` over all is a third longer.
-fn say_name(why: Refusal) {
-    match why {
-        Refusal::Setting => say(b"Setting"),
-        Refusal::BadSchemaTable => say(b"BadSchemaTable"),
-        Refusal::TooDeep => say(b"TooDeep"),
-        Refusal::UnexpectedChildren { .. } => say(b"UnexpectedChildren"),
-        Refusal::TooManyChildren { .. } => say(b"TooManyChildren"),
-        Refusal::EmptyTableSchemas => say(b"EmptyTableSchemas"),
-        Refusal::UnknownRegistryReference { .. } => say(b"UnknownRegistryReference"),
-        Refusal::TableSchemaRootMustBeTuple { .. } => say(b"TableSchemaRootMustBeTuple"),
-        Refusal::TableSchemaMustBeTuple { .. } => say(b"TableSchemaMustBeTuple"),
-        Refusal::TableSchemaChildMissingName { .. } => say(b"TableSchemaChildMissingName"),
-        _ => say_row_name(why),
-    }
+    say(&name[0..n]);
 }
 
 fn write_end(rows: u64, bytes: u64) {
@@ -56,14 +33,16 @@ fn write_end(rows: u64, bytes: u64) {
     say(b"\n");
 }
 
-fn write_refusal(why: Refusal, rows: u64, bytes: u64) {
-    let report = why.in_numbers();
+fn write_refusal(refusal: Refusal, rows: u64, bytes: u64) {
+    let why = refusal.why;
+    let line = why.line();
+    let name = line.name;
     say(b"refused ");
-    say_number(report.number);
+    say_number(line.number as u64);
     say(b" ");
-    say_name(why);
+    say_name(name);
     say(b" at ");
-    say_number(report.place);
+    say_number(refusal.place);
     say(b" after ");
     say_number(rows);
     say(b" rows, ");
@@ -75,7 +54,7 @@ pub fn write_run(ran: Ran) {
     let stop = ran.stop;
     match stop {
         Stop::End => write_end(ran.rows, ran.bytes),
-        Stop::Refused(why) => write_refusal(why, ran.rows, ran.bytes),
+        Stop::Refused(refusal) => write_refusal(refusal, ran.rows, ran.bytes),
     }
 }
 

@@ -33,46 +33,18 @@ fn goes_on(stop: Stop) -> bool
 }
 
 // A refusal of a window, told of the stream in which the window starts at `by`.
-fn moved(why: Refusal, by: u64) -> Refusal
-    requires { ⌜ Inside 4294967295 why × (by ≤ 4294967295) ⌝ }
-    ensures { λ r. ⌜ r ≡ Windows·moved by why ⌝ }
+fn moved(refusal: Refusal, by: u64) -> Refusal
+    requires { ⌜ Inside 4294967295 refusal × (by ≤ 4294967295) ⌝ }
+    ensures { λ r. ⌜ r ≡ Windows·moved by refusal ⌝ }
 {
-    match why {
-        Refusal::MissingTableSchema { index, place } => Refusal::MissingTableSchema {
-            index,
-            place: place + by,
-        },
-        Refusal::Truncated { context, place } => Refusal::Truncated {
-            context,
-            place: place + by,
-        },
-        Refusal::RowTooLarge { limit, place } => Refusal::RowTooLarge {
-            limit,
-            place: place + by,
-        },
-        Refusal::BlobTooLarge {
-            wire_type,
-            length,
-            limit,
-            place,
-        } => Refusal::BlobTooLarge {
-            wire_type,
-            length,
-            limit,
-            place: place + by,
-        },
-        Refusal::InvalidVariantTag {
-            wire_type,
-            tag,
-            children,
-            place,
-        } => Refusal::InvalidVariantTag {
-            wire_type,
-            tag,
-            children,
-            place: place + by,
-        },
-        _ => why,
+    let why = refusal.why;
+    let line = why.line();
+    if !line.moves {
+        return refusal;
+    }
+    Refusal {
+        why,
+        place: refusal.place + by,
     }
 }
 
@@ -229,7 +201,7 @@ pub fn run_stream(fd: i32, space: &mut [u8], x: usize, y: usize, z: usize, w: us
         }
         read += got as u64;
         if LONGEST < read {
-            return Outcome::Told(nothing(Stop::Refused(Refusal::Setting)));
+            return Outcome::Told(nothing(Stop::Refused(Refusal::SETTING)));
         }
         let reading = take_in(ran, space, x, y, z, w, end + got);
         ran = reading.ran;

@@ -15,7 +15,7 @@ use Rattle.rules.specs.Walk as rule
 use Rattle.rules.specs.Walk.{Limits, Pos, Answer, Refused, Walker, numberOf, bytesOf, charged, blobOf, childOf, pairsOf, fieldsOf, walk, after}
 use Rattle.rules.specs.declared.Node.{Node}
 use Rattle.rules.specs.declared.Refusal.{Refusal}
-use Rattle.rules.specs.declared.Refusal.the-variants.{RowTooLarge}
+use Rattle.rules.specs.Refusals.{RowTooLarge}
 use Rattle.rows.proofs.Sound.{sound}
 use Rattle.fill.specs.Plain.{Reading, Got, _>>=_, valueOf, numberAt, bytesAt, leafAt, Reader, childAt, pairsAt, fieldsAt, byForm, readAt}
 

@@ -2,5 +2,4 @@ pub mod Turns
 pub mod Columns
 pub mod Parts
 pub mod Depth
-pub mod Leaves
 pub mod Stands

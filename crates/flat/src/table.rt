@@ -66,13 +66,13 @@ pub fn block_stands(table: &[u8], names: &[u8], first: u64, count: u64) -> Check
     ensures { λ r. ⌜ r ≡ oneBlock (now (table .entry)) (now (names .entry)) first count Accepted ⌝ }
 {
     if table.len() % NODE_SIZE != 0 {
-        return Checked::Refused(Refusal::BadSchemaTable);
+        return Checked::Refused(Refusal::BAD_SCHEMA_TABLE);
     }
     if !block_form_ok(table, names.len() as u64, first, count) {
-        return Checked::Refused(Refusal::BadSchemaTable);
+        return Checked::Refused(Refusal::BAD_SCHEMA_TABLE);
     }
     if block_depth_ok(table, first, count) {
         return Checked::Accepted;
     }
-    Checked::Refused(Refusal::TooDeep)
+    Checked::Refused(Refusal::TOO_DEEP)
 }

@@ -1,18 +1,17 @@
 // The schema rules on a block, in the Rust's order (4, 5), and a table's root and names (8, 9, 10).
 ghost use mathlib.Core.Path.{_≡_};
-ghost use mathlib.Core.Bool.{true};
-ghost use Prim.Native.Nat.{ℕ, _+_, _^_, _≤_, _<_};
+ghost use Prim.Native.Nat.{_+_, _^_, _≤_, _<_};
 ghost use lib.ListN.{length};
 ghost use Rattle.rules.specs.Wire.{form, maximum};
 ghost use Rattle.rules.specs.Block.{nodeSize, NodeIn, records, Closed};
 ghost use Rattle.rules.specs.SchemaRules.{nodeRule, schemaRule, notTuple, rootRule, nameRule, tableRule};
-ghost use Rattle.rules.specs.declared.Checked.the-variants.{Accepted};
 use record::node::node_at;
 use rules::Checked;
 use rules::Children;
 use rules::Node;
 use rules::Purpose;
 use rules::Refusal;
+use rules::Why;
 
 // What the rules say of a node by itself.
 fn node_rule(place: u64, n: Node) -> Checked
@@ -26,9 +25,11 @@ fn node_rule(place: u64, n: Node) -> Checked
             if children == 0 {
                 return Checked::Accepted;
             }
-            Checked::Refused(Refusal::UnexpectedChildren {
-                wire_type: code,
-                count: children,
+            Checked::Refused(Refusal {
+                why: Why::UnexpectedChildren {
+                    wire_type: code,
+                    count: children,
+                },
                 place,
             })
         }
@@ -36,33 +37,18 @@ fn node_rule(place: u64, n: Node) -> Checked
             if children <= maximum {
                 return Checked::Accepted;
             }
-            Checked::Refused(Refusal::TooManyChildren {
-                wire_type: code,
-                count: children,
-                maximum,
+            Checked::Refused(Refusal {
+                why: Why::TooManyChildren {
+                    wire_type: code,
+                    count: children,
+                    maximum,
+                },
                 place,
             })
         }
         Children::Any => Checked::Accepted,
-        Children::Unknown => Checked::Refused(Refusal::BadSchemaTable),
+        Children::Unknown => Checked::Refused(Refusal::BAD_SCHEMA_TABLE),
     }
-}
-
-// A leaf without children is never refused, unless no depth is left for it: it needs no call.
-fn plain_leaf(s: &[u8], depth: u64, i: u64) -> bool
-    requires { ⌜ NodeIn i (length (now s)) ⌝ }
-    ensures { λ r. ⌜ ((base : ℕ) → r ≡ true → schemaRule (now (s .entry)) base depth i ≡ Accepted) ⌝ }
-{
-    if depth == 0 {
-        return false;
-    }
-    let n = node_at(s, i);
-    let code = n.code;
-    if 14 < code {
-        return false;
-    }
-    let children = n.children;
-    children == 0
 }
 
 // The first refusal in preorder: a node before its children, its children in order. `base` is the block's first record in
@@ -72,7 +58,7 @@ pub fn validate(s: &[u8], base: u64, depth: u64, i: u64) -> Checked
     ensures { λ r. ⌜ r ≡ schemaRule (now (s .entry)) base depth i ⌝ }
 {
     if depth == 0 {
-        return Checked::Refused(Refusal::TooDeep);
+        return Checked::Refused(Refusal::TOO_DEEP);
     }
     let n = node_at(s, i);
     let own = node_rule(base + i, n);
@@ -83,14 +69,12 @@ pub fn validate(s: &[u8], base: u64, depth: u64, i: u64) -> Checked
     let children = n.children;
     let mut k = 0;
     while k < children {
-        if !plain_leaf(s, depth - 1, first + k) {
-            // Copied for the call: so it is the copy that has to lie in memory.
-            let block = s;
-            let below = validate(block, base, depth - 1, first + k);
-            let Checked::Accepted = below else {
-                return below;
-            };
-        }
+        // Copied for the call: so it is the copy that has to lie in memory.
+        let block = s;
+        let below = validate(block, base, depth - 1, first + k);
+        let Checked::Accepted = below else {
+            return below;
+        };
         k += 1;
     }
     Checked::Accepted
@@ -101,8 +85,14 @@ fn not_tuple(purpose: Purpose, found: u8, place: u64) -> Refusal
     ensures { λ r. ⌜ r ≡ notTuple purpose found place ⌝ }
 {
     match purpose {
-        Purpose::Format => Refusal::TableSchemaRootMustBeTuple { found, place },
-        Purpose::Encoder => Refusal::TableSchemaMustBeTuple { found, place },
+        Purpose::Format => Refusal {
+            why: Why::TableSchemaRootMustBeTuple { found },
+            place,
+        },
+        Purpose::Encoder => Refusal {
+            why: Why::TableSchemaMustBeTuple { found },
+            place,
+        },
     }
 }
 
@@ -127,7 +117,10 @@ fn name_rule(place: u64, index: u64, n: Node) -> Checked
             return Checked::Accepted;
         }
     }
-    Checked::Refused(Refusal::TableSchemaChildMissingName { index, place })
+    Checked::Refused(Refusal {
+        why: Why::TableSchemaChildMissingName { index },
+        place,
+    })
 }
 
 // A table's root is a tuple, and each of its direct children has a name.

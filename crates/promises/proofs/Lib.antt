@@ -1,3 +1,4 @@
-pub mod RoundTrip
+pub mod Apart
 pub mod Tables
+pub mod RoundTrip
 pub mod Promises

@@ -1,116 +1,169 @@
--- Demand 3 on the rules of the whole calls: what is encoded, exactly when, and that it reads back.
+-- Demand 3 on the rules of the whole calls: what is encoded, exactly when, what is refused in which order, and that a row reads back.
 -- Assumes nothing.
 use Prim.Native.Nat.{ℕ, _+_, _-_, _≤_, _<_}
-use mathlib.Core.Path.{_≡_, refl, _∙_}
+use mathlib.Core.Path.{_≡_, refl, sym, ap, _∙_}
 use mathlib.Core.Bool.{Bool, true, false}
 use mathlib.Core.List.{List, _++_}
+use mathlib.Core.Logic.{_↔_}
 use native.Mathlib.Omega.{arith}
-use borrow.Author.Tests.{leb-true, le-leb}
+use borrow.Author.Tests.{leb-true, leb-false, le-leb, lt-leb}
 use lib.Dec.{leb}
-use lib.ListN.{length}
+use lib.ListN.{length, take, drop}
+use lib.Seq.{length-take-le}
 use Rattle.rules.specs.Choice.{pick, _and_}
-use Rattle.rules.specs.Bytes.{le, over}
+use Rattle.rules.specs.Bytes.{le, part, over}
+use Rattle.rules.specs.Refusals.{Setting, NoOutputRoom, lineOf}
 use Rattle.rules.specs.Schema.{Schema}
-use Rattle.rules.specs.Block.{block, blockTree, Denotes}
-use Rattle.rules.specs.Format.{Format, tables, encoderRules, encoderRule}
-use Rattle.rules.specs.Value.{Value, nothing, boolean, number, wide, blob, variant, repeated, tuple, Items, done, item, Values, none, more, Within, WithinI, WithinV, costs, recordsOf, payloadOf}
-use Rattle.rules.specs.ValueTable.{TableOf}
-use Rattle.rules.specs.Grammar.{Row, table-row, Conforms, encoded, encodedRow}
-use Rattle.rules.specs.Walk.{Limits, blobLimit, Pos, after}
-use Rattle.rules.specs.Reading.{settingsOk, limits, start, schemaOf, Accepts, extent, whenAccepted, Decoded, room, recordRoom, decodeRule}
-use Rattle.rules.specs.Writing.{Wrote, Put, writeRow, Encoded, unwritten, placed, encodeValue, encodeRule}
+use Rattle.rules.specs.Block.{block}
+use Rattle.rules.specs.Format.{Format, encoderRules, encoderRule}
+use Rattle.rules.specs.Value.{Value, nothing, boolean, number, wide, blob, variant, repeated, tuple, Items, done, item, Values, none, more, Within, WithinI, WithinV, recordsOf, payloadOf}
+use Rattle.rules.specs.ValueTable.{TableOf, Parsed, Whole, Broken, tableValue}
+use Rattle.rules.specs.Grammar.{Row, table-row, encoded, encodedRow}
+use Rattle.rules.specs.Walk.{blobLimit, Pos, after}
+use Rattle.rules.specs.Reading.{limits, start, schemaOf, Accepts, extent, whenAccepted, room, recordRoom, decodeRule}
+use Rattle.rules.specs.Answers.{Said, said, rowSaid, writtenSaid}
+use Rattle.rules.specs.Writing.{Wrote, Put, writeRow, Encoded, unwritten, placed, encodeValue, encodeOk, encodeRule, encodeFrom}
+use Rattle.rules.specs.RoundTrip.{EncodeAsked, Encodable, encodedInto, EncodeRefuses, by-setting, by-schema, by-table, by-row, by-room, ReadAsked, decodedAs}
 use Rattle.rules.specs.declared.Settings.{Settings}
 use Rattle.rules.specs.declared.Refusal.{Refusal}
 use Rattle.rules.specs.declared.Checked.{Checked}
-use Rattle.rules.specs.declared.Read.{Read}
+use Rattle.rules.specs.declared.Extent.{Extent}
 use Rattle.rules.specs.declared.Written.{Written}
-use Rattle.blocks.proofs.Good.{GoodTable, encoder-accepts}
-use Rattle.blocks.proofs.Levels.{block-denotes}
-use Rattle.blocks.proofs.Formats.{rules-accept}
+use Rattle.rules.proofs.Tests.{and-both}
+use Rattle.rules.proofs.Checks.{pick-accepted}
+use Rattle.rules.proofs.Answers.{refusal-number, one-row}
+use Rattle.rules.proofs.Stands.{stands-seam, stands-part}
+use Rattle.rules.proofs.Over.{over-is}
 use Rattle.rows.proofs.Conform.{encoded-row}
-use Rattle.rules.proofs.Stands.{stands-seam}
 use Rattle.rows.proofs.Decoding.{Asked, decode-accepts, decodedRow}
-use Rattle.values.proofs.Flat.{accepted}
+use Rattle.values.proofs.Parse.{is-table}
+use Rattle.values.proofs.Flat.{accepted, no-table}
 use Rattle.values.proofs.Written.{writes-row}
+use Rattle.promises.proofs.Tables.{Stood, stood, table-encodes}
+
+-- ---- refused encodes
+
+module _ (s : Settings) (table names : List ℕ) (first n : ℕ) (recs pay out : List ℕ) (at : ℕ) where
+  abbrev encode : Encoded
+  encode = encodeRule s table names first n recs pay out at
+
+  abbrev Refuses : Said → Type 0
+  Refuses = EncodeRefuses s table names first n recs pay out at
+
+  -- a row that was written
+  abbrev wrote : Value → List ℕ → Encoded
+  wrote v b = record { answer = Written.Row (record { table = 0; bytes = length b; records = recordsOf v; payload = payloadOf v }); output = over out at b }
+
+  -- how an encode ends: refused, with the output as it was; or with a row
+  data Ends : Encoded → Type 0 where
+    refuses : {r : Refusal} → Refuses (said r) → Ends (unwritten out r)
+    writes : (v : Value) (b : List ℕ) → Ends (wrote v b)
+
+  records-short : encodeOk s table names recs pay out at ≡ true → length recs ≤ 4294967295
+  unfolding encodeOk
+  records-short ok = leb-true _ _ (and-both _ _ (and-both _ _ (and-both _ _ ok .0) .0) .1)
+
+  ends : Ends encode
+  unfolding encodeRule said lineOf
+  ends = settings (encodeOk s table names recs pay out at) refl
+    where
+      row : encodeOk s table names recs pay out at ≡ true → encoderRules table names first n ≡ Checked.Accepted → (v : Value) → TableOf v recs pay →
+          (w : Wrote) → writeRow (block table first n) (limits s) v ≡ w → Ends (placed v out at w)
+      row ok a v is (Put b) e = unfold placed in fits (leb (at + length b) (room out)) refl
+        where
+          fits : (t : Bool) → leb (at + length b) (room out) ≡ t → Ends (pick t (wrote v b) (unwritten out (NoOutputRoom (length b) at)))
+          fits true q = unfold pick in writes v b
+          fits false q = unfold pick in refuses (by-room ok a is e (leb-false _ _ q))
+      row ok a v is (Wrote.Refused r) e = unfold placed in refuses (by-row ok a is e)
+
+      value : encodeOk s table names recs pay out at ≡ true → encoderRules table names first n ≡ Checked.Accepted → (p : Parsed Value) → tableValue recs pay ≡ p → Ends (encodeValue (block table first n) (limits s) p out at)
+      value ok a (Whole v q) e = unfold encodeValue in row ok a v (is-table recs pay v q e) (writeRow (block table first n) (limits s) v) refl
+      value ok a Broken e = unfold encodeValue in refuses (by-table ok a (no-table recs pay (records-short ok) .0 e))
+
+      schema : encodeOk s table names recs pay out at ≡ true → (c : Checked) → encoderRules table names first n ≡ c → Ends (whenAccepted (unwritten out) c (encodeValue (block table first n) (limits s) (tableValue recs pay) out at))
+      schema ok Checked.Accepted e = unfold whenAccepted in value ok e (tableValue recs pay) refl
+      schema ok (Checked.Refused r) e = unfold whenAccepted in refuses (by-schema ok e)
+
+      settings : (b : Bool) → encodeOk s table names recs pay out at ≡ b → Ends (pick b (whenAccepted (unwritten out) (encoderRules table names first n) (encodeValue (block table first n) (limits s) (tableValue recs pay) out at)) (unwritten out Setting))
+      settings true e = unfold pick in schema e (encoderRules table names first n) refl
+      settings false e = unfold pick in refuses (by-setting e)
+
+  ended : {d : Encoded} → Ends d → 0 < writtenSaid (d .answer) .number → (d .output ≡ out) × Refuses (writtenSaid (d .answer))
+  unfolding writtenSaid rowSaid
+  ended (refuses h) l = (refl, h)
+  ended (writes v b) l = absurd (omega arith)
+
+  -- a refused encode leaves the output
+  pub refused-leaves : 0 < writtenSaid (encode .answer) .number → encode .output ≡ out
+  refused-leaves l = ended ends l .0
+
+  -- it says x just if x is what the order says
+  pub refused-in-order : (x : Said) → 0 < x .number → (writtenSaid (encode .answer) ≡ x) ↔ Refuses x
+  unfolding encodeRule pick whenAccepted encodeValue placed writtenSaid said lineOf
+  refused-in-order x l = (λ e. rw e at (ended ends (rw e l) .1), by)
+    where
+      by : {x : Said} → Refuses x → writtenSaid (encode .answer) ≡ x
+      by (by-setting e) = rw e
+      by (by-schema ok e) = rw (ok, e)
+      by (by-table ok a h) = rw (ok, a, no-table recs pay (records-short ok) .1 h)
+      by (by-row {v = v} ok a is e) = rw (ok, a, accepted recs pay v (records-short ok) is, e)
+      by (by-room {v = v} {b = b} ok a is e l) = rw (ok, a, accepted recs pay v (records-short ok) is, e, lt-leb (at + length b) (room out) l)
 
 -- ---- encoding
 
--- the settings and slices lie inside document 01's bounds, the position lies in the output, and the encoder's schema is accepted
-pub record EncodeAsked (s : Settings) (table names : List ℕ) (first n : ℕ) (recs pay out : List ℕ) (at : ℕ) : Type 0 where
-  pub settings : settingsOk s ≡ true
-  pub records-short : length recs ≤ 4294967295
-  pub payload-short : length pay ≤ 4294967295
-  pub position : at ≤ room out
-  pub schema : encoderRule table names first n ≡ Checked.Accepted
+module _ (f : Format) (s : Settings) (first n : ℕ) (recs pay out : List ℕ) (at : ℕ) (ok : EncodeAsked f s first n recs pay out at) (v : Value) (is : TableOf v recs pay) where
+  abbrev encoding : Encoded
+  encoding = encodeFrom f s first n recs pay out at
 
--- it conforms to the schema, each blob is within its limit, and the row fits the output
-pub record Encodable (sch : Schema) (lim : Limits) (v : Value) (out : List ℕ) (at : ℕ) : Type 0 where
-  pub conforms : Conforms sch v
-  pub within : Within (blobLimit lim) v
-  pub fits : at + length (encodedRow sch v) ≤ room out
+  here : Stood f 0 first n
+  here = stood f (ok .format) 0 first n (ok .block)
 
--- the answer and the output of an accepted encode
-abbrev pub encodedInto : Schema → Value → List ℕ → ℕ → Encoded
-encodedInto sch v out at = record {
-  answer = Written.Row (record { table = 0; bytes = length (encodedRow sch v); records = recordsOf v; payload = payloadOf v });
-  output = over out at (encodedRow sch v);
-}
-
-unfoldable pub IsRow : Written → Type 0
-IsRow (Written.Row e) = Unit
-IsRow (Written.Refused r) = ⊥
-
-module _ (s : Settings) (table names : List ℕ) (first n : ℕ) (recs pay out : List ℕ) (at : ℕ) (ok : EncodeAsked s table names first n recs pay out at) (v : Value) (is : TableOf v recs pay) where
-  abbrev sch : Schema
-  sch = blockTree (block table first n) names
-
-  good : GoodTable table names first n
-  good = encoder-accepts table names first n .0 (ok .schema)
-
-  stands : Denotes (block table first n) names 0 sch
-  stands = block-denotes (block table first n) names (good .schema .good .formed .order)
-
-  rules : encoderRules table names first n ≡ Checked.Accepted
-  unfolding encoderRule pick _and_
-  rules =
-      let a = le-leb (length table) 4294967295 (good .schema .table-size) in
-      let b = le-leb (length names) 4294967295 (good .schema .names-size) in
-      let c = ok .schema in
-      rw (a, b) at c
+  rules : encoderRules (f .table) (f .names) first n ≡ Checked.Accepted
+  unfolding encoderRule
+  rules = pick-accepted _ _ _ (table-encodes f (ok .format) 0 first n (ok .block)) .1
 
   -- the call comes to the writing of v
-  comes-to : encodeRule s table names first n recs pay out at ≡ placed v out at (writeRow (block table first n) (limits s) v)
-  unfolding encodeRule pick _and_ whenAccepted encodeValue
+  comes-to : encoding ≡ placed v out at (writeRow (block (f .table) first n) (limits s) v)
+  unfolding encodeRule encodeOk pick _and_ whenAccepted encodeValue
   comes-to =
-      let a = le-leb (length table) 4294967295 (good .schema .table-size) in
-      let b = le-leb (length names) 4294967295 (good .schema .names-size) in
-      let c = le-leb (length recs) 4294967295 (ok .records-short) in
-      let d = le-leb (length pay) 4294967295 (ok .payload-short) in
+      let a = le-leb (length (f .table)) 4294967295 (here .good .schema .table-size) in
+      let b = le-leb (length (f .names)) 4294967295 (here .good .schema .names-size) in
+      let c = le-leb (length recs) 4294967295 (ok .records) in
+      let d = le-leb (length pay) 4294967295 (ok .payload) in
       let e = le-leb at (room out) (ok .position) in
-      rw (ok .settings, a, b, c, d, e, rules, accepted recs pay v (ok .records-short) is)
+      rw (ok .settings, a, b, c, d, e, rules, accepted recs pay v (ok .records) is)
 
   -- a value that can be encoded is, canonically, with table tag 0
-  pub encodes : Encodable sch (limits s) v out at → encodeRule s table names first n recs pay out at ≡ encodedInto sch v out at
+  encodes : Encodable (schemaOf f 0) (limits s) v out at → encoding ≡ encodedInto (schemaOf f 0) v out at
   unfolding placed pick
   encodes e =
-      let w = writes-row (block table first n) names (limits s) v sch (encodedRow sch v) stands (is .fits) .1 (record { conforms = e .conforms; within = e .within; bytes = refl }) in
-      comes-to ∙ rw (w, le-leb (at + length (encodedRow sch v)) (room out) (e .fits))
+      let w = writes-row (block (f .table) first n) (f .names) (limits s) v (schemaOf f 0) (encodedRow (schemaOf f 0) v) (here .denotes) (is .fits) .1 (record { conforms = e .conforms; within = e .within; bytes = refl }) in
+      comes-to ∙ rw (w, le-leb (at + length (encodedRow (schemaOf f 0) v)) (room out) (e .fits))
 
   -- and only such a value is
-  pub encodes-only : IsRow (encodeRule s table names first n recs pay out at .answer) → Encodable sch (limits s) v out at
-  unfolding placed IsRow
-  encodes-only h = by (writeRow (block table first n) (limits s) v) refl (rw comes-to at h)
+  encodes-only : writtenSaid (encoding .answer) .number ≡ 0 → Encodable (schemaOf f 0) (limits s) v out at
+  unfolding placed writtenSaid rowSaid
+  encodes-only h = by (writeRow (block (f .table) first n) (limits s) v) refl (rw comes-to at h)
     where
-      room-for : (b : List ℕ) (t : Bool) → leb (at + length b) (room out) ≡ t → writeRow (block table first n) (limits s) v ≡ Put b →
-          IsRow (pick t (record { answer = Written.Row (record { table = 0; bytes = length b; records = recordsOf v; payload = payloadOf v }); output = over out at b }) (unwritten out (Refusal.NoOutputRoom (length b) at)) .answer) → Encodable sch (limits s) v out at
+      room-for : (b : List ℕ) (t : Bool) → leb (at + length b) (room out) ≡ t → writeRow (block (f .table) first n) (limits s) v ≡ Put b →
+          writtenSaid (pick t (wrote s (f .table) (f .names) first n recs pay out at v b) (unwritten out (NoOutputRoom (length b) at)) .answer) .number ≡ 0 → Encodable (schemaOf f 0) (limits s) v out at
       room-for b true q e h =
-          let f = writes-row (block table first n) names (limits s) v sch b stands (is .fits) .0 e in
-          record { conforms = f .conforms; within = f .within; fits = rw (f .bytes) at (leb-true (at + length b) (room out) q) }
-      room-for b false q e h = unfold pick in absurd h
+          let w = writes-row (block (f .table) first n) (f .names) (limits s) v (schemaOf f 0) b (here .denotes) (is .fits) .0 e in
+          record { conforms = w .conforms; within = w .within; fits = rw (w .bytes) at (leb-true (at + length b) (room out) q) }
+      room-for b false q e h = unfold pick in absurd (refusal-number (NoOutputRoom (length b) at) h)
 
-      by : (w : Wrote) → writeRow (block table first n) (limits s) v ≡ w → IsRow (placed v out at w .answer) → Encodable sch (limits s) v out at
+      by : (w : Wrote) → writeRow (block (f .table) first n) (limits s) v ≡ w → writtenSaid (placed v out at w .answer) .number ≡ 0 → Encodable (schemaOf f 0) (limits s) v out at
       by (Put b) e h = room-for b (leb (at + length b) (room out)) refl e h
-      by (Wrote.Refused r) e h = absurd h
+      by (Wrote.Refused r) e h = absurd (refusal-number r h)
+
+  -- it is encoded exactly when it can be
+  pub encoded-when : (writtenSaid (encoding .answer) .number ≡ 0) ↔ Encodable (schemaOf f 0) (limits s) v out at
+  unfolding writtenSaid rowSaid
+  encoded-when = (encodes-only, λ e. rw (encodes e))
+
+  -- and then canonically
+  pub encoded-as : writtenSaid (encoding .answer) .number ≡ 0 → encoding ≡ encodedInto (schemaOf f 0) v out at
+  encoded-as h = encodes (encodes-only h)
 
 -- ---- reading back
 
@@ -136,60 +189,76 @@ mutual
   within-higherV low high h none w = tt
   within-higherV low high h (more v vs) w = (within-higher low high h v (w .0), within-higherV low high h vs (w .1))
 
--- the reader's format has the encoder's schema as its table 0, its blob limits are no lower, its row limit covers the charge, and there is room
-pub record ReadAsked (f : Format) (s s′ : Settings) (sch : Schema) (v : Value) (inp rs ps : List ℕ) : Type 0 where
-  pub asked : Asked f s′ inp
-  pub schema : schemaOf f 0 ≡ sch
-  pub blobs : (k : ℕ) → blobLimit (limits s) k ≤ blobLimit (limits s′) k
-  pub row : costs (limits s′ .charge) v ≤ limits s′ .row
-  pub nodes : recordsOf v ≤ recordRoom rs
-  pub payload : payloadOf v ≤ room ps
+-- the bytes that were written over a list stand in it
+over-part : (xs s : List ℕ) (at : ℕ) → at + length xs ≤ length s → part (over s at xs) at (length xs) ≡ xs
+over-part xs s at h =
+    let l : length (take at s) ≡ at = length-take-le at s (omega arith) in
+    let o = over-is xs s at h in
+    let z = stands-seam (take at s) xs (drop (at + length xs) s) in
+    stands-part (over s at xs) at xs (rw (← o, l) at z)
 
--- the answer and the two slices of a decode that gives back a row of table 0
-abbrev pub decodedAs : Value → ℕ → List ℕ → List ℕ → List ℕ → List ℕ → Decoded
-decodedAs v size recs pay rs ps = record {
-  answer = Read.Row (record { table = 0; bytes = size; records = recordsOf v; payload = payloadOf v });
-  records = over rs 0 recs;
-  payload = over ps 0 pay;
-}
+module _ (f : Format) (s : Settings) (first n : ℕ) (recs pay out : List ℕ) (at : ℕ) (ok : EncodeAsked f s first n recs pay out at) (v : Value) (is : TableOf v recs pay)
+    (e : Extent) (yes : writtenSaid (encodeFrom f s first n recs pay out at .answer) ≡ rowSaid e) where
+  abbrev sch : Schema
+  sch = schemaOf f 0
 
--- what was encoded, with anything before and after it, decodes to the very records and payload, and no further byte is taken
-pub reads-back : (s : Settings) (table names : List ℕ) (first n : ℕ) (recs pay out : List ℕ) (at : ℕ) → EncodeAsked s table names first n recs pay out at →
-    (v : Value) → TableOf v recs pay → Encodable (blockTree (block table first n) names) (limits s) v out at →
-    (f : Format) (s′ : Settings) (pre post rs ps : List ℕ) →
-    ReadAsked f s s′ (blockTree (block table first n) names) v (pre ++ (encodedRow (blockTree (block table first n) names) v ++ post)) rs ps →
-    decodeRule f s′ (pre ++ (encodedRow (blockTree (block table first n) names) v ++ post)) (length pre) rs ps ≡ decodedAs v (length (encodedRow (blockTree (block table first n) names) v)) recs pay rs ps
-reads-back s table names first n recs pay out at ok v is e f s′ pre post rs ps r =
-    decode-accepts f s′ inp (r .asked) (length pre) here rs ps (r .nodes) (r .payload) ∙ tidy
-  where
-    sch : Schema
-    sch = blockTree (block table first n) names
+  said-row : writtenSaid (encodeFrom f s first n recs pay out at .answer) .number ≡ 0
+  unfolding rowSaid
+  said-row = rw yes
 
-    inp : List ℕ
-    inp = pre ++ (encodedRow sch v ++ post)
+  can : Encodable sch (limits s) v out at
+  can = encoded-when f s first n recs pay out at ok v is .0 said-row
 
-    some : 0 < tables f
-    some = rules-accept f .0 (r .asked .format) .some
+  is-so : encodeFrom f s first n recs pay out at ≡ encodedInto sch v out at
+  is-so = encoded-as f s first n recs pay out at ok v is said-row
 
-    q : Pos
-    q = after (limits s′) v (length (encodedRow sch v)) (start (limits s′) (length pre))
+  extent-is : record { table = 0; bytes = length (encodedRow sch v); records = recordsOf v; payload = payloadOf v } ≡ e
+  extent-is = unfold writtenSaid in let z = ap (λ (d : Encoded). writtenSaid (d .answer)) is-so in one-row _ e (sym z ∙ yes)
 
-    a-row : Row (schemaOf f 0) v (encoded sch v)
-    a-row = rw (r .schema) (encoded-row (e .conforms) (is .fits) (encoder-accepts table names first n .0 (ok .schema) .schema .good .valid))
+  -- the row that was put out, anywhere in a stream, decodes to the very records and payload, and no further byte is taken
+  pub reads-back : (s′ : Settings) (inp : List ℕ) (place : ℕ) (rs ps : List ℕ) →
+      ReadAsked s s′ v e (part (encodeFrom f s first n recs pay out at .output) at (e .bytes)) inp place rs ps → decodeRule f s′ inp place rs ps ≡ decodedAs e recs pay rs ps
+  reads-back s′ inp place rs ps r = decode-accepts f s′ inp asked place here rs ps records-fit payload-fits ∙ tidy
+    where
+      b : List ℕ
+      b = encodedRow sch v
 
-    here : Accepts f inp (limits s′) (length pre) 0 v q
-    here = unfold encodedRow in record {
-      bytes = le 2 0 ++ encoded sch v;
-      is = table-row {t = 0} (omega arith) some a-row refl;
-      stands = stands-seam pre (le 2 0 ++ encoded sch v) post;
-      within = within-higher (blobLimit (limits s)) (blobLimit (limits s′)) (r .blobs) v (e .within);
-      afford = r .row;
-      ends = refl;
-    }
+      row-is : part (encodeFrom f s first n recs pay out at .output) at (e .bytes) ≡ b
+      row-is = unfold room in
+          let p : length b ≡ e .bytes = ap (λ (x : Extent). x .bytes) extent-is in
+          rw (is-so, ← p) (over-part b out at (omega (arith, can .fits)))
 
-    tidy : decodedRow (length pre) rs ps 0 v q ≡ decodedAs v (length (encodedRow sch v)) recs pay rs ps
-    tidy = unfold extent after start in
-        let a : (length pre + length (encodedRow sch v)) - length pre ≡ length (encodedRow sch v) = omega arith in
-        let b : 0 + recordsOf v ≡ recordsOf v = omega arith in
-        let c : 0 + payloadOf v ≡ payloadOf v = omega arith in
-        rw (a, b, c, is .rows, is .payload)
+      at-home : Stood f 0 first n
+      at-home = stood f (ok .format) 0 first n (ok .block)
+
+      asked : Asked f s′ inp
+      asked = record { settings = r .settings; sizes = at-home .sizes; short = r .short; format = at-home .rules }
+
+      records-fit : recordsOf v ≤ recordRoom rs
+      records-fit = let p = ap (λ (x : Extent). x .records) extent-is in rw p (r .nodes)
+
+      payload-fits : payloadOf v ≤ room ps
+      payload-fits = let p = ap (λ (x : Extent). x .payload) extent-is in rw p (r .payload)
+
+      q : Pos
+      q = after (limits s′) v (length b) (start (limits s′) place)
+
+      a-row : Row sch v (encoded sch v)
+      a-row = encoded-row (can .conforms) (is .fits) (at-home .valid)
+
+      here : Accepts f inp (limits s′) place 0 v q
+      here = unfold encodedRow in record {
+        bytes = le 2 0 ++ encoded sch v;
+        is = table-row {t = 0} (omega arith) (at-home .below) a-row refl;
+        stands = rw row-is at (r .stands);
+        within = within-higher (blobLimit (limits s)) (blobLimit (limits s′)) (r .blobs) v (can .within);
+        afford = r .charge;
+        ends = refl;
+      }
+
+      tidy : decodedRow place rs ps 0 v q ≡ decodedAs e recs pay rs ps
+      tidy = unfold extent after start in
+          let x : (place + length b) - place ≡ length b = omega arith in
+          let y : 0 + recordsOf v ≡ recordsOf v = omega arith in
+          let z : 0 + payloadOf v ≡ payloadOf v = omega arith in
+          rw (x, y, z, is .rows, is .payload, ← extent-is)

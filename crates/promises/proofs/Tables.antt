@@ -1,28 +1,162 @@
--- What decode fills is the table of a value: its form is that of a value table (18).
+-- What decode fills is the table of a conforming value, and a checked format's tables pass the encoder's check.
 -- Assumes nothing.
-use Prim.Native.Nat.{ℕ, _≤_, _<_}
-use mathlib.Core.Path.{_≡_, refl}
-use mathlib.Core.List.{List}
+use Prim.Native.Nat.{ℕ, _+_, _-_, _*_, _≤_, _<_}
+use mathlib.Core.Path.{_≡_, refl, sym, ap, _∙_}
+use mathlib.Core.Bool.{Bool, true, false}
+use mathlib.Core.List.{List, _++_}
 use native.Mathlib.Omega.{arith}
-use Rattle.rules.specs.Format.{Format, formatRules}
-use Rattle.rules.specs.Value.{Value, tall}
+use lib.ListN.{length, take, drop}
+use lib.Seq.{take-append-seam, drop-append-seam}
+use Rattle.rules.specs.Choice.{pick}
+use Rattle.rules.specs.Bytes.{Bytes, over}
+use Rattle.rules.specs.Schema.{Schema, deep, Valid}
+use Rattle.rules.specs.Block.{block, Denotes}
+use Rattle.rules.specs.Format.{Format, tables, tableSchema, sizesOk, formatRules, formatRule, encoderRule}
+use Rattle.rules.specs.Value.{Value, tall, recordsOf, payloadOf}
 use Rattle.rules.specs.ValueTable.{TableOf, flat, pays}
 use Rattle.rules.specs.Grammar.{TableRow, table-row}
-use Rattle.rules.specs.Schema.{Schema, deep}
-use Rattle.rules.specs.Walk.{Limits, Pos}
-use Rattle.rules.specs.Reading.{schemaOf, Accepts}
+use Rattle.rules.specs.Walk.{Limits, Pos, Answer, Got, after}
+use Rattle.rules.specs.ValueRecord.{valueRecordStart}
+use Rattle.rules.specs.Reading.{limits, start, rowAt, schemaOf, Accepts, extent, whenAccepted, Decoded, room, recordRoom, untouched, filled, decodeFrom, decodeRule, NoRow, LeavesRow}
+use Rattle.rules.specs.Answers.{rowSaid, readSaid}
+use Rattle.rules.specs.Good.{GoodTable}
+use Rattle.rules.specs.declared.Settings.{Settings}
+use Rattle.rules.specs.declared.Located.the-variants.{Block}
+use Rattle.rules.specs.declared.Checked.{Checked}
 use Rattle.rules.specs.declared.Checked.the-variants.{Accepted}
+use Rattle.rules.specs.declared.Extent.{Extent}
+use Rattle.rules.specs.declared.Read.{Read}
+use Rattle.rules.specs.declared.Read.the-variants.{Row}
+use Rattle.rules.proofs.Checks.{pick-accepted}
+use Rattle.rules.proofs.Answers.{read-row}
+use Rattle.rules.proofs.Over.{over-is}
+use Rattle.blocks.proofs.Good.{encoder-accepts}
+use Rattle.blocks.proofs.Formats.{format-accepts}
 use Rattle.blocks.proofs.Tables.{table-schema}
-use Rattle.rows.proofs.Decoding.{accepts-conforms}
+use Rattle.rows.proofs.TableRows.{located}
+use Rattle.rows.proofs.Decoding.{Leaves, row-written, unchanged, decode-leaves, accepts-conforms, counted}
+use Rattle.values.proofs.Sizes.{length-flat, length-pays}
 use Rattle.values.proofs.Conform.{conforms-depth}
+
+-- ---- a checked format's tables
+
+-- What a table of a checked format has, where its block is known.
+pub record Stood (f : Format) (t first n : ℕ) : Type 0 where
+  pub sizes : sizesOk f ≡ true
+  pub rules : formatRules f ≡ Accepted
+  pub below : t < tables f
+  pub good : GoodTable (f .table) (f .names) first n
+  pub denotes : Denotes (block (f .table) first n) (f .names) 0 (schemaOf f t)
+  pub valid : Valid (schemaOf f t)
+
+module _ (f : Format) (ok : formatRule f ≡ Accepted) (t first n : ℕ) (e : tableSchema f t ≡ Block first n) where
+  pub stood : Stood f t first n
+  unfolding formatRule
+  stood =
+      let g = format-accepts f .0 ok in
+      let p = pick-accepted _ _ _ ok in
+      let l = located f t first n e in
+      let s = table-schema f (p .1) t l in
+      let a : Block (s .first) (s .count) ≡ Block first n = sym (s .stands) ∙ e in
+      let b : s .first ≡ first = cc in
+      let c : s .count ≡ n = cc in
+      let r = rw (s .is) at (s .root) in
+      record {
+        sizes = p .0;
+        rules = p .1;
+        below = l;
+        good = record {
+          schema = record { table-size = g .table-size; names-size = g .names-size; whole = g .good .whole-table; good = rw (b, c) at (s .good) };
+          root = rw (b, c) at r;
+        };
+        denotes = rw (b, c) at (s .denotes);
+        valid = s .valid;
+      }
+
+  -- each table's block passes the encoder's check
+  pub table-encodes : encoderRule (f .table) (f .names) first n ≡ Accepted
+  table-encodes = encoder-accepts (f .table) (f .names) first n .1 (stood .good)
+
+-- ---- what decode leaves
 
 -- a row's table number is one of the format's
 row-table : {n t : ℕ} {schema : ℕ → Schema} {v : Value} {b : List ℕ} → TableRow n schema t v b → t < n
 row-table (table-row h l r e) = l
 
-pub decoded-table : (f : Format) (inp : List ℕ) (lim : Limits) (at : ℕ) {t : ℕ} {v : Value} {q : Pos} → formatRules f ≡ Accepted → Accepts f inp lim at t v q → TableOf v (flat v 0 0) (pays v)
-decoded-table f inp lim at {t} {v} ok a =
-    let c = accepts-conforms f inp lim at a in
-    let d : tall v ≤ deep (schemaOf f t) = conforms-depth (c .0) in
-    let e : deep (schemaOf f t) ≤ 64 = table-schema f ok t (row-table (a .is)) .depth in
-    record { rows = refl; payload = refl; fits = c .1; depth = omega arith }
+-- what is written at the start of a slice is its beginning, and the rest stays
+written-first : (xs s : List ℕ) (n : ℕ) → n ≡ length xs → length xs ≤ length s → (take n (over s 0 xs) ≡ xs) × (drop n (over s 0 xs) ≡ drop n s)
+written-first xs s n e h =
+    let z : 0 + length xs ≡ length xs = omega arith in
+    let o : over s 0 xs ≡ xs ++ drop (length xs) s = rw z at (over-is xs s 0 (omega arith)) in
+    rw (e, o) (take-append-seam xs (drop (length xs) s), drop-append-seam xs (drop (length xs) s))
+
+module _ (f : Format) (inp : List ℕ) (lim : Limits) (at : ℕ) where
+  -- a row of an accepted format that stands somewhere is one of a value that has a table
+  decoded-table : {t : ℕ} {v : Value} {q : Pos} → formatRules f ≡ Accepted → Accepts f inp lim at t v q → TableOf v (flat v 0 0) (pays v)
+  decoded-table {t} {v} ok a =
+      let c = accepts-conforms f inp lim at a in
+      let d : tall v ≤ deep (schemaOf f t) = conforms-depth (c .0) in
+      let e : deep (schemaOf f t) ≤ 64 = table-schema f ok t (row-table (a .is)) .depth in
+      record { rows = refl; payload = refl; fits = c .1; depth = omega arith }
+
+  -- it leaves off where so many bytes are passed
+  row-ends : {t : ℕ} {v : Value} {q : Pos} → Accepts f inp lim at t v q → Accepts f inp lim at t v (after lim v (q .at - at) (start lim at))
+  unfolding after start
+  row-ends {t} {v} {q} a =
+      let y : q .at ≡ at + length (a .bytes) = ap (λ (x : Pos). x .at) (a .ends) in
+      let z : q .at - at ≡ length (a .bytes) = omega arith in
+      record { bytes = a .bytes; is = a .is; stands = a .stands; within = a .within; afford = a .afford; ends = rw z }
+
+  module _ (rs ps : List ℕ) where
+    row-left : {t : ℕ} {v : Value} {q : Pos} → formatRules f ≡ Accepted → Accepts f inp lim at t v q → recordsOf v ≤ recordRoom rs → payloadOf v ≤ room ps →
+        LeavesRow f inp lim at rs ps (extent at t q) (record { answer = Row (extent at t q); records = over rs 0 (flat v 0 0); payload = over ps 0 (pays v) })
+    unfolding extent room
+    row-left {t} {v} {q} ok a m n =
+        let c = counted f inp lim at rs ps a in
+        let w = decoded-table ok a in
+        let x = written-first (flat v 0 0) rs (valueRecordStart (q .records)) (rw (length-flat v 0 0, c .0)) (rw (length-flat v 0 0) (omega arith)) in
+        let y = written-first (pays v) ps (q .payload) (rw (length-pays v, c .1)) (rw (length-pays v) (omega arith)) in
+        record {
+          value = v;
+          stands = row-ends a;
+          table = record { rows = x .0; payload = y .0; fits = w .fits; depth = w .depth };
+          conforms = accepts-conforms f inp lim at a .0;
+          records-rest = x .1;
+          payload-rest = y .1;
+        }
+
+module _ (f : Format) (s : Settings) (inp : List ℕ) (at : ℕ) (rs ps : List ℕ) (bs : Bytes inp) where
+  -- where decode answers a row, the slices hold the table of its value
+  pub decoded-row : (e : Extent) → readSaid (decodeRule f s inp at rs ps .answer) ≡ rowSaid e → LeavesRow f inp (limits s) at rs ps e (decodeRule f s inp at rs ps)
+  unfolding NoRow
+  decoded-row e h = by (decode-leaves f s inp at rs ps bs) (read-row _ e h)
+    where
+      by : {d : Decoded} → Leaves f inp (limits s) at rs ps d → d .answer ≡ Row e → LeavesRow f inp (limits s) at rs ps e d
+      by (row-written {t} {v} {q} ok a m n) h = let z : extent at t q ≡ e = cc in rw (← z) (row-left f inp (limits s) at rs ps ok a m n)
+      by (unchanged {a} n) h = absurd (rw h at n)
+
+-- ---- where decode answers no row, both slices are as before
+module _ (f : Format) (s : Settings) (inp : List ℕ) (at : ℕ) (rs ps : List ℕ) where
+  abbrev Still : Decoded → Type 0
+  Still d = NoRow (d .answer) → d ≡ untouched (d .answer) rs ps
+
+  either : (b : Bool) (x y : Decoded) → Still x → Still y → Still (pick b x y)
+  unfolding pick
+  either true x y h k = h
+  either false x y h k = k
+
+  as-before : (a : Read) → Still (untouched a rs ps)
+  as-before a h = refl
+
+  filled-still : (a : Answer (ℕ × Value)) → Still (filled at a rs ps)
+  unfolding filled NoRow
+  filled-still (Got (t, v) q) = either _ _ _ (either _ _ _ (λ h. absurd h) (as-before _)) (as-before _)
+  filled-still (Answer.Refused r) = as-before _
+
+  pub decoded-none : NoRow (decodeRule f s inp at rs ps .answer) → decodeRule f s inp at rs ps ≡ untouched (decodeRule f s inp at rs ps .answer) rs ps
+  unfolding decodeRule
+  decoded-none = either _ _ _ (format (formatRules f)) (as-before _)
+    where
+      format : (c : Checked) → Still (whenAccepted (λ r. untouched (Read.Refused r) rs ps) c (decodeFrom f inp (limits s) at rs ps))
+      format Checked.Accepted = unfold whenAccepted decodeFrom in either _ _ _ (as-before _) (filled-still (rowAt f inp (limits s) at))
+      format (Checked.Refused r) = unfold whenAccepted in as-before _

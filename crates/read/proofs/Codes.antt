@@ -1,22 +1,19 @@
 -- What the form of a wire code is, by the ranges that the code's tests tell apart.
 -- Assumes nothing.
-use Prim.Native.Nat.{ℕ, _+_, _-_, _%_, _≤_, _<_}
+use Prim.Native.Nat.{ℕ, _+_, _≤_, _<_}
 use mathlib.Core.Path.{_≡_, refl}
 use mathlib.Core.Bool.{Bool, true, false}
 use mathlib.Core.List.{List}
-use mathlib.Core.Logic.{_⊎_, inl, inr, ⊎-elim}
+use mathlib.Core.Logic.{⊎-elim}
 use native.Mathlib.Omega.{arith}
-use native.Mathlib.Nat.{eq-or-lt-of-le}
-use borrow.Author.Tests.{lt-ltb, le-ltb, ltb-true, ltb-false}
+use borrow.Author.Tests.{lt-ltb, le-ltb}
 use lib.Dec.{ltb}
 use Rattle.rules.specs.Choice.{pick}
 use Rattle.rules.specs.Wire.{sized, choice, series, fields, wireTypes, typeIn, typeOf, written, writtenIf, form, widthOf}
+use Rattle.wire.proofs.CodeTable.{two}
+pub use Rattle.wire.proofs.CodeTable.{tag-some}
 use Rattle.read.specs.Fields.{numberAt}
 use Rattle.read.specs.Children.{variant, repeated, tuple, shapeOf, byTag, picked}
-
--- one of two numbers
-two : (a n : ℕ) → a ≤ n → n < a + 2 → (a ≡ n) ⊎ (a + 1 ≡ n)
-two a n h l = ⊎-elim (λ e. inl e) (λ g. inr (omega arith)) (eq-or-lt-of-le h)
 
 pub form-choice : (code : ℕ) → 14 < code → code < 17 → form code ≡ choice (widthOf (form code))
 unfolding wireTypes typeIn typeOf written writtenIf form widthOf
@@ -49,25 +46,6 @@ unfolding shapeOf pick
 shape-tuple code h = rw (le-ltb code 17 (omega arith), le-ltb code 19 h)
 
 -- ---- tags
-
--- a tag has one byte where the code is odd, else two
-module _ (code : ℕ) (h : 14 < code) (l : code < 19) where
-  tag-width : widthOf (form code) ≡ 2 - code % 2
-  unfolding wireTypes typeIn typeOf written writtenIf form widthOf
-  tag-width = by (ltb code 17) refl
-    where
-      by : (b : Bool) → ltb code 17 ≡ b → widthOf (form code) ≡ 2 - code % 2
-      by true e = let k = ltb-true code 17 e in ⊎-elim (λ e. rw (← e)) (λ e. rw (← e)) (two 15 code h (omega arith))
-      by false e = ⊎-elim (λ e. rw (← e)) (λ e. rw (← e)) (two 17 code (ltb-false code 17 e) (omega arith))
-
-  pub tag-one : code % 2 ≡ 1 → widthOf (form code) ≡ 1
-  tag-one e = omega (arith, tag-width)
-
-  pub tag-two : (code % 2 ≡ 1 → ⊥) → widthOf (form code) ≡ 2
-  tag-two e = omega (arith, tag-width)
-
-  pub tag-some : 0 < widthOf (form code)
-  tag-some = omega (arith, tag-width)
 
 -- up to 18 a tag says which child
 pub picked-tag : (code first count : ℕ) (inp : List ℕ) (i at : ℕ) → code ≤ 18 →

@@ -13,7 +13,7 @@ use Rattle.rules.specs.Choice.{pick, _and_, all}
 use Rattle.rules.specs.Wire.{Form, empty, truth, fixed, raw, sized, choice, series, fields, unknown, wireTypes, typeIn, typeOf, written, writtenIf, form, widthOf}
 use Rattle.rules.specs.Block.{nodeStart, nodeAt, Closed, Formed}
 use Rattle.rules.specs.declared.Refusal.{Refusal}
-use Rattle.rules.specs.declared.Refusal.the-variants.{TooDeep, Truncated}
+use Rattle.rules.specs.Refusals.{TooDeep, Truncated}
 use Rattle.rules.proofs.Tests.{all-each}
 use Rattle.blocks.proofs.Form as blocks
 use Rattle.read.specs.Budget.{spent}

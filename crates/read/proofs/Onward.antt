@@ -12,7 +12,7 @@ use Rattle.rules.specs.Choice.{pick}
 use Rattle.rules.specs.Bytes.{leAt}
 use Rattle.rules.specs.Wire.{Form, empty, truth, fixed, raw, sized, choice, series, fields, unknown}
 use Rattle.rules.specs.declared.Refusal.{Refusal}
-use Rattle.rules.specs.declared.Refusal.the-variants.{Truncated, RowTooLarge}
+use Rattle.rules.specs.Refusals.{Truncated, RowTooLarge}
 use Rattle.read.specs.Budget.{leaving, spent}
 use Rattle.read.specs.Fields.{numberAt}
 use Rattle.read.specs.Skim.{standing, _>>=_, reading, passed, having, charged, counted, stored, bytesOf, blobOf, Skimmer, childOf, choiceOf, pairsOf, fieldsOf, valueOf, nodeOf, skim}

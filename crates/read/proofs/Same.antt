@@ -14,7 +14,7 @@ use Rattle.rules.specs.Block.{nodeAt}
 use Rattle.rules.specs.Value.{boolean}
 use Rattle.rules.specs.Walk as rule
 use Rattle.rules.specs.declared.Node.{Node}
-use Rattle.rules.specs.declared.Refusal.the-variants.{Truncated, RowTooLarge}
+use Rattle.rules.specs.Refusals.{Truncated, RowTooLarge}
 use Rattle.read.specs.Budget.{spent, longest}
 use Rattle.read.specs.Fields.{numberAt}
 use Rattle.read.specs.Skim.{placed, skimmed, _>>=_, reading, passed, having, charged, counted, stored, bytesOf, blobOf, Skimmer, childOf, choiceOf, pairsOf, fieldsOf, valueOf, nodeOf, skim}

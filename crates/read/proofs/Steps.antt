@@ -11,7 +11,7 @@ use lib.Dec.{leb}
 use Rattle.rules.specs.Choice.{pick}
 use Rattle.rules.specs.Bytes.{leAt}
 use Rattle.rules.specs.declared.Refusal.{Refusal}
-use Rattle.rules.specs.declared.Refusal.the-variants.{Truncated, RowTooLarge}
+use Rattle.rules.specs.Refusals.{Truncated, RowTooLarge}
 use Rattle.read.specs.Budget.{leaving, spent}
 use Rattle.read.specs.Fields.{numberAt}
 use Rattle.read.specs.Skim.{standing}

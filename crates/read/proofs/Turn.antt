@@ -13,7 +13,7 @@ use Rattle.rules.specs.Choice.{pick}
 use Rattle.rules.specs.Bytes.{leAt}
 use Rattle.rules.specs.Wire.{form, widthOf, endTag}
 use Rattle.rules.specs.declared.Refusal.{Refusal}
-use Rattle.rules.specs.declared.Refusal.the-variants.{Truncated, InvalidVariantTag}
+use Rattle.rules.specs.Refusals.{Truncated, InvalidVariantTag}
 use Rattle.read.specs.Fields.{numberAt}
 use Rattle.read.specs.Children.{Shape, variant, repeated, tuple, shapeOf, endsAt, byTag, picked}
 use Rattle.read.specs.Skim.{standing, _>>=_, reading, Skimmer, childOf, choiceOf, pairsOf, fieldsOf, valueOf}

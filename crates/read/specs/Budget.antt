@@ -3,7 +3,7 @@
 use Prim.Native.Nat.{ℕ, _-_}
 use lib.Dec.{leb}
 use Rattle.rules.specs.Choice.{pick}
-use Rattle.rules.specs.declared.Refusal.the-variants.{RowTooLarge}
+use Rattle.rules.specs.Refusals.{RowTooLarge}
 use Rattle.read.specs.declared.budget.RowBudget.{RowBudget}
 use Rattle.read.specs.declared.budget.Charged.{Charged}
 use Rattle.read.specs.declared.budget.Charged.the-variants.{Left, Refused}

@@ -6,7 +6,7 @@ use mathlib.Core.List.{List}
 use lib.Dec.{ltb, eqb}
 use Rattle.rules.specs.Choice.{pick}
 use Rattle.rules.specs.Wire.{form, widthOf, endTag}
-use Rattle.rules.specs.declared.Refusal.the-variants.{InvalidVariantTag}
+use Rattle.rules.specs.Refusals.{InvalidVariantTag}
 use Rattle.read.specs.Fields.{numberAt}
 use Rattle.read.specs.declared.fields.Number.{Number}
 use Rattle.read.specs.declared.fields.Number.the-variants.{Is}

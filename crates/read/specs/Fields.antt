@@ -6,7 +6,7 @@ use lib.ListN.{length}
 use lib.Dec.{leb}
 use Rattle.rules.specs.Choice.{pick}
 use Rattle.rules.specs.Bytes.{leAt}
-use Rattle.rules.specs.declared.Refusal.the-variants.{Truncated}
+use Rattle.rules.specs.Refusals.{Truncated}
 use Rattle.read.specs.declared.fields.Number.{Number}
 use Rattle.read.specs.declared.fields.Number.the-variants.{Is, Refused}
 

@@ -9,7 +9,7 @@ use Rattle.rules.specs.Choice.{pick}
 use Rattle.rules.specs.Wire.{Form, empty, truth, fixed, raw, sized, choice, series, fields, unknown, form, widthOf, endTag}
 use Rattle.rules.specs.Block.{nodeAt}
 use Rattle.rules.specs.Walk as rule
-use Rattle.rules.specs.declared.Refusal.the-variants.{Setting, BadSchemaTable, TooDeep, Truncated, BlobTooLarge, InvalidVariantTag}
+use Rattle.rules.specs.Refusals.{Setting, BadSchemaTable, TooDeep, Truncated, BlobTooLarge, InvalidVariantTag}
 use Rattle.read.specs.Budget.{spent, longest}
 use Rattle.read.specs.Fields.{numberAt, keptOf}
 use Rattle.read.specs.declared.budget.RowBudget.{RowBudget}

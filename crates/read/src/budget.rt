@@ -3,6 +3,7 @@
 ghost use mathlib.Core.Path.{_≡_};
 ghost use Rattle.read.specs.Budget.{fresh, spent, longest};
 use rules::Refusal;
+use rules::Why;
 
 // The longest blob, what the whole row may cost, and what is left of that.
 pub struct RowBudget {
@@ -36,7 +37,10 @@ impl RowBudget {
         let limit = self.limit;
         let remaining = self.remaining;
         if remaining < bytes {
-            return Charged::Refused(Refusal::RowTooLarge { limit, place });
+            return Charged::Refused(Refusal {
+                why: Why::RowTooLarge { limit },
+                place,
+            });
         }
         Charged::Left(RowBudget {
             max_blob_bytes: self.max_blob_bytes,

@@ -1,11 +1,14 @@
-// The fields of a row: tags, lengths, and what the wire types of a fixed width take.
+// The fields of a row: tags, lengths, and what the wire types of a fixed width leave in the payload store.
 ghost use mathlib.Core.Path.{_≡_};
 ghost use Prim.Native.Nat.{_+_, _≤_, _<_};
 ghost use lib.ListN.{length};
+ghost use Rattle.rules.specs.Refusals.{Truncated};
 ghost use Rattle.rules.specs.Wire.{form, widthOf};
 ghost use Rattle.read.specs.Fields.{numberAt, keptOf};
 ghost use Rattle.read.specs.Children.{shapeOf, endsAt};
 use rules::Refusal;
+use rules::Why;
+use wire::codes::tag_width;
 use wire::u16_at;
 use wire::u32_at;
 use wire::wide;
@@ -18,21 +21,21 @@ pub enum Number {
 
 // A field that the stream's end cuts.
 fn truncated(context: u8, at: usize) -> Number
-    ensures { λ r. ⌜ r ≡ Number.Refused (Refusal.Truncated context at) ⌝ }
+    ensures { λ r. ⌜ r ≡ Number.Refused (Truncated context at) ⌝ }
 {
-    Number::Refused(Refusal::Truncated {
-        context,
+    Number::Refused(Refusal {
+        why: Why::Truncated { context },
         place: at as u64,
     })
 }
 
-// A variant's tag. The codes of the types with a tag of one byte are odd.
+// A variant's tag.
 pub fn read_tag(code: u8, input: &[u8], at: usize) -> Number
     requires { ⌜ (14 < code) × (code < 19) × (at ≤ length (now input)) ⌝ }
     ensures { λ r. ⌜ r ≡ numberAt (now (input .entry)) (widthOf (form code)) (14 + widthOf (form code)) at ⌝ }
 {
     let left = input.len() - at;
-    if code % 2 == 1 {
+    if tag_width(code) == 1 {
         if left < 1 {
             return truncated(15, at);
         }
@@ -66,31 +69,7 @@ pub fn read_length(input: &[u8], at: usize) -> Number
     Number::Is(u32_at(input, at), at + 4)
 }
 
-// How many bytes a value has. An arm for every code, nothing's too: from that the compiler makes a jump table, and the
-// place of the next node does not wait for a load.
-pub fn fixed_width(code: u8) -> usize
-    requires { ⌜ code < 13 ⌝ }
-    ensures { λ r. ⌜ (r ≡ widthOf (form code)) × (r ≤ 32) ⌝ }
-{
-    match code {
-        0 => 0,
-        1 => 1,
-        2 => 1,
-        3 => 2,
-        4 => 4,
-        5 => 8,
-        6 => 16,
-        7 => 32,
-        8 => 1,
-        9 => 2,
-        10 => 4,
-        11 => 8,
-        12 => 8,
-        _ => 0,
-    }
-}
-
-// How many of them lie in the payload store: those of a value that a record's eight bytes do not hold.
+// How many bytes of a fixed width lie in the payload store: those of a value that a record's eight bytes do not hold.
 pub fn kept(width: usize) -> u64
     ensures { λ r. ⌜ (r ≡ keptOf width) × (r ≤ width) ⌝ }
 {
@@ -106,7 +85,7 @@ pub fn ends(code: u8, tag: u64) -> bool
     if code < 17 {
         return false;
     }
-    if code % 2 == 1 {
+    if tag_width(code) == 1 {
         return tag == 255;
     }
     tag == 65535

@@ -14,7 +14,6 @@ use super::budget::RowBudget;
 use super::budget::blob_limit;
 use super::fields::Number;
 use super::fields::ends;
-use super::fields::fixed_width;
 use super::fields::kept;
 use super::fields::read_length;
 use super::fields::read_tag;
@@ -23,6 +22,8 @@ use record::node::node_code;
 use record::node::node_first;
 use rules::Refusal;
 use rules::Settings;
+use rules::Why;
+use wire::codes::fixed_width;
 
 // Where the walk stands, what is left of the row's allowance, and the records and payload bytes that it has passed.
 pub struct Pos {
@@ -53,7 +54,7 @@ fn dear(charged: Charged) -> Skipped
 {
     match charged {
         Charged::Refused(why) => Skipped::Refused(why),
-        Charged::Left(_) => Skipped::Refused(Refusal::Setting),
+        Charged::Left(_) => Skipped::Refused(Refusal::SETTING),
     }
 }
 
@@ -62,7 +63,7 @@ fn cut(length: Number) -> Skipped
 {
     match length {
         Number::Refused(why) => Skipped::Refused(why),
-        Number::Is(_, _) => Skipped::Refused(Refusal::Setting),
+        Number::Is(_, _) => Skipped::Refused(Refusal::SETTING),
     }
 }
 
@@ -71,7 +72,7 @@ fn no_child(tag: Number) -> Pick
 {
     match tag {
         Number::Refused(why) => Pick::Refused(why),
-        Number::Is(_, _) => Pick::Refused(Refusal::Setting),
+        Number::Is(_, _) => Pick::Refused(Refusal::SETTING),
     }
 }
 
@@ -81,7 +82,7 @@ fn refused(value: Skipped) -> Skipped
 {
     match value {
         Skipped::Refused(why) => Skipped::Refused(why),
-        Skipped::At(_) => Skipped::Refused(Refusal::Setting),
+        Skipped::At(_) => Skipped::Refused(Refusal::SETTING),
     }
 }
 
@@ -94,8 +95,8 @@ fn skip_fixed(code: u8, input: &[u8], p: Pos) -> Skipped
     let at = p.at;
     let width = fixed_width(code);
     if input.len() - at < width {
-        return Skipped::Refused(Refusal::Truncated {
-            context: code,
+        return Skipped::Refused(Refusal {
+            why: Why::Truncated { context: code },
             place: at as u64,
         });
     }
@@ -123,10 +124,12 @@ fn skip_blob(code: u8, input: &[u8], p: Pos) -> Skipped
     let left = (input.len() - next) as u64;
     let limit = blob_limit(budget, code);
     if limit < n {
-        return Skipped::Refused(Refusal::BlobTooLarge {
-            wire_type: code,
-            length: n,
-            limit,
+        return Skipped::Refused(Refusal {
+            why: Why::BlobTooLarge {
+                wire_type: code,
+                length: n,
+                limit,
+            },
             place: at as u64,
         });
     }
@@ -135,8 +138,8 @@ fn skip_blob(code: u8, input: &[u8], p: Pos) -> Skipped
         return dear(paid);
     };
     if left < n {
-        return Skipped::Refused(Refusal::Truncated {
-            context: 14,
+        return Skipped::Refused(Refusal {
+            why: Why::Truncated { context: 14 },
             place: next as u64,
         });
     }
@@ -188,10 +191,12 @@ fn next_child(code: u8, first: u64, count: u64, i: u64, input: &[u8], at: usize)
         return Pick::End(next);
     }
     if count <= tag {
-        return Pick::Refused(Refusal::InvalidVariantTag {
-            wire_type: code,
-            tag,
-            children: count,
+        return Pick::Refused(Refusal {
+            why: Why::InvalidVariantTag {
+                wire_type: code,
+                tag,
+                children: count,
+            },
             place: at as u64,
         });
     }
@@ -265,7 +270,7 @@ fn skip_value(block: &[u8], node: usize, depth: usize, input: &[u8], p: Pos, cha
     ensures { λ r. ⌜ r ≡ skim (now (block .entry)) (now (input .entry)) charge depth node p ⌝ }
 {
     if depth == 0 {
-        return Skipped::Refused(Refusal::TooDeep);
+        return Skipped::Refused(Refusal::TOO_DEEP);
     }
     let at = p.at;
     let budget = p.budget;

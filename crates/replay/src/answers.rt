@@ -7,6 +7,7 @@ use rules::Refusal;
 use rules::Report;
 use rules::Settings;
 use rules::Stop;
+use rules::Why;
 use rules::Width;
 use schema::check_encoder_schema;
 use schema::check_format;
@@ -77,8 +78,14 @@ fn located(records: &[u8], names: &[u8], references: &[u8], registry: &[u8], t: 
     let at = table_schema(names, references, registry, t);
     match at {
         Located::Block(first, count) => accepted(first, count),
-        Located::NoTable => Refusal::MissingTableSchema { index: t, place: 0 }.in_numbers(),
-        Located::NoEntry => Refusal::UnknownRegistryReference { table: t }.in_numbers(),
+        Located::NoTable => Refusal {
+            why: Why::MissingTableSchema { index: t },
+            place: 0,
+        }.in_numbers(),
+        Located::NoEntry => Refusal {
+            why: Why::UnknownRegistryReference { table: t },
+            place: t,
+        }.in_numbers(),
     }
 }
 

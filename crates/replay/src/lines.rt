@@ -5,7 +5,7 @@ use rules::Report;
 use wire::wide;
 
 fn write_report(r: Report) {
-    io::print_decimal(1, r.number);
+    io::print_decimal(1, r.number as u64);
     io::write_all(1, b" ");
     io::print_decimal(1, r.place);
     io::write_all(1, b" ");

@@ -16,7 +16,7 @@ use Rattle.rules.specs.Grammar.{Row, row, Body, a-nothing, a-false, a-true, a-n
 use Rattle.rules.specs.Walk.{Limits, blobLimit, Pos, Got, _>>=_, numberOf, bytesOf, charged, blobOf, Walker, childOf, pairsOf, fieldsOf, valueOf, walk, after}
 use Rattle.rules.specs.declared.Node.{Node}
 use Rattle.rules.proofs.Stands.{length-le, stands-in, stands-le, stands-part}
-use Rattle.rows.proofs.Only.{end-fits}
+use Rattle.rows.proofs.Only.{end-fits, tag-wide}
 use Rattle.rows.proofs.Span.{excess, within-excess, Toll, free, load, fee, mark, tollV, tollI, tollF, Sum, pos-eq, Span, in-end, as-toll, split, count-from, child-from}
 use Rattle.rows.proofs.Sound.{Accepted}
 
@@ -54,11 +54,6 @@ marked (blob k x) n a b = omega arith
 marked (variant t v) n a b = omega arith
 marked (repeated is) n a b = omega arith
 marked (tuple vs) n a b = omega arith
-
-pub tag-wide : (t w : ℕ) → t < endTag w → 0 < w
-unfolding endTag
-tag-wide t zero h = omega arith
-tag-wide t (suc w) h = omega arith
 
 -- what is left of a value's toll when its node is charged
 abbrev inner : Limits → Value → Toll
@@ -101,7 +96,7 @@ module _ (inp : List ℕ) (lim : Limits) where
       (ap (Got tt) (pos-eq (record { at = p .at; left = p .left - n; records = p .records + r; payload = p .payload }) q (omega (arith, s .at)) (omega (arith, s .left)) (omega (arith, s .records)) (omega (arith, s .payload))))
 
   module _ (tree : ℕ → Schema) (rec : Walker) (ok : (i : ℕ) (v : Value) (b : List ℕ) (p q : Pos) → Row (tree i) v b → Span inp lim p q b (tollV lim v) → rec i p ≡ Got v q) where
-    child-got : (n : Node) (t place : ℕ) {v : Value} {b : List ℕ} {p q : Pos} → t < count (treesFrom tree (n .first) (n .children)) → Row (child (treesFrom tree (n .first) (n .children)) t) v b →
+    pub child-got : (n : Node) (t place : ℕ) {v : Value} {b : List ℕ} {p q : Pos} → t < count (treesFrom tree (n .first) (n .children)) → Row (child (treesFrom tree (n .first) (n .children)) t) v b →
         Span inp lim p q b (tollV lim v) → childOf rec n t place p ≡ Got v q
     unfolding childOf pick
     child-got n t place {v = v} {b = b} {p = p} {q = q} h r s =

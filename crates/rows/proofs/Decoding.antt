@@ -1,11 +1,11 @@
--- Decode answers as skip does but for room, leaves its slices alone unless it accepts, and leaves the table of a conforming value.
+-- Decode's answer is skip's, tested for room; it leaves its slices alone unless it accepts, and leaves the table of a conforming value.
 -- Assumes nothing.
-use Prim.Native.Nat.{ℕ, _+_, _≤_, _<_}
+use Prim.Native.Nat.{ℕ, _+_, _≤_}
 use mathlib.Core.Path.{_≡_, refl, ap, _∙_}
 use mathlib.Core.Bool.{Bool, true, false}
 use mathlib.Core.List.{List}
 use native.Mathlib.Omega.{arith}
-use borrow.Author.Tests.{leb-true, leb-false, le-leb, ne-eqb}
+use borrow.Author.Tests.{leb-true, le-leb, ne-eqb}
 use lib.Dec.{leb, eqb}
 use lib.ListN.{length, length-append}
 use Rattle.rules.specs.Choice.{pick, _and_}
@@ -16,11 +16,10 @@ use Rattle.rules.specs.Value.{Value, Fits, recordsOf, payloadOf}
 use Rattle.rules.specs.ValueTable.{flat, pays}
 use Rattle.rules.specs.Grammar.{TableRow, table-row, Conforms}
 use Rattle.rules.specs.Walk.{Limits, Pos, Answer, Got, after}
-use Rattle.rules.specs.Reading.{settingsOk, limits, start, rowAt, schemaOf, Accepts, extent, skipped, skipFrom, whenAccepted, skipRule, Decoded, room, recordRoom, untouched, filled, decodeFrom, decodeRule}
+use Rattle.rules.specs.Reading.{settingsOk, limits, start, rowAt, schemaOf, Accepts, extent, skipped, skipFrom, whenAccepted, skipRule, Decoded, room, recordRoom, roomTest, untouched, filled, decodeFrom, decodeRule, NoRow}
 use Rattle.rules.specs.declared.Settings.{Settings}
-use Rattle.rules.specs.declared.Refusal.the-variants.{Setting, NoNodeRoom, NoPayloadRoom}
+use Rattle.rules.specs.Refusals.{Setting, NoNodeRoom, NoPayloadRoom}
 use Rattle.rules.specs.declared.Checked.{Checked}
-use Rattle.rules.specs.declared.Extent.{Extent}
 use Rattle.rules.specs.declared.Read.{Read}
 use Rattle.rules.specs.declared.Read.the-variants.{Row, End, Refused}
 use Rattle.rules.proofs.Tests.{and-both}
@@ -30,54 +29,34 @@ use Rattle.rows.proofs.TableRows.{row-agrees, row-accepts}
 
 -- ---- skip and decode
 
--- the same answer, or one of the two refusals for room where skip accepts
-pub data SameButRoom (at : ℕ) (rs ps : List ℕ) : Read → Read → Type 0 where
-  same : {a : Read} →
-      SameButRoom at rs ps a a
-  no-node-room : {e : Extent} →
-      recordRoom rs < e .records →
-      SameButRoom at rs ps (Row e) (Refused (NoNodeRoom (e .records) at))
-  no-payload-room : {e : Extent} →
-      e .records ≤ recordRoom rs → room ps < e .payload →
-      SameButRoom at rs ps (Row e) (Refused (NoPayloadRoom (e .payload) at))
+pick-answer : (b : Bool) (x y : Decoded) → pick b x y .answer ≡ pick b (x .answer) (y .answer)
+unfolding pick
+pick-answer true x y = refl
+pick-answer false x y = refl
 
 module _ (at : ℕ) (rs ps : List ℕ) where
-  filled-same : (a : Answer (ℕ × Value)) → SameButRoom at rs ps (skipped at a) (filled at a rs ps .answer)
-  unfolding skipped filled
-  filled-same (Got (t, v) q) = nodes (leb (q .records) (recordRoom rs)) refl
-    where
-      payload : q .records ≤ recordRoom rs → (b : Bool) → leb (q .payload) (room ps) ≡ b →
-          SameButRoom at rs ps (Row (extent at t q))
-          (pick b (record { answer = Row (extent at t q); records = over rs 0 (flat v 0 0); payload = over ps 0 (pays v) }) (untouched (Refused (NoPayloadRoom (q .payload) at)) rs ps) .answer)
-      payload h true e = unfold pick in same
-      payload h false e = unfold pick extent in no-payload-room {e = extent at t q} h (leb-false _ _ e)
+  filled-tested : (a : Answer (ℕ × Value)) → filled at a rs ps .answer ≡ roomTest at rs ps (skipped at a)
+  unfolding filled skipped roomTest extent
+  filled-tested (Got (t, v) q) = simp pick-answer
+  filled-tested (Answer.Refused r) = refl
 
-      nodes : (b : Bool) → leb (q .records) (recordRoom rs) ≡ b →
-          SameButRoom at rs ps (Row (extent at t q))
-          (pick b
-          (pick (leb (q .payload) (room ps)) (record { answer = Row (extent at t q); records = over rs 0 (flat v 0 0); payload = over ps 0 (pays v) }) (untouched (Refused (NoPayloadRoom (q .payload) at)) rs ps))
-          (untouched (Refused (NoNodeRoom (q .records) at)) rs ps) .answer)
-      nodes true e = unfold pick in payload (leb-true _ _ e) (leb (q .payload) (room ps)) refl
-      nodes false e = unfold pick extent in no-node-room {e = extent at t q} (leb-false _ _ e)
-  filled-same (Answer.Refused r) = same
-
-  -- skip gives the same answer as decode, which adds only the two refusals for room
-  pub skip-decode : (f : Format) (s : Settings) (inp : List ℕ) → SameButRoom at rs ps (skipRule f s inp at) (decodeRule f s inp at rs ps .answer)
+  -- decode's answer is the test of room, applied to skip's
+  pub decode-tested : (f : Format) (s : Settings) (inp : List ℕ) → decodeRule f s inp at rs ps .answer ≡ roomTest at rs ps (skipRule f s inp at)
   unfolding skipRule decodeRule
-  skip-decode f s inp = settings (settingsOk s and sizesOk f and shortOk inp and leb at (length inp))
+  decode-tested f s inp = settings (settingsOk s and sizesOk f and shortOk inp and leb at (length inp))
     where
-      row : (b : Bool) → SameButRoom at rs ps (pick b End (skipped at (rowAt f inp (limits s) at))) (pick b (untouched End rs ps) (filled at (rowAt f inp (limits s) at) rs ps) .answer)
-      row true = unfold pick in same
-      row false = unfold pick in filled-same (rowAt f inp (limits s) at)
+      row : (b : Bool) → pick b (untouched End rs ps) (filled at (rowAt f inp (limits s) at) rs ps) .answer ≡ roomTest at rs ps (pick b End (skipped at (rowAt f inp (limits s) at)))
+      row true = unfold pick roomTest in refl
+      row false = unfold pick in filled-tested (rowAt f inp (limits s) at)
 
-      format : (c : Checked) → SameButRoom at rs ps (whenAccepted Refused c (skipFrom f inp (limits s) at)) (whenAccepted (λ r. untouched (Refused r) rs ps) c (decodeFrom f inp (limits s) at rs ps) .answer)
+      format : (c : Checked) → whenAccepted (λ r. untouched (Refused r) rs ps) c (decodeFrom f inp (limits s) at rs ps) .answer ≡ roomTest at rs ps (whenAccepted Refused c (skipFrom f inp (limits s) at))
       format Checked.Accepted = unfold whenAccepted skipFrom decodeFrom in row (eqb at (length inp))
-      format (Checked.Refused r) = unfold whenAccepted in same
+      format (Checked.Refused r) = unfold whenAccepted roomTest in refl
 
-      settings : (b : Bool) → SameButRoom at rs ps (pick b (whenAccepted Refused (formatRules f) (skipFrom f inp (limits s) at)) (Refused Setting))
-          (pick b (whenAccepted (λ r. untouched (Refused r) rs ps) (formatRules f) (decodeFrom f inp (limits s) at rs ps)) (untouched (Refused Setting) rs ps) .answer)
+      settings : (b : Bool) → pick b (whenAccepted (λ r. untouched (Refused r) rs ps) (formatRules f) (decodeFrom f inp (limits s) at rs ps)) (untouched (Refused Setting) rs ps) .answer
+          ≡ roomTest at rs ps (pick b (whenAccepted Refused (formatRules f) (skipFrom f inp (limits s) at)) (Refused Setting))
       settings true = unfold pick in format (formatRules f)
-      settings false = unfold pick in same
+      settings false = unfold pick roomTest in refl
 
 -- ---- what decode leaves in its two slices
 
@@ -85,63 +64,58 @@ module _ (at : ℕ) (rs ps : List ℕ) where
 abbrev pub decodedRow : ℕ → List ℕ → List ℕ → ℕ → Value → Pos → Decoded
 decodedRow at rs ps t v q = record { answer = Row (extent at t q); records = over rs 0 (flat v 0 0); payload = over ps 0 (pays v) }
 
-unfoldable pub NotRow : Read → Type 0
-NotRow (Row e) = ⊥
-NotRow End = Unit
-NotRow (Refused r) = Unit
-
 -- the table of the row that stands there, from the start of each slice; or nothing
 pub data Leaves (f : Format) (inp : List ℕ) (lim : Limits) (at : ℕ) (rs ps : List ℕ) : Decoded → Type 0 where
   row-written : {t : ℕ} {v : Value} {q : Pos} →
-      Accepts f inp lim at t v q → recordsOf v ≤ recordRoom rs → payloadOf v ≤ room ps →
+      formatRules f ≡ Checked.Accepted → Accepts f inp lim at t v q → recordsOf v ≤ recordRoom rs → payloadOf v ≤ room ps →
       Leaves f inp lim at rs ps (decodedRow at rs ps t v q)
   unchanged : {a : Read} →
-      NotRow a →
+      NoRow a →
       Leaves f inp lim at rs ps (untouched a rs ps)
 
 module _ (f : Format) (inp : List ℕ) (lim : Limits) (at : ℕ) (rs ps : List ℕ) where
   -- what an accepted row counts
-  counted : {t : ℕ} {v : Value} {q : Pos} → Accepts f inp lim at t v q → (q .records ≡ recordsOf v) × (q .payload ≡ payloadOf v)
+  pub counted : {t : ℕ} {v : Value} {q : Pos} → Accepts f inp lim at t v q → (q .records ≡ recordsOf v) × (q .payload ≡ payloadOf v)
   unfolding after start
   counted {v = v} {q = q} a = (ap (λ (p : Pos). p .records) (a .ends) ∙ none (recordsOf v), ap (λ (p : Pos). p .payload) (a .ends) ∙ none (payloadOf v))
     where
       none : (n : ℕ) → 0 + n ≡ n
       none n = omega arith
 
-  filled-leaves : Bytes inp → at ≤ length inp → (a : Answer (ℕ × Value)) → rowAt f inp lim at ≡ a → Leaves f inp lim at rs ps (filled at a rs ps)
+  filled-leaves : formatRules f ≡ Checked.Accepted → Bytes inp → at ≤ length inp → (a : Answer (ℕ × Value)) → rowAt f inp lim at ≡ a → Leaves f inp lim at rs ps (filled at a rs ps)
   unfolding filled
-  filled-leaves bs h (Got (t, v) q) e = nodes (leb (q .records) (recordRoom rs)) refl
+  filled-leaves ok bs h (Got (t, v) q) e = nodes (leb (q .records) (recordRoom rs)) refl
     where
       is : Accepts f inp lim at t v q
       is = row-agrees f inp lim at bs h t v q .0 e
 
       payload : q .records ≤ recordRoom rs → (b : Bool) → leb (q .payload) (room ps) ≡ b → Leaves f inp lim at rs ps (pick b (decodedRow at rs ps t v q) (untouched (Refused (NoPayloadRoom (q .payload) at)) rs ps))
-      payload l true e = unfold pick in row-written is (rw (counted is .0) at l) (rw (counted is .1) at (leb-true (q .payload) (room ps) e))
-      payload l false e = unfold pick NotRow in unchanged tt
+      payload l true e = unfold pick in row-written ok is (rw (counted is .0) at l) (rw (counted is .1) at (leb-true (q .payload) (room ps) e))
+      payload l false e = unfold pick NoRow in unchanged tt
 
       nodes : (b : Bool) → leb (q .records) (recordRoom rs) ≡ b →
           Leaves f inp lim at rs ps (pick b (pick (leb (q .payload) (room ps)) (decodedRow at rs ps t v q) (untouched (Refused (NoPayloadRoom (q .payload) at)) rs ps)) (untouched (Refused (NoNodeRoom (q .records) at)) rs ps))
       nodes true e = unfold pick in payload (leb-true _ _ e) (leb (q .payload) (room ps)) refl
-      nodes false e = unfold pick NotRow in unchanged tt
-  filled-leaves bs h (Answer.Refused r) e = unfold NotRow in unchanged tt
+      nodes false e = unfold pick NoRow in unchanged tt
+  filled-leaves ok bs h (Answer.Refused r) e = unfold NoRow in unchanged tt
 
 -- decode leaves the table of the row that stands there, or both slices as they were
 pub decode-leaves : (f : Format) (s : Settings) (inp : List ℕ) (at : ℕ) (rs ps : List ℕ) → Bytes inp → Leaves f inp (limits s) at rs ps (decodeRule f s inp at rs ps)
 unfolding decodeRule
 decode-leaves f s inp at rs ps bs = settings (settingsOk s and sizesOk f and shortOk inp and leb at (length inp)) refl
   where
-    row : at ≤ length inp → (b : Bool) → Leaves f inp (limits s) at rs ps (pick b (untouched End rs ps) (filled at (rowAt f inp (limits s) at) rs ps))
-    row h true = unfold pick NotRow in unchanged tt
-    row h false = unfold pick in filled-leaves f inp (limits s) at rs ps bs h (rowAt f inp (limits s) at) refl
+    row : formatRules f ≡ Checked.Accepted → at ≤ length inp → (b : Bool) → Leaves f inp (limits s) at rs ps (pick b (untouched End rs ps) (filled at (rowAt f inp (limits s) at) rs ps))
+    row ok h true = unfold pick NoRow in unchanged tt
+    row ok h false = unfold pick in filled-leaves f inp (limits s) at rs ps ok bs h (rowAt f inp (limits s) at) refl
 
-    format : at ≤ length inp → (c : Checked) → Leaves f inp (limits s) at rs ps (whenAccepted (λ r. untouched (Refused r) rs ps) c (decodeFrom f inp (limits s) at rs ps))
-    format h Checked.Accepted = unfold whenAccepted decodeFrom in row h (eqb at (length inp))
-    format h (Checked.Refused r) = unfold whenAccepted NotRow in unchanged tt
+    format : at ≤ length inp → (c : Checked) → formatRules f ≡ c → Leaves f inp (limits s) at rs ps (whenAccepted (λ r. untouched (Refused r) rs ps) c (decodeFrom f inp (limits s) at rs ps))
+    format h Checked.Accepted ok = unfold whenAccepted decodeFrom in row ok h (eqb at (length inp))
+    format h (Checked.Refused r) ok = unfold whenAccepted NoRow in unchanged tt
 
     settings : (b : Bool) → (settingsOk s and sizesOk f and shortOk inp and leb at (length inp)) ≡ b →
         Leaves f inp (limits s) at rs ps (pick b (whenAccepted (λ r. untouched (Refused r) rs ps) (formatRules f) (decodeFrom f inp (limits s) at rs ps)) (untouched (Refused Setting) rs ps))
-    settings true e = unfold pick in format (leb-true _ _ (and-both _ _ e .1)) (formatRules f)
-    settings false e = unfold pick NotRow in unchanged tt
+    settings true e = unfold pick in format (leb-true _ _ (and-both _ _ e .1)) (formatRules f) refl
+    settings false e = unfold pick NoRow in unchanged tt
 
 -- a row that stands somewhere is one of a conforming value that value records can hold
 pub accepts-conforms : (f : Format) (inp : List ℕ) (lim : Limits) (at : ℕ) {t : ℕ} {v : Value} {q : Pos} → Accepts f inp lim at t v q → Conforms (schemaOf f t) v × Fits v

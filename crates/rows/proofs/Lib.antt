@@ -4,10 +4,10 @@ pub mod Conform
 pub mod Sound
 pub mod Complete
 pub mod Agree
-pub mod Honest
+pub mod Refused
 pub mod TableRows
+pub mod RowReasons
 pub mod Decoding
 pub mod Running
-pub mod Refused
 pub mod Parts
 pub mod Windows

@@ -17,6 +17,12 @@ unfolding endTag
 end-fits zero = omega arith
 end-fits (suc w) = omega (arith, end-fits w)
 
+-- a tag that is no end tag has a byte
+pub tag-wide : (t w : ℕ) → t < endTag w → 0 < w
+unfolding endTag
+tag-wide t zero h = omega arith
+tag-wide t (suc w) h = omega arith
+
 module _ (s : List ℕ) where
   -- a number, and what comes after it
   pub record Starts (at w t : ℕ) (x b : List ℕ) : Type 0 where

@@ -14,7 +14,7 @@ use lib.Seq.{length-take-le}
 use Rattle.rules.specs.Choice.{pick}
 use Rattle.rules.specs.Bytes.{leAt, part, Stands}
 use Rattle.rules.specs.Wire.{Form, empty, truth, fixed, raw, sized, choice, series, fields, unknown, form, endTag}
-use Rattle.rules.specs.Refusals.{said}
+use Rattle.rules.specs.Refusals.{lineOf, BadSchemaTable, TooDeep, UnknownRegistryReference, Truncated}
 use Rattle.rules.specs.Block.{nodeAt, block}
 use Rattle.rules.specs.Format.{Format, tableSchema}
 use Rattle.rules.specs.Value.{Value, Items, Values}
@@ -25,7 +25,8 @@ use Rattle.rules.specs.declared.Node.{Node}
 use Rattle.rules.specs.declared.Located.{Located}
 use Rattle.rules.specs.declared.Located.the-variants.{Block, NoTable, NoEntry}
 use Rattle.rules.specs.declared.Refusal.{Refusal}
-use Rattle.rules.specs.declared.Refusal.the-variants.{Setting, BadSchemaTable, TooDeep, UnexpectedChildren, TooManyChildren, EmptyTableSchemas, UnknownRegistryReference, TableSchemaRootMustBeTuple, TableSchemaMustBeTuple, TableSchemaChildMissingName, MissingTableSchema, Truncated, RowTooLarge, BlobTooLarge, ValueDoesNotMatchSchema, TupleLength, InvalidVariantTag, BadValueTable, NoNodeRoom, NoPayloadRoom, NoOutputRoom}
+use Rattle.rules.specs.declared.Why.{Why}
+use Rattle.rules.proofs.Tests.{either-both}
 use Rattle.rules.proofs.Stands.{stands-in, stands-seam, stands-self}
 
 -- a byte of what stands somewhere
@@ -73,6 +74,19 @@ module _ (b : ℕ) (inp whole : List ℕ) (st : Stands whole b inp) where
         place ≤ length inp → b + length inp < length whole →
         Follows from (Refused (Truncated context place)) y
 
+  -- a refusal whose place moves, and one whose place stays
+  refused-there : {A : Type 0} {from place : ℕ} {w : Why} → lineOf w .moves ≡ true → place ≤ length inp → Follows {A = A} from (Refused (record { why = w; place = place })) (Refused (record { why = w; place = place + b }))
+  refused-there {A = A} {from = from} {place = place} {w = w} m h =
+      let e : moved b (record { why = w; place = place }) ≡ record { why = w; place = place + b } = unfold moved pick in rw m in
+      let f : Follows {A = A} from (Refused (record { why = w; place = place })) (Refused (moved b (record { why = w; place = place }))) = refused (λ _. h) in
+      rw e at f
+
+  refused-here : {A : Type 0} {from : ℕ} (r : Refusal) → lineOf (r .why) .moves ≡ false → Follows {A = A} from (Refused r) (Refused r)
+  refused-here {A = A} {from = from} r m =
+      let e : moved b r ≡ r = unfold moved pick in rw m in
+      let f : Follows {A = A} from (Refused r) (Refused (moved b r)) = refused (λ l. let z : false ≡ true = sym m ∙ l in let n : _≡_ {A = ℕ} 0 1 = cc in absurd (omega arith)) in
+      rw e at f
+
   later : {A : Type 0} {m n : ℕ} {x y : Answer A} → Follows m x y → n ≤ m → Follows n x y
   later (same {q = q} f h) n = same {q = q} (omega arith) h
   later (refused i) n = refused i
@@ -85,15 +99,10 @@ module _ (b : ℕ) (inp whole : List ℕ) (st : Stands whole b inp) where
   then l (refused i) g = refused i
   then l (cut i h) g = cut i h
 
-  either : {A : Type 0} {from : ℕ} {x y u v : Answer A} (t : Bool) → (t ≡ true → Follows from x u) → (t ≡ false → Follows from y v) → Follows from (pick t x y) (pick t u v)
-  unfolding pick
-  either true f g = f refl
-  either false f g = g refl
-
   -- a field of n bytes that is there in the part, or is cut
   field-follows : {A : Type 0} {x y : Answer A} (n context : ℕ) (p : Pos) → p .at ≤ length inp → (p .at + n ≤ length inp → Follows (p .at) x y) →
       Follows (p .at) (pick (leb n (length inp - p .at)) x (Refused (Truncated context (p .at)))) (pick (leb n (length whole - (p .at + b))) y (Refused (Truncated context (p .at + b))))
-  unfolding pick moved said
+  unfolding pick lineOf
   field-follows {x = x} {y = y} n context p h f = by (leb n (length inp - p .at)) refl (leb (length whole) (b + length inp)) refl
     where
       by : (t : Bool) → leb n (length inp - p .at) ≡ t → (u : Bool) → leb (length whole) (b + length inp) ≡ u → Follows (p .at) (pick t x (Refused (Truncated context (p .at)))) (pick (leb n (length whole - (p .at + b))) y (Refused (Truncated context (p .at + b))))
@@ -102,7 +111,7 @@ module _ (b : ℕ) (inp whole : List ℕ) (st : Stands whole b inp) where
           rw (le-leb n (length whole - (p .at + b)) (omega (arith, stands-in whole b inp st))) (f (omega arith))
       by false e true k =
           let l = leb-false n (length inp - p .at) e in
-          rw (lt-leb n (length whole - (p .at + b)) (omega (arith, leb-true (length whole) (b + length inp) k))) (refused (λ _. h))
+          rw (lt-leb n (length whole - (p .at + b)) (omega (arith, leb-true (length whole) (b + length inp) k))) (refused-there refl h)
       by false e false k = cut h (leb-false _ _ k)
 
   number-follows : (w context : ℕ) (p : Pos) → p .at ≤ length inp → Follows (p .at) (numberOf inp w context p) (numberOf whole w context (onward b p))
@@ -127,20 +136,20 @@ module _ (b : ℕ) (inp whole : List ℕ) (st : Stands whole b inp) where
 
   module _ (lim : Limits) where
     charge-follows : (cost r place : ℕ) (p : Pos) → p .at ≤ length inp → place ≤ length inp → Follows (p .at) (charged lim cost r place p) (charged lim cost r (place + b) (onward b p))
-    unfolding charged moved said
-    charge-follows cost r place p h l = either _ (λ e. same {q = record { at = p .at; left = p .left - cost; records = p .records + r; payload = p .payload }} (omega arith) h) (λ e. refused (λ _. l))
+    unfolding charged lineOf
+    charge-follows cost r place p h l = either-both (Follows _) _ (λ e. same {q = record { at = p .at; left = p .left - cost; records = p .records + r; payload = p .payload }} (omega arith) h) (λ e. refused-there refl l)
 
     blob-follows : (code : ℕ) (p : Pos) → p .at ≤ length inp → Follows (p .at) (blobOf inp lim code p) (blobOf whole lim code (onward b p))
-    unfolding blobOf moved said
+    unfolding blobOf lineOf
     blob-follows code p h =
         then _ (number-follows 4 13 p h) (λ (n, q) f i.
-        either _ (λ e. then _ (charge-follows n 0 (p .at) q i h) (λ (_, r) g j. then _ (bytes-follows n 14 r j) (λ (x, s) k l. same {q = s} (omega arith) l))) (λ e. refused (λ _. h)))
+        either-both (Follows _) _ (λ e. then _ (charge-follows n 0 (p .at) q i h) (λ (_, r) g j. then _ (bytes-follows n 14 r j) (λ (x, s) k l. same {q = s} (omega arith) l))) (λ e. refused-there refl h))
 
     -- two readings of children that follow each other
     module _ (rec rec′ : Walker) (ok : (i : ℕ) (p : Pos) → p .at ≤ length inp → Follows (p .at) (rec i p) (rec′ i (onward b p))) where
       child-follows : (n : Node) (tag place : ℕ) (p : Pos) → p .at ≤ length inp → place ≤ length inp → Follows (p .at) (childOf rec n tag place p) (childOf rec′ n tag (place + b) (onward b p))
-      unfolding childOf moved said
-      child-follows n tag place p h l = either _ (λ e. ok (n .first + tag) p h) (λ e. refused (λ _. l))
+      unfolding childOf lineOf
+      child-follows n tag place p h l = either-both (Follows _) _ (λ e. ok (n .first + tag) p h) (λ e. refused-there refl l)
 
       fields-follows : (i n : ℕ) (p : Pos) → p .at ≤ length inp → Follows (p .at) (fieldsOf rec i n p) (fieldsOf rec′ i n (onward b p))
       unfolding fieldsOf
@@ -153,14 +162,14 @@ module _ (b : ℕ) (inp whole : List ℕ) (st : Stands whole b inp) where
       pairs-follows n w zero fuel′ p h x y = absurd (omega arith)
       pairs-follows n w (suc fuel) zero p h x y = absurd (omega arith)
       pairs-follows n w (suc fuel) (suc fuel′) p h x y = numbered _ _ w (14 + w) p h (λ i.
-          either _ (λ e. same {q = onward w p} (omega arith) i)
+          either-both (Follows _) _ (λ e. same {q = onward w p} (omega arith) i)
           (λ e.
           let l = tag-long inp (p .at) w (eqb-false _ _ e) in
           later (then _ (child-follows n (leAt inp (p .at) w) (p .at) (onward w p) i h) (λ (v, r) f j.
           then _ (pairs-follows n w fuel fuel′ r j (omega arith) (omega (arith, stands-in whole b inp st))) (λ (is, s) g m. same {q = s} (omega arith) m))) (omega arith)))
 
       value-follows : (n : Node) (f : Form) (p : Pos) → p .at ≤ length inp → Follows (p .at) (valueOf inp lim rec n f p) (valueOf whole lim rec′ n f (onward b p))
-      unfolding valueOf moved said
+      unfolding valueOf lineOf
       value-follows n empty p h = same {q = p} (omega arith) h
       value-follows n truth p h = then _ (number-follows 1 (n .code) p h) (λ (x, q) f i. same {q = q} (omega arith) i)
       value-follows n (fixed w) p h = then _ (number-follows w (n .code) p h) (λ (x, q) f i. same {q = q} (omega arith) i)
@@ -171,21 +180,21 @@ module _ (b : ℕ) (inp whole : List ℕ) (st : Stands whole b inp) where
           then _ (child-follows n tag (p .at) q i h) (λ (v, r) g j. same {q = r} (omega arith) j))
       value-follows n (series w) p h = then _ (pairs-follows n w _ _ p h (omega arith) (omega arith)) (λ (is, q) f i. same {q = q} (omega arith) i)
       value-follows n fields p h = then _ (fields-follows (n .first) (n .children) p h) (λ (vs, q) f i. same {q = q} (omega arith) i)
-      value-follows n unknown p h = refused {r = BadSchemaTable} (λ _. omega arith)
+      value-follows n unknown p h = refused-here BadSchemaTable refl
 
     walk-follows : (sch : List ℕ) (d i : ℕ) (p : Pos) → p .at ≤ length inp → Follows (p .at) (walk sch inp lim d i p) (walk sch whole lim d i (onward b p))
-    unfolding walk moved said
-    walk-follows sch zero i p h = refused {r = TooDeep} (λ _. omega arith)
+    unfolding walk lineOf
+    walk-follows sch zero i p h = refused-here TooDeep refl
     walk-follows sch (suc d) i p h =
         then _ (charge-follows (lim .charge) 1 (p .at) p h h) (λ (_, q) f j.
         value-follows (walk sch inp lim d) (walk sch whole lim d) (walk-follows sch d) (nodeAt sch i) (form (nodeAt sch i .code)) q j)
 
     module _ (f : Format) (at : ℕ) (h : at ≤ length inp) where
       root-follows : (t : ℕ) (l : Located) (q : Pos) → q .at ≤ length inp → Follows (q .at) (rootFrom f inp lim at t l q) (rootFrom f whole lim (at + b) t l (onward b q))
-      unfolding rootFrom moved said
+      unfolding rootFrom lineOf
       root-follows t (Block first n) q i = then _ (walk-follows (block (f .table) first n) 64 0 q i) (λ (v, r) g j. same {q = r} (omega arith) j)
-      root-follows t NoTable q i = refused (λ _. h)
-      root-follows t NoEntry q i = refused {r = UnknownRegistryReference t} (λ l. absurd (omega (arith, l)))
+      root-follows t NoTable q i = refused-there refl h
+      root-follows t NoEntry q i = refused-here (UnknownRegistryReference t) refl
 
       -- a row of the part, and the row of the whole that stands there
       pub row-follows : Follows at (rowAt f inp lim at) (rowAt f whole lim (at + b))
@@ -196,32 +205,16 @@ module _ (b : ℕ) (inp whole : List ℕ) (st : Stands whole b inp) where
 
 -- nothing is moved by 0
 pub moved-none : (r : Refusal) → moved 0 r ≡ r
-unfolding moved
-moved-none Setting = refl
-moved-none BadSchemaTable = refl
-moved-none TooDeep = refl
-moved-none (UnexpectedChildren type count place) = refl
-moved-none (TooManyChildren type count maximum place) = refl
-moved-none EmptyTableSchemas = refl
-moved-none (UnknownRegistryReference table) = refl
-moved-none (TableSchemaRootMustBeTuple found place) = refl
-moved-none (TableSchemaMustBeTuple found place) = refl
-moved-none (TableSchemaChildMissingName index place) = refl
-moved-none (MissingTableSchema index place) = rw add-zero
-moved-none (Truncated context place) = rw add-zero
-moved-none (RowTooLarge limit place) = rw add-zero
-moved-none (BlobTooLarge type length limit place) = rw add-zero
-moved-none (ValueDoesNotMatchSchema type kind place) = refl
-moved-none (TupleLength expected actual place) = refl
-moved-none (InvalidVariantTag type tag children place) = rw add-zero
-moved-none BadValueTable = refl
-moved-none (NoNodeRoom needed place) = refl
-moved-none (NoPayloadRoom needed place) = refl
-moved-none (NoOutputRoom needed place) = refl
+unfolding moved pick
+moved-none r = rw (add-zero, same-either (lineOf (r .why) .moves) (r .place))
+  where
+    same-either : (b : Bool) (n : ℕ) → pick b n n ≡ n
+    same-either true n = refl
+    same-either false n = refl
 
 -- a row that is not cut is read alike where more bytes come after
 pub row-stays : (f : Format) (inp more : List ℕ) (lim : Limits) (at : ℕ) → at ≤ length inp → (WasCut (rowAt f inp lim at) → ⊥) → rowAt f (inp ++ more) lim at ≡ rowAt f inp lim at
-unfolding WasCut said
+unfolding WasCut lineOf
 row-stays f inp more lim at h n = rw add-zero at (from n (row-follows 0 inp (inp ++ more) (stands-seam [] inp more) lim f at h))
   where
     from : {x y : Answer (ℕ × Value)} → (WasCut x → ⊥) → Follows 0 inp (inp ++ more) (stands-seam [] inp more) at x y → y ≡ x
@@ -249,7 +242,7 @@ row-moves f inp lim n at h l = from (row-follows n (drop n inp) inp (stands-drop
 
 -- a refused row has its place in the input
 pub row-inside : (f : Format) (inp : List ℕ) (lim : Limits) (at : ℕ) → at ≤ length inp → (r : Refusal) → rowAt f inp lim at ≡ Refused r → Inside (length inp) r
-unfolding said
+unfolding lineOf
 row-inside f inp lim at h r e = from (rw e at (row-follows 0 inp inp (stands-self inp) lim f at h))
   where
     from : {r : Refusal} {y : Answer (ℕ × Value)} → Follows 0 inp inp (stands-self inp) at (Refused r) y → Inside (length inp) r

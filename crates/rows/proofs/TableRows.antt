@@ -1,28 +1,28 @@
 -- A row at a place of a stream is read just if it stands there, within the limits.
 -- Assumes nothing.
-use Prim.Native.Nat.{ℕ, zero, suc, _+_, _-_, _*_, _^_, _≤_, _<_, max}
-use mathlib.Core.Path.{_≡_, refl, sym, ap, _∙_}
+use Prim.Native.Nat.{ℕ, _+_, _^_, _≤_, _<_}
+use mathlib.Core.Path.{_≡_, refl}
 use mathlib.Core.Bool.{Bool, true, false}
 use mathlib.Core.Logic.{_↔_}
-use mathlib.Core.List.{List, [], _∷_, _++_}
+use mathlib.Core.List.{List, _++_}
 use native.Mathlib.Omega.{arith}
 use borrow.Author.Tests.{ltb-true}
 use lib.Dec.{ltb}
 use lib.ListN.{length}
 use Rattle.rules.specs.Choice.{pick}
-use Rattle.rules.specs.Bytes.{le, Stands, Bytes}
+use Rattle.rules.specs.Bytes.{le, Bytes}
 use Rattle.rules.specs.Wire.{form, writtenIf, typeOf, typeIn, wireTypes}
 use Rattle.rules.specs.Schema.{noSchema}
-use Rattle.rules.specs.Block.{block, treeAt}
+use Rattle.rules.specs.Block.{block}
 use Rattle.rules.specs.Format.{Format, tables, tableSchema, resolved, referenceAt}
-use Rattle.rules.specs.Value.{Value, tally, costs, recordsOf, payloadOf}
+use Rattle.rules.specs.Value.{Value, costs, recordsOf, payloadOf}
 use Rattle.rules.specs.Grammar.{Row, row, TableRow, table-row}
-use Rattle.rules.specs.Walk.{Limits, Pos, Answer, Got, Refused, _>>=_, numberOf, walk, after}
+use Rattle.rules.specs.Walk.{Limits, Pos, Got, _>>=_, after}
 use Rattle.rules.specs.Reading.{start, rootFrom, rowAt, schemaIn, schemaOf, Accepts}
 use Rattle.rules.specs.declared.Located.{Located}
 use Rattle.rules.specs.declared.Located.the-variants.{Block, NoTable, NoEntry}
 use Rattle.rows.proofs.Span.{free, tollV, excess-within, within-excess, Span, in-end, join, split, pos-eq}
-use Rattle.rows.proofs.Sound.{Holds, holds, fails, then, Passed, number-holds, walk-holds}
+use Rattle.rows.proofs.Sound.{Says, gets, refuses, if-got, as-why, then, Passed, number-says, walk-says}
 use Rattle.rows.proofs.Complete.{Known, known, le-got, walk-got}
 
 -- a node without a wire type has no rows
@@ -47,22 +47,22 @@ module _ (f : Format) (inp : List ℕ) (lim : Limits) (at : ℕ) where
     abbrev Reads : ℕ × Value → Pos → Type 0
     Reads z q = Passed inp lim bs (start lim at) q (TableRow (tables f) (schemaOf f) (z .0) (z .1)) (tollV lim (z .1))
 
-    root-holds : (t : ℕ) (l : Located) → tableSchema f t ≡ l → (q : Pos) → t < 256 ^ 2 → Span inp lim (start lim at) q (le 2 t) free → Holds Reads (rootFrom f inp lim at t l q)
+    root-says : (t : ℕ) (l : Located) → tableSchema f t ≡ l → (q : Pos) → t < 256 ^ 2 → Span inp lim (start lim at) q (le 2 t) free → Says Reads (λ r. Unit) (rootFrom f inp lim at t l q)
     unfolding rootFrom
-    root-holds t (Block first n) e q h s =
-        then (walk-holds inp lim bs (block (f .table) first n) (f .names) 64 0 q (in-end inp lim s)) (λ (v, r) b.
+    root-says t (Block first n) e q h s =
+        then (as-why (walk-says inp lim bs (block (f .table) first n) (f .names) 64 0 q (in-end inp lim s)) (λ r x. tt)) (λ (v, r) b.
         let x : Row (schemaOf f t) v (b .bytes) = unfold schemaOf schemaIn in rw e (b .is) in
-        holds (record {
+        gets (record {
           bytes = le 2 t ++ b .bytes;
           is = table-row h (located f t first n e) x refl;
           span = join inp lim (tollV lim v) s (b .span) (omega arith);
         }))
-    root-holds t NoTable e q h s = fails
-    root-holds t NoEntry e q h s = fails
+    root-says t NoTable e q h s = refuses tt
+    root-says t NoEntry e q h s = refuses tt
 
-    row-holds : at ≤ length inp → Holds Reads (rowAt f inp lim at)
+    row-says : at ≤ length inp → Says Reads (λ r. Unit) (rowAt f inp lim at)
     unfolding rowAt start
-    row-holds h = then (number-holds inp lim bs 2 17 (start lim at) h) (λ (t, q) a. root-holds t (tableSchema f t) refl q (a .0) (a .1))
+    row-says h = then (number-says inp lim bs 2 17 (start lim at) h (λ c. tt)) (λ (t, q) a. root-says t (tableSchema f t) refl q (a .0) (a .1))
 
   root-got : (t : ℕ) (l : Located) (v : Value) (x : List ℕ) (p q : Pos) → Row (schemaIn f l) v x → Span inp lim p q x (tollV lim v) → rootFrom f inp lim at t l p ≡ Got (t, v) q
   unfolding rootFrom schemaIn _>>=_
@@ -91,10 +91,10 @@ module _ (f : Format) (inp : List ℕ) (lim : Limits) (at : ℕ) where
   -- a row is read as v of table t up to q, just if such a row stands there within the limits
   pub row-agrees : Bytes inp → at ≤ length inp → (t : ℕ) (v : Value) (q : Pos) → (rowAt f inp lim at ≡ Got (t, v) q) ↔ Accepts f inp lim at t v q
   unfolding after costs recordsOf payloadOf start
-  row-agrees bs h t v q = (λ e. from (rw e at (row-holds bs h)), row-accepts)
+  row-agrees bs h t v q = (λ e. from (if-got (rw e at (row-says bs h))), row-accepts)
     where
-      from : Holds (Reads bs) (Got (t, v) q) → Accepts f inp lim at t v q
-      from (holds a) = record {
+      from : Reads bs (t, v) q → Accepts f inp lim at t v q
+      from a = record {
         bytes = a .bytes;
         is = a .is;
         stands = a .span .stands;

@@ -4,7 +4,6 @@ use Prim.Native.Nat.{ℕ, zero, suc, _+_, _-_, _≤_, _<_}
 use mathlib.Core.Path.{_≡_, refl, sym, ap, _∙_}
 use mathlib.Core.Bool.{Bool, true, false}
 use mathlib.Core.List.{List, [], _∷_, _++_, map}
-use mathlib.Core.Logic.{⊎-elim}
 use native.Mathlib.Omega.{arith}
 use native.Mathlib.Nat.{add-zero}
 use borrow.Author.Tests.{eqb-true, eqb-false, eq-eqb, ne-eqb, le-leb, ltb-true, ltb-false}
@@ -13,7 +12,7 @@ use lib.ListN.{length, getD, drop, List·getD-append, List·getD-eq-default, len
 use lib.Seq.{getD-drop}
 use Rattle.rules.specs.Choice.{pick, _and_}
 use Rattle.rules.specs.Bytes.{Bytes}
-use Rattle.rules.specs.Refusals.{said}
+use Rattle.rules.specs.Refusals.{lineOf, refusalNumber, Setting}
 use Rattle.rules.specs.Format.{Format, sizesOk, shortOk, formatRules, formatRule}
 use Rattle.rules.specs.Value.{Value}
 use Rattle.rules.specs.Walk.{Limits, Pos, Answer, Got, onward}
@@ -21,7 +20,6 @@ use Rattle.rules.specs.Reading.{settingsOk, limits, rowAt, extent, skipped, whe
 use Rattle.rules.specs.Windows.{moved, Inside, movedAnswer, WasCut, movedStop, movedRow, goesOn, continued, added}
 use Rattle.rules.specs.declared.Settings.{Settings}
 use Rattle.rules.specs.declared.Refusal.{Refusal}
-use Rattle.rules.specs.declared.Refusal.the-variants.{Setting}
 use Rattle.rules.specs.declared.Checked.{Checked}
 use Rattle.rules.specs.declared.Extent.{Extent}
 use Rattle.rules.specs.declared.Read.{Read}
@@ -29,7 +27,7 @@ use Rattle.rules.specs.declared.Read.the-variants.{Row, End, Refused}
 use Rattle.rules.specs.declared.Stop.{Stop}
 use Rattle.rules.specs.declared.Ran.{Ran}
 use Rattle.rules.proofs.Tests.{and-both}
-use Rattle.blocks.proofs.FormatReasons.{format-numbers}
+use Rattle.blocks.proofs.FormatReasons.{format-stays}
 use Rattle.rows.proofs.Running.{Iterates, ended, refused, accepted, skip-goes, run-iterates}
 use Rattle.rows.proofs.Parts.{moved-none, row-stays, row-moves, row-inside}
 
@@ -39,7 +37,7 @@ use Rattle.rows.proofs.Parts.{moved-none, row-stays, row-moves, row-ins
 unfoldable Settled : Read → Type 0
 Settled (Row e) = Unit
 Settled End = ⊥
-Settled (Refused r) = said r .number ≡ 12 → ⊥
+Settled (Refused r) = refusalNumber r ≡ 12 → ⊥
 
 skip-stays : (f : Format) (inp more : List ℕ) (lim : Limits) (at : ℕ) → at ≤ length inp → Settled (skipFrom f inp lim at) → skipFrom f (inp ++ more) lim at ≡ skipFrom f inp lim at
 unfolding skipFrom skipped pick Settled WasCut
@@ -262,5 +260,7 @@ module _ (f : Format) (s : Settings) (inp : List ℕ) (bs : Bytes inp) where
           record { few = r .0; within = omega (arith, r .1); placed = stop-inside (omega arith) i }
       by true e (Checked.Refused r) k = outside r (λ l.
           let z : formatRule f ≡ Checked.Refused r = unfold formatRule in rw (and-both _ _ (and-both _ _ e .0) .1, k) in
-          absurd (⊎-elim (λ (h : said r .number ≤ 8). omega arith) (λ (h : said r .number ≡ 10). omega arith) (format-numbers f r z)))
-      by false e c k = unfold said in outside Setting (λ l. omega arith)
+          let w : false ≡ true = sym (format-stays f r z) ∙ l in
+          let n : _≡_ {A = ℕ} 0 1 = cc in
+          absurd (omega arith))
+      by false e c k = unfold lineOf in outside Setting (λ l. omega arith)

@@ -5,3 +5,4 @@ pub mod Orders
 pub mod Over
 pub mod Stands
 pub mod Codes
+pub mod Answers

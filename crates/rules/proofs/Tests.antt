@@ -59,3 +59,15 @@ pub pick-either : (b x y : Bool) → pick b x y ≡ true → ((b ≡ true) × (x
 unfolding pick
 pick-either true x y e = inl (refl, e)
 pick-either false x y e = inr (refl, e)
+
+-- what holds of both that are chosen from holds of the choice
+pub either : {A : Type 0} (P : A → Type 0) {x y : A} (b : Bool) → (b ≡ true → P x) → (b ≡ false → P y) → P (pick b x y)
+unfolding pick
+either P true f g = f refl
+either P false f g = g refl
+
+-- and so of two choices by one test
+pub either-both : {A B : Type 0} (R : A → B → Type 0) {x y : A} {u v : B} (b : Bool) → (b ≡ true → R x u) → (b ≡ false → R y v) → R (pick b x y) (pick b u v)
+unfolding pick
+either-both R true f g = f refl
+either-both R false f g = g refl

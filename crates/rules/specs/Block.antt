@@ -141,8 +141,3 @@ module _ (s store : List ℕ) where
 -- each record's children lie in the block
 unfoldable pub Closed : List ℕ → Type 0
 Closed s = (i : ℕ) → NodeIn i (length s) → nodeStart (nodeAt s i .first + nodeAt s i .children) ≤ length s
-
--- node i and all below it lie within d levels
-unfoldable pub Shallow : List ℕ → ℕ → ℕ → Type 0
-Shallow s zero i = ⊥
-Shallow s (suc d) i = (t : ℕ) → t < nodeAt s i .children → Shallow s d (nodeAt s i .first + t)

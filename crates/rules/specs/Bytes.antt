@@ -1,10 +1,9 @@
--- Bytes in a list, numbers in bytes, and two's complement, each over any width. A list of numbers is a slice's contents.
+-- Bytes in a list and numbers in bytes, over any width. A list of numbers is a slice's contents.
 -- Assumes nothing: these are definitions.
-use Prim.Native.Nat.{ℕ, zero, suc, _+_, _-_, _*_, _/_, _%_, _^_, _≤_, _<_}
+use Prim.Native.Nat.{ℕ, zero, suc, _+_, _*_, _/_, _%_, _≤_, _<_}
 use mathlib.Core.Path.{_≡_}
 use mathlib.Core.Bool.{Bool, true, false}
 use mathlib.Core.List.{List, [], _∷_}
-use lib.IntN.{ℤ, pos, negsuc}
 use lib.ListN.{length, getD, set}
 use lib.Dec.{ltb, eqb}
 use Rattle.rules.specs.Choice.{pick}
@@ -24,10 +23,6 @@ le (suc w) x = x % 256 ∷ le w (x / 256)
 unfoldable pub leAt : List ℕ → ℕ → ℕ → ℕ
 leAt s at zero = 0
 leAt s at (suc w) = getD s at 0 + 256 * leAt s (at + 1) w
-
--- the number that x, in w bytes, is in two's complement
-unfoldable pub signed : ℕ → ℕ → ℤ
-signed w x = pick (ltb (x + x) (256 ^ w)) (pos x) (negsuc (256 ^ w - 1 - x))
 
 -- the n bytes from place `at` on; a byte past the end counts as 0
 unfoldable pub part : List ℕ → ℕ → ℕ → List ℕ

@@ -7,14 +7,13 @@ use lib.ListN.{length, getD}
 use lib.Dec.{ltb, leb, eqb}
 use Rattle.rules.specs.Choice.{pick, _and_, all}
 use Rattle.rules.specs.Bytes.{leAt, part, order, isLess, isEqual}
-use Rattle.rules.specs.Refusals.{_then_, inOrder}
+use Rattle.rules.specs.Refusals.{_then_, inOrder, Setting, BadSchemaTable, TooDeep, EmptyTableSchemas, UnknownRegistryReference}
 use Rattle.rules.specs.Block.{records, wholeNodes, block, spanOk, blockOk, depthOf}
 use Rattle.rules.specs.SchemaRules.{schemaRule, tableRule}
 use Rattle.rules.specs.declared.Reference.{Reference}
 use Rattle.rules.specs.declared.Entry.{Entry}
 use Rattle.rules.specs.declared.Located.{Located}
 use Rattle.rules.specs.declared.Located.the-variants.{Block, NoTable, NoEntry}
-use Rattle.rules.specs.declared.Refusal.the-variants.{Setting, BadSchemaTable, TooDeep, EmptyTableSchemas, UnknownRegistryReference}
 use Rattle.rules.specs.declared.Purpose.{Purpose}
 use Rattle.rules.specs.declared.Checked.{Checked}
 use Rattle.rules.specs.declared.Checked.the-variants.{Accepted, Refused}

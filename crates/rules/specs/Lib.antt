@@ -13,5 +13,10 @@ pub mod ValueTable
 pub mod Grammar
 pub mod Walk
 pub mod Reading
+pub mod Reasons
+pub mod Good
+pub mod Answers
 pub mod Windows
 pub mod Writing
+pub mod RoundTrip
+pub mod Rows

@@ -4,7 +4,7 @@ use Prim.Native.Nat.{ℕ, zero, suc, _+_, _-_, _≤_, min}
 use mathlib.Core.Path.{_≡_}
 use mathlib.Core.Bool.{Bool}
 use mathlib.Core.List.{List, [], _∷_}
-use lib.ListN.{length}
+use lib.ListN.{length, take, drop}
 use lib.Dec.{leb, eqb}
 use Rattle.rules.specs.Choice.{pick, _and_}
 use Rattle.rules.specs.Bytes.{Stands, over}
@@ -12,15 +12,15 @@ use Rattle.rules.specs.Schema.{Schema, noSchema}
 use Rattle.rules.specs.Block.{block, treeAt}
 use Rattle.rules.specs.Format.{Format, shortOk, sizesOk, tables, tableSchema, formatRules}
 use Rattle.rules.specs.Value.{Value, Within, costs}
-use Rattle.rules.specs.ValueRecord.{valueRecordsIn}
-use Rattle.rules.specs.ValueTable.{flat, pays}
-use Rattle.rules.specs.Grammar.{TableRow}
+use Rattle.rules.specs.ValueRecord.{valueRecordStart, valueRecordsIn}
+use Rattle.rules.specs.ValueTable.{flat, pays, TableOf}
+use Rattle.rules.specs.Grammar.{TableRow, Conforms}
 use Rattle.rules.specs.Walk.{Limits, blobLimit, Pos, Answer, Got, Refused, _>>=_, numberOf, walk, after}
 use Rattle.rules.specs.declared.Settings.{Settings}
 use Rattle.rules.specs.declared.Located.{Located}
 use Rattle.rules.specs.declared.Located.the-variants.{Block, NoTable, NoEntry}
 use Rattle.rules.specs.declared.Refusal.{Refusal}
-use Rattle.rules.specs.declared.Refusal.the-variants.{Setting, UnknownRegistryReference, MissingTableSchema, NoNodeRoom, NoPayloadRoom}
+use Rattle.rules.specs.Refusals.{Setting, UnknownRegistryReference, MissingTableSchema, NoNodeRoom, NoPayloadRoom}
 use Rattle.rules.specs.declared.Checked.{Checked}
 use Rattle.rules.specs.declared.Extent.{Extent}
 use Rattle.rules.specs.declared.Read.{Read}
@@ -123,6 +123,18 @@ unfoldable pub runFrom : Format → List ℕ → Limits → ℕ → ℕ → Run
 runFrom f inp lim zero at = record { rows = []; stop = Stop.End }
 runFrom f inp lim (suc enough) at = goOn (runFrom f inp lim enough) at (skipFrom f inp lim at)
 
+-- From a place on, skip accepts just these rows one after another, and then stops so.
+pub data Iterated (f : Format) (s : Settings) (inp : List ℕ) : ℕ → List RowSpan → Stop → Type 0 where
+  at-end : {at : ℕ} →
+      skipRule f s inp at ≡ End →
+      Iterated f s inp at [] Stop.End
+  at-refusal : {at : ℕ} {r : Refusal} →
+      skipRule f s inp at ≡ Read.Refused r →
+      Iterated f s inp at [] (Stop.Refused r)
+  one-row : {at : ℕ} {e : Extent} {rows : List RowSpan} {stop : Stop} →
+      skipRule f s inp at ≡ Row e → Iterated f s inp (at + e .bytes) rows stop →
+      Iterated f s inp at (record { offset = at; size = e .bytes; table = e .table } ∷ rows) stop
+
 unfoldable pub rowCount : List RowSpan → ℕ
 rowCount rows = length rows
 
@@ -156,6 +168,15 @@ room s = min (length s) 4294967295
 abbrev pub recordRoom : List ℕ → ℕ
 recordRoom s = valueRecordsIn (room s)
 
+-- room for a row's records (19), then for its payload bytes (20), each with the whole row's need; every other answer stays
+unfoldable pub roomTest : ℕ → List ℕ → List ℕ → Read → Read
+roomTest at rs ps (Row e) =
+    pick (leb (e .records) (recordRoom rs))
+    (pick (leb (e .payload) (room ps)) (Row e) (Read.Refused (NoPayloadRoom (e .payload) at)))
+    (Read.Refused (NoNodeRoom (e .records) at))
+roomTest at rs ps End = End
+roomTest at rs ps (Read.Refused r) = Read.Refused r
+
 abbrev pub untouched : Read → List ℕ → List ℕ → Decoded
 untouched answer rs ps = record { answer = answer; records = rs; payload = ps }
 
@@ -177,3 +198,19 @@ decodeRule f s inp at rs ps =
     pick (settingsOk s and sizesOk f and shortOk inp and leb at (length inp))
     (whenAccepted (λ r. untouched (Read.Refused r) rs ps) (formatRules f) (decodeFrom f inp (limits s) at rs ps))
     (untouched (Read.Refused Setting) rs ps)
+
+-- the answer is no row
+unfoldable pub NoRow : Read → Type 0
+NoRow (Row e) = ⊥
+NoRow End = Unit
+NoRow (Read.Refused r) = Unit
+
+-- What decode leaves of a row e: the first records and payload bytes of the two slices are the table of the value whose row stands there,
+-- which conforms to the schema of that table; the rest of both slices is as before.
+pub record LeavesRow (f : Format) (inp : List ℕ) (lim : Limits) (at : ℕ) (rs ps : List ℕ) (e : Extent) (d : Decoded) : Type 0 where
+  pub value : Value
+  pub stands : Accepts f inp lim at (e .table) value (after lim value (e .bytes) (start lim at))
+  pub table : TableOf value (take (valueRecordStart (e .records)) (d .records)) (take (e .payload) (d .payload))
+  pub conforms : Conforms (schemaOf f (e .table)) value
+  pub records-rest : drop (valueRecordStart (e .records)) (d .records) ≡ drop (valueRecordStart (e .records)) rs
+  pub payload-rest : drop (e .payload) (d .payload) ≡ drop (e .payload) ps

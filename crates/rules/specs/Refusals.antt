@@ -1,50 +1,134 @@
--- The refusals: number, carried values and place of each; and checks one after another.
+-- The refusals: number, name, carried values and place of each; and checks one after another.
 -- Assumes nothing: these are definitions.
 use Prim.Native.Nat.{ℕ, zero, suc, _+_}
-use mathlib.Core.List.{List, [], _∷_}
-use lib.ListN.{getD}
+use Prim.Native.String.{String}
+use mathlib.Core.Bool.{Bool, true, false}
+use mathlib.Core.List.{List, [], _∷_, _++_}
+use lib.ListN.{getD, take, replicate}
+use Rattle.rules.specs.Names.{ascii}
 use Rattle.rules.specs.declared.Report.{Report}
 use Rattle.rules.specs.declared.Refusal.{Refusal}
-use Rattle.rules.specs.declared.Refusal.the-variants.{Setting, BadSchemaTable, TooDeep, UnexpectedChildren, TooManyChildren, EmptyTableSchemas, UnknownRegistryReference, TableSchemaRootMustBeTuple, TableSchemaMustBeTuple, TableSchemaChildMissingName, MissingTableSchema, Truncated, RowTooLarge, BlobTooLarge, ValueDoesNotMatchSchema, TupleLength, InvalidVariantTag, BadValueTable, NoNodeRoom, NoPayloadRoom, NoOutputRoom}
+use Rattle.rules.specs.declared.RefusalLine.{RefusalLine}
+use Rattle.rules.specs.declared.Why.{Why}
+use Rattle.rules.specs.declared.Why.the-variants as why
 use Rattle.rules.specs.declared.Checked.{Checked}
 use Rattle.rules.specs.declared.Checked.the-variants.{Accepted, Refused}
 
--- number, place, and then what it carries
-pub record Said : Type 0 where
+-- A line of document 01's table of refusals: number, name, carried values, and whether the place is an offset in the stream that is read,
+-- so that it moves with the stream.
+pub record Line : Type 0 where
   pub number : ℕ
-  pub place : ℕ
+  pub name : String
   pub carries : List ℕ
+  pub moves : Bool
 
-abbrev say : ℕ → ℕ → List ℕ → Said
-say number place carries = record { number = number; place = place; carries = carries }
+abbrev stays : ℕ → String → List ℕ → Line
+stays number name carries = record { number = number; name = name; carries = carries; moves = false }
 
--- the table of refusal numbers
-unfoldable pub said : Refusal → Said
-said Setting = say 1 0 []
-said BadSchemaTable = say 2 0 []
-said TooDeep = say 3 0 []
-said (UnexpectedChildren type count place) = say 4 place (type ∷ count ∷ [])
-said (TooManyChildren type count maximum place) = say 5 place (type ∷ count ∷ maximum ∷ [])
-said EmptyTableSchemas = say 6 0 []
-said (UnknownRegistryReference table) = say 7 table (table ∷ [])
-said (TableSchemaRootMustBeTuple found place) = say 8 place (found ∷ [])
-said (TableSchemaMustBeTuple found place) = say 9 place (found ∷ [])
-said (TableSchemaChildMissingName index place) = say 10 place (index ∷ [])
-said (MissingTableSchema index place) = say 11 place (index ∷ [])
-said (Truncated context place) = say 12 place (context ∷ [])
-said (RowTooLarge limit place) = say 13 place (limit ∷ [])
-said (BlobTooLarge type length limit place) = say 14 place (type ∷ length ∷ limit ∷ [])
-said (ValueDoesNotMatchSchema type kind place) = say 15 place (type ∷ kind ∷ [])
-said (TupleLength expected actual place) = say 16 place (expected ∷ actual ∷ [])
-said (InvalidVariantTag type tag children place) = say 17 place (type ∷ tag ∷ children ∷ [])
-said BadValueTable = say 18 0 []
-said (NoNodeRoom needed place) = say 19 place (needed ∷ [])
-said (NoPayloadRoom needed place) = say 20 place (needed ∷ [])
-said (NoOutputRoom needed place) = say 21 place (needed ∷ [])
+abbrev moves : ℕ → String → List ℕ → Line
+moves number name carries = record { number = number; name = name; carries = carries; moves = true }
 
--- the same in five numbers, 0 where nothing is carried
+-- the table of refusals
+unfoldable pub lineOf : Why → Line
+lineOf why.Setting = stays 1 "Setting" []
+lineOf why.BadSchemaTable = stays 2 "BadSchemaTable" []
+lineOf why.TooDeep = stays 3 "TooDeep" []
+lineOf (why.UnexpectedChildren type count) = stays 4 "UnexpectedChildren" (type ∷ count ∷ [])
+lineOf (why.TooManyChildren type count maximum) = stays 5 "TooManyChildren" (type ∷ count ∷ maximum ∷ [])
+lineOf why.EmptyTableSchemas = stays 6 "EmptyTableSchemas" []
+lineOf (why.UnknownRegistryReference table) = stays 7 "UnknownRegistryReference" (table ∷ [])
+lineOf (why.TableSchemaRootMustBeTuple found) = stays 8 "TableSchemaRootMustBeTuple" (found ∷ [])
+lineOf (why.TableSchemaMustBeTuple found) = stays 9 "TableSchemaMustBeTuple" (found ∷ [])
+lineOf (why.TableSchemaChildMissingName index) = stays 10 "TableSchemaChildMissingName" (index ∷ [])
+lineOf (why.MissingTableSchema index) = moves 11 "MissingTableSchema" (index ∷ [])
+lineOf (why.Truncated context) = moves 12 "Truncated" (context ∷ [])
+lineOf (why.RowTooLarge limit) = moves 13 "RowTooLarge" (limit ∷ [])
+lineOf (why.BlobTooLarge type length limit) = moves 14 "BlobTooLarge" (type ∷ length ∷ limit ∷ [])
+lineOf (why.ValueDoesNotMatchSchema type kind) = stays 15 "ValueDoesNotMatchSchema" (type ∷ kind ∷ [])
+lineOf (why.TupleLength expected actual) = stays 16 "TupleLength" (expected ∷ actual ∷ [])
+lineOf (why.InvalidVariantTag type tag children) = moves 17 "InvalidVariantTag" (type ∷ tag ∷ children ∷ [])
+lineOf why.BadValueTable = stays 18 "BadValueTable" []
+lineOf (why.NoNodeRoom needed) = moves 19 "NoNodeRoom" (needed ∷ [])
+lineOf (why.NoPayloadRoom needed) = moves 20 "NoPayloadRoom" (needed ∷ [])
+lineOf (why.NoOutputRoom needed) = stays 21 "NoOutputRoom" (needed ∷ [])
+
+abbrev pub refusalNumber : Refusal → ℕ
+refusalNumber r = lineOf (r .why) .number
+
+-- a line of the table as a program has it: the name with blanks up to 28 bytes, three carried values, 0 where there is none
+unfoldable pub inBytes : Line → RefusalLine
+inBytes l = record { number = l .number; name = take 28 (ascii (l .name) ++ replicate 28 32); moves = l .moves; a = getD (l .carries) 0 0; b = getD (l .carries) 1 0; c = getD (l .carries) 2 0 }
+
+-- a refusal in five numbers, 0 where nothing is carried
 unfoldable pub reportOf : Refusal → Report
-reportOf r = record { number = said r .number; place = said r .place; a = getD (said r .carries) 0 0; b = getD (said r .carries) 1 0; c = getD (said r .carries) 2 0 }
+reportOf r = record { number = refusalNumber r; place = r .place; a = getD (lineOf (r .why) .carries) 0 0; b = getD (lineOf (r .why) .carries) 1 0; c = getD (lineOf (r .why) .carries) 2 0 }
+
+-- ---- the refusals, each with its place: 0 where it has none, the table's index for 7
+
+abbrev pub Setting : Refusal
+Setting = record { why = why.Setting; place = 0 }
+
+abbrev pub BadSchemaTable : Refusal
+BadSchemaTable = record { why = why.BadSchemaTable; place = 0 }
+
+abbrev pub TooDeep : Refusal
+TooDeep = record { why = why.TooDeep; place = 0 }
+
+abbrev pub UnexpectedChildren : ℕ → ℕ → ℕ → Refusal
+UnexpectedChildren type count place = record { why = why.UnexpectedChildren type count; place = place }
+
+abbrev pub TooManyChildren : ℕ → ℕ → ℕ → ℕ → Refusal
+TooManyChildren type count maximum place = record { why = why.TooManyChildren type count maximum; place = place }
+
+abbrev pub EmptyTableSchemas : Refusal
+EmptyTableSchemas = record { why = why.EmptyTableSchemas; place = 0 }
+
+abbrev pub UnknownRegistryReference : ℕ → Refusal
+UnknownRegistryReference table = record { why = why.UnknownRegistryReference table; place = table }
+
+abbrev pub TableSchemaRootMustBeTuple : ℕ → ℕ → Refusal
+TableSchemaRootMustBeTuple found place = record { why = why.TableSchemaRootMustBeTuple found; place = place }
+
+abbrev pub TableSchemaMustBeTuple : ℕ → ℕ → Refusal
+TableSchemaMustBeTuple found place = record { why = why.TableSchemaMustBeTuple found; place = place }
+
+abbrev pub TableSchemaChildMissingName : ℕ → ℕ → Refusal
+TableSchemaChildMissingName index place = record { why = why.TableSchemaChildMissingName index; place = place }
+
+abbrev pub MissingTableSchema : ℕ → ℕ → Refusal
+MissingTableSchema index place = record { why = why.MissingTableSchema index; place = place }
+
+abbrev pub Truncated : ℕ → ℕ → Refusal
+Truncated context place = record { why = why.Truncated context; place = place }
+
+abbrev pub RowTooLarge : ℕ → ℕ → Refusal
+RowTooLarge limit place = record { why = why.RowTooLarge limit; place = place }
+
+abbrev pub BlobTooLarge : ℕ → ℕ → ℕ → ℕ → Refusal
+BlobTooLarge type length limit place = record { why = why.BlobTooLarge type length limit; place = place }
+
+abbrev pub ValueDoesNotMatchSchema : ℕ → ℕ → ℕ → Refusal
+ValueDoesNotMatchSchema type kind place = record { why = why.ValueDoesNotMatchSchema type kind; place = place }
+
+abbrev pub TupleLength : ℕ → ℕ → ℕ → Refusal
+TupleLength expected actual place = record { why = why.TupleLength expected actual; place = place }
+
+abbrev pub InvalidVariantTag : ℕ → ℕ → ℕ → ℕ → Refusal
+InvalidVariantTag type tag children place = record { why = why.InvalidVariantTag type tag children; place = place }
+
+abbrev pub BadValueTable : Refusal
+BadValueTable = record { why = why.BadValueTable; place = 0 }
+
+abbrev pub NoNodeRoom : ℕ → ℕ → Refusal
+NoNodeRoom needed place = record { why = why.NoNodeRoom needed; place = place }
+
+abbrev pub NoPayloadRoom : ℕ → ℕ → Refusal
+NoPayloadRoom needed place = record { why = why.NoPayloadRoom needed; place = place }
+
+abbrev pub NoOutputRoom : ℕ → ℕ → Refusal
+NoOutputRoom needed place = record { why = why.NoOutputRoom needed; place = place }
+
+-- ---- checks one after another
 
 -- the first refusal of two checks
 infixl 20 _then_

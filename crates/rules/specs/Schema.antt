@@ -1,6 +1,6 @@
 -- Schemas as trees: their depth, and which of them the schema rules allow.
 -- Assumes nothing: these are definitions.
-use Prim.Native.Nat.{ℕ, zero, suc, _≤_, max}
+use Prim.Native.Nat.{ℕ, zero, suc, _+_, _≤_, max}
 use mathlib.Core.Path.{_≡_}
 use mathlib.Core.List.{List, [], _∷_}
 use Rattle.rules.specs.Wire.{form, maximum}
@@ -42,6 +42,15 @@ unfoldable mutual
   pub deeps : Schemas → ℕ
   deeps nil = 0
   deeps (cons s ss) = max (deep s) (deeps ss)
+
+-- how many nodes it has
+unfoldable mutual
+  pub nodes : Schema → ℕ
+  nodes (node k m ss) = suc (nodesAll ss)
+
+  pub nodesAll : Schemas → ℕ
+  nodesAll nil = 0
+  nodesAll (cons s ss) = nodes s + nodesAll ss
 
 -- ---- the schema rules: how many children a node may have
 unfoldable pub Allows : Children → ℕ → Type 0

@@ -5,13 +5,12 @@ use mathlib.Core.List.{List, [], _∷_, _++_}
 use lib.Dec.{ltb, leb, eqb}
 use Rattle.rules.specs.Choice.{pick, _and_}
 use Rattle.rules.specs.Wire.{form, maximum}
-use Rattle.rules.specs.Refusals.{_then_, inOrder}
+use Rattle.rules.specs.Refusals.{_then_, inOrder, BadSchemaTable, TooDeep, UnexpectedChildren, TooManyChildren, TableSchemaRootMustBeTuple, TableSchemaMustBeTuple, TableSchemaChildMissingName}
 use Rattle.rules.specs.Block.{nodeAt}
 use Rattle.rules.specs.declared.Children.{Children}
 use Rattle.rules.specs.declared.Children.the-variants.{None, UpTo, Any, Unknown}
 use Rattle.rules.specs.declared.Node.{Node}
 use Rattle.rules.specs.declared.Refusal.{Refusal}
-use Rattle.rules.specs.declared.Refusal.the-variants.{BadSchemaTable, TooDeep, UnexpectedChildren, TooManyChildren, TableSchemaRootMustBeTuple, TableSchemaMustBeTuple, TableSchemaChildMissingName}
 use Rattle.rules.specs.declared.Purpose.{Purpose}
 use Rattle.rules.specs.declared.Purpose.the-variants.{Format, Encoder}
 use Rattle.rules.specs.declared.Checked.{Checked}

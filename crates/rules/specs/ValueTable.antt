@@ -210,5 +210,9 @@ module _ (table store : List ℕ) where
   exactly (Whole v q) = pick (eqb (q .at) (valueRecordsIn (length table)) and eqb (q .from) (length store)) (Whole v q) Broken
   exactly Broken = Broken
 
+  -- the end of a table: all records, and all bytes of the store
+  abbrev pub ends : Spot
+  ends = record { at = valueRecordsIn (length table); from = length store }
+
   unfoldable pub tableValue : Parsed Value
   tableValue = pick (wholeValueRecords (length table)) (exactly (valueAt 64 0 (record { at = 0; from = 0 }))) Broken

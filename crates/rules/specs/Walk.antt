@@ -11,7 +11,7 @@ use Rattle.rules.specs.Block.{nodeAt}
 use Rattle.rules.specs.Value.{Value, nothing, boolean, number, wide, blob, variant, repeated, tuple, Items, done, item, Values, none, more, costs, recordsOf, payloadOf}
 use Rattle.rules.specs.declared.Node.{Node}
 use Rattle.rules.specs.declared.Refusal.{Refusal}
-use Rattle.rules.specs.declared.Refusal.the-variants.{Setting, BadSchemaTable, TooDeep, Truncated, RowTooLarge, BlobTooLarge, InvalidVariantTag}
+use Rattle.rules.specs.Refusals.{Setting, BadSchemaTable, TooDeep, Truncated, RowTooLarge, BlobTooLarge, InvalidVariantTag}
 
 -- what a node costs, how long a blob may be, and how much a row may cost
 pub record Limits : Type 0 where

@@ -1,6 +1,7 @@
 -- What encoding answers, and what it leaves in the output.
 -- Assumes nothing: these are definitions.
 use Prim.Native.Nat.{ℕ, _+_}
+use mathlib.Core.Bool.{Bool}
 use mathlib.Core.List.{List, [], _∷_, _++_}
 use lib.ListN.{length}
 use lib.Dec.{ltb, leb, eqb}
@@ -8,14 +9,14 @@ use Rattle.rules.specs.Choice.{pick, _and_}
 use Rattle.rules.specs.Bytes.{le, over}
 use Rattle.rules.specs.Wire.{Form, empty, truth, fixed, raw, sized, choice, series, fields, unknown, form, widthOf, endTag}
 use Rattle.rules.specs.Block.{nodeAt, block}
-use Rattle.rules.specs.Format.{shortOk, encoderRules}
+use Rattle.rules.specs.Format.{Format, shortOk, encoderRules}
 use Rattle.rules.specs.Value.{Value, nothing, boolean, number, wide, blob, variant, repeated, tuple, Items, done, item, Values, none, more, values, recordsOf, payloadOf}
 use Rattle.rules.specs.ValueTable.{bit, Parsed, Whole, Broken, tableValue}
 use Rattle.rules.specs.Walk.{Limits, blobLimit}
 use Rattle.rules.specs.Reading.{settingsOk, limits, room, whenAccepted}
 use Rattle.rules.specs.declared.Settings.{Settings}
 use Rattle.rules.specs.declared.Refusal.{Refusal}
-use Rattle.rules.specs.declared.Refusal.the-variants.{Setting, BlobTooLarge, ValueDoesNotMatchSchema, TupleLength, InvalidVariantTag, BadValueTable, NoOutputRoom}
+use Rattle.rules.specs.Refusals.{Setting, BlobTooLarge, ValueDoesNotMatchSchema, TupleLength, InvalidVariantTag, BadValueTable, NoOutputRoom}
 use Rattle.rules.specs.declared.Written.{Written}
 use Rattle.rules.specs.declared.Written.the-variants.{Row}
 
@@ -114,8 +115,17 @@ unfoldable pub encodeValue : List ℕ → Limits → Parsed Value → List ℕ �
 encodeValue sch lim (Whole v q) out at = placed v out at (writeRow sch lim v)
 encodeValue sch lim Broken out at = unwritten out BadValueTable
 
+-- settings and slices inside the bounds, and a position in the output
+unfoldable pub encodeOk : Settings → List ℕ → List ℕ → List ℕ → List ℕ → List ℕ → ℕ → Bool
+encodeOk s table names records payload out at = settingsOk s and shortOk table and shortOk names and shortOk records and shortOk payload and leb at (room out)
+
+-- these (1); the schema; the value table and the row
 unfoldable pub encodeRule : Settings → List ℕ → List ℕ → ℕ → ℕ → List ℕ → List ℕ → List ℕ → ℕ → Encoded
 encodeRule s table names first n records payload out at =
-    pick (settingsOk s and shortOk table and shortOk names and shortOk records and shortOk payload and leb at (room out))
+    pick (encodeOk s table names records payload out at)
     (whenAccepted (unwritten out) (encoderRules table names first n) (encodeValue (block table first n) (limits s) (tableValue records payload) out at))
     (unwritten out Setting)
+
+-- the encoder with the tables of a format, given the block of n records from record `first` on
+abbrev pub encodeFrom : Format → Settings → ℕ → ℕ → List ℕ → List ℕ → List ℕ → ℕ → Encoded
+encodeFrom f s first n records payload out at = encodeRule s (f .table) (f .names) first n records payload out at

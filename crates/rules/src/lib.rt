@@ -1,8 +1,11 @@
 // The types that all crates share: wire types, records of the flat tables, settings, refusals, answers. What is right is
 // written down in specs/, as definitions that read beside document 01.
 ghost use mathlib.Core.Path.{_≡_};
-ghost use Rattle.rules.specs.Refusals.{reportOf};
+ghost use Rattle.rules.specs.Refusals.{lineOf, inBytes, reportOf};
 ghost use Rattle.rules.specs.Reading.{settingsOk, defaults};
+
+// The most bytes of a slice that a call reads; of a slice to be written no more count.
+pub const LONGEST: usize = 4294967295;
 
 // A Skiff encoding of one schema node, in the order of the wire codes 0 to 19.
 pub enum WireType {
@@ -107,22 +110,20 @@ pub struct Settings {
     pub max_row_bytes: u64,
 }
 
-// Why a call is refused: a case for each number of document 01, from 1 on and in order, with the values that it carries and,
-// last, its place where that is not 0. Types are wire codes, kinds are kinds of value records.
-pub enum Refusal {
+// Why a call is refused: a case for each number of document 01, from 1 on and in order, with the values that it carries. Types are
+// wire codes, kinds are kinds of value records.
+pub enum Why {
     Setting,
     BadSchemaTable,
     TooDeep,
     UnexpectedChildren {
         wire_type: u8,
         count: u64,
-        place: u64,
     },
     TooManyChildren {
         wire_type: u8,
         count: u64,
         maximum: u64,
-        place: u64,
     },
     EmptyTableSchemas,
     UnknownRegistryReference {
@@ -130,69 +131,73 @@ pub enum Refusal {
     },
     TableSchemaRootMustBeTuple {
         found: u8,
-        place: u64,
     },
     TableSchemaMustBeTuple {
         found: u8,
-        place: u64,
     },
     TableSchemaChildMissingName {
         index: u64,
-        place: u64,
     },
     MissingTableSchema {
         index: u64,
-        place: u64,
     },
     Truncated {
         context: u8,
-        place: u64,
     },
     RowTooLarge {
         limit: u64,
-        place: u64,
     },
     BlobTooLarge {
         wire_type: u8,
         length: u64,
         limit: u64,
-        place: u64,
     },
     ValueDoesNotMatchSchema {
         wire_type: u8,
         kind: u8,
-        place: u64,
     },
     TupleLength {
         expected: u64,
         actual: u64,
-        place: u64,
     },
     InvalidVariantTag {
         wire_type: u8,
         tag: u64,
         children: u64,
-        place: u64,
     },
     BadValueTable,
     NoNodeRoom {
         needed: u64,
-        place: u64,
     },
     NoPayloadRoom {
         needed: u64,
-        place: u64,
     },
     NoOutputRoom {
         needed: u64,
-        place: u64,
     },
+}
+
+// A refusal: why, and at what place, 0 where there is none.
+pub struct Refusal {
+    pub why: Why,
+    pub place: u64,
 }
 
 // A refusal in numbers: document 01's number, the place, and the carried values, 0 where there is none.
 pub struct Report {
-    pub number: u64,
+    pub number: u32,
     pub place: u64,
+    pub a: u64,
+    pub b: u64,
+    pub c: u64,
+}
+
+// A line of document 01's table of refusals: number, name, with blanks after it, whether the place is an offset in the stream
+// that is read, and carried values, 0 where there is none.
+pub struct RefusalLine {
+    pub number: u32,
+    pub name: [u8; 28],
+    pub moves: bool,
     pub a: u64,
     pub b: u64,
     pub c: u64,
@@ -244,90 +249,208 @@ pub enum Written {
     Refused(Refusal),
 }
 
-fn numbers(number: u64, place: u64, a: u64, b: u64, c: u64) -> Report
-    ensures { λ r. ⌜ r ≡ record { number = number; place = place; a = a; b = b; c = c } ⌝ }
+fn line_of(number: u32, name: [u8; 28], moves: bool, a: u64, b: u64, c: u64) -> RefusalLine
+    ensures { λ r. ⌜ r ≡ record { number = number; name = name; moves = moves; a = a; b = b; c = c } ⌝ }
 {
-    Report {
+    RefusalLine {
         number,
-        place,
+        name,
+        moves,
         a,
         b,
         c,
     }
 }
 
-impl Refusal {
-    // The refusal in numbers, for hosts that take no enum.
-    pub fn in_numbers(self) -> Report
-        ensures { λ r. ⌜ r ≡ reportOf self ⌝ }
+impl Why {
+    // The line of the table that all else goes by: a new refusal is an arm here.
+    pub fn line(self) -> RefusalLine
+        ensures { λ r. ⌜ r ≡ inBytes (lineOf self) ⌝ }
     {
         match self {
-            Refusal::Setting => numbers(1, 0, 0, 0, 0),
-            Refusal::BadSchemaTable => numbers(2, 0, 0, 0, 0),
-            Refusal::TooDeep => numbers(3, 0, 0, 0, 0),
-            Refusal::UnexpectedChildren {
-                wire_type,
+            Why::Setting => line_of(1, *b"Setting                     ", false, 0, 0, 0),
+            Why::BadSchemaTable => line_of(2, *b"BadSchemaTable              ", false, 0, 0, 0),
+            Why::TooDeep => line_of(3, *b"TooDeep                     ", false, 0, 0, 0),
+            Why::UnexpectedChildren { wire_type, count } => line_of(
+                4,
+                *b"UnexpectedChildren          ",
+                false,
+                wire_type as u64,
                 count,
-                place,
-            } => numbers(4, place, wire_type as u64, count, 0),
-            Refusal::TooManyChildren {
+                0,
+            ),
+            Why::TooManyChildren {
                 wire_type,
                 count,
                 maximum,
-                place,
-            } => numbers(5, place, wire_type as u64, count, maximum),
-            Refusal::EmptyTableSchemas => numbers(6, 0, 0, 0, 0),
-            Refusal::UnknownRegistryReference { table } => numbers(7, table, table, 0, 0),
-            Refusal::TableSchemaRootMustBeTuple { found, place } => numbers(
+            } => line_of(
+                5,
+                *b"TooManyChildren             ",
+                false,
+                wire_type as u64,
+                count,
+                maximum,
+            ),
+            Why::EmptyTableSchemas => line_of(6, *b"EmptyTableSchemas           ", false, 0, 0, 0),
+            Why::UnknownRegistryReference { table } => line_of(
+                7,
+                *b"UnknownRegistryReference    ",
+                false,
+                table,
+                0,
+                0,
+            ),
+            Why::TableSchemaRootMustBeTuple { found } => line_of(
                 8,
-                place,
+                *b"TableSchemaRootMustBeTuple  ",
+                false,
                 found as u64,
                 0,
                 0,
             ),
-            Refusal::TableSchemaMustBeTuple { found, place } => numbers(
+            Why::TableSchemaMustBeTuple { found } => line_of(
                 9,
-                place,
+                *b"TableSchemaMustBeTuple      ",
+                false,
                 found as u64,
                 0,
                 0,
             ),
-            Refusal::TableSchemaChildMissingName { index, place } => numbers(
+            Why::TableSchemaChildMissingName { index } => line_of(
                 10,
-                place,
+                *b"TableSchemaChildMissingName ",
+                false,
                 index,
                 0,
                 0,
             ),
-            Refusal::MissingTableSchema { index, place } => numbers(11, place, index, 0, 0),
-            Refusal::Truncated { context, place } => numbers(12, place, context as u64, 0, 0),
-            Refusal::RowTooLarge { limit, place } => numbers(13, place, limit, 0, 0),
-            Refusal::BlobTooLarge {
+            Why::MissingTableSchema { index } => line_of(
+                11,
+                *b"MissingTableSchema          ",
+                true,
+                index,
+                0,
+                0,
+            ),
+            Why::Truncated { context } => line_of(
+                12,
+                *b"Truncated                   ",
+                true,
+                context as u64,
+                0,
+                0,
+            ),
+            Why::RowTooLarge { limit } => line_of(
+                13,
+                *b"RowTooLarge                 ",
+                true,
+                limit,
+                0,
+                0,
+            ),
+            Why::BlobTooLarge {
                 wire_type,
                 length,
                 limit,
-                place,
-            } => numbers(14, place, wire_type as u64, length, limit),
-            Refusal::ValueDoesNotMatchSchema {
-                wire_type,
-                kind,
-                place,
-            } => numbers(15, place, wire_type as u64, kind as u64, 0),
-            Refusal::TupleLength {
+            } => line_of(
+                14,
+                *b"BlobTooLarge                ",
+                true,
+                wire_type as u64,
+                length,
+                limit,
+            ),
+            Why::ValueDoesNotMatchSchema { wire_type, kind } => line_of(
+                15,
+                *b"ValueDoesNotMatchSchema     ",
+                false,
+                wire_type as u64,
+                kind as u64,
+                0,
+            ),
+            Why::TupleLength { expected, actual } => line_of(
+                16,
+                *b"TupleLength                 ",
+                false,
                 expected,
                 actual,
-                place,
-            } => numbers(16, place, expected, actual, 0),
-            Refusal::InvalidVariantTag {
+                0,
+            ),
+            Why::InvalidVariantTag {
                 wire_type,
                 tag,
                 children,
-                place,
-            } => numbers(17, place, wire_type as u64, tag, children),
-            Refusal::BadValueTable => numbers(18, 0, 0, 0, 0),
-            Refusal::NoNodeRoom { needed, place } => numbers(19, place, needed, 0, 0),
-            Refusal::NoPayloadRoom { needed, place } => numbers(20, place, needed, 0, 0),
-            Refusal::NoOutputRoom { needed, place } => numbers(21, place, needed, 0, 0),
+            } => line_of(
+                17,
+                *b"InvalidVariantTag           ",
+                true,
+                wire_type as u64,
+                tag,
+                children,
+            ),
+            Why::BadValueTable => line_of(18, *b"BadValueTable               ", false, 0, 0, 0),
+            Why::NoNodeRoom { needed } => line_of(
+                19,
+                *b"NoNodeRoom                  ",
+                true,
+                needed,
+                0,
+                0,
+            ),
+            Why::NoPayloadRoom { needed } => line_of(
+                20,
+                *b"NoPayloadRoom               ",
+                true,
+                needed,
+                0,
+                0,
+            ),
+            Why::NoOutputRoom { needed } => line_of(
+                21,
+                *b"NoOutputRoom                ",
+                false,
+                needed,
+                0,
+                0,
+            ),
+        }
+    }
+}
+
+impl Refusal {
+    // Those that have no place.
+    pub const SETTING: Refusal = Refusal {
+        why: Why::Setting,
+        place: 0,
+    };
+
+    pub const BAD_SCHEMA_TABLE: Refusal = Refusal {
+        why: Why::BadSchemaTable,
+        place: 0,
+    };
+
+    pub const TOO_DEEP: Refusal = Refusal {
+        why: Why::TooDeep,
+        place: 0,
+    };
+
+    pub const EMPTY_TABLE_SCHEMAS: Refusal = Refusal {
+        why: Why::EmptyTableSchemas,
+        place: 0,
+    };
+
+    // The refusal in numbers, for hosts that take no enum.
+    pub fn in_numbers(self) -> Report
+        ensures { λ r. ⌜ r ≡ reportOf self ⌝ }
+    {
+        let why = self.why;
+        let line = why.line();
+        Report {
+            number: line.number,
+            place: self.place,
+            a: line.a,
+            b: line.b,
+            c: line.c,
         }
     }
 }

@@ -8,12 +8,11 @@ use native.Mathlib.Omega.{arith}
 use borrow.Author.Tests.{eqb-true}
 use lib.Dec.{eqb}
 use Rattle.rules.specs.Choice.{pick}
-use Rattle.rules.specs.Refusals.{_then_, inOrder}
+use Rattle.rules.specs.Refusals.{_then_, inOrder, EmptyTableSchemas}
 use Rattle.rules.specs.Bytes.{part}
 use Rattle.rules.specs.Format.{referenceCount, entryCount, Format, referenceAt, entryAt, lookup, resolved, formsOk, inlineRule, rootOf, referenceRule, entryRule, rulesOrder}
 use Rattle.rules.specs.declared.Reference.{Reference}
 use Rattle.rules.specs.declared.Refusal.{Refusal}
-use Rattle.rules.specs.declared.Refusal.the-variants.{EmptyTableSchemas}
 use Rattle.rules.specs.declared.Checked.{Checked}
 use Rattle.rules.specs.declared.Checked.the-variants.{Accepted, Refused}
 use Rattle.rules.specs.declared.Located.{Located}

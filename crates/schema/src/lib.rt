@@ -16,11 +16,9 @@ use flat::table::block_stands;
 use forms::forms_ok;
 use order::rules_order;
 use rules::Checked;
+use rules::LONGEST;
 use rules::Purpose;
 use rules::Refusal;
-
-// A slice that is read has at most so many bytes.
-const LONGEST: usize = 4294967295;
 
 // ---- one block, given by first record and record count
 
@@ -29,10 +27,10 @@ pub fn check_schema(table: &[u8], names: &[u8], first: u64, count: u64) -> Check
     ensures { λ r. ⌜ r ≡ schemaAnswer (now (table .entry)) (now (names .entry)) first count ⌝ }
 {
     if LONGEST < table.len() {
-        return Checked::Refused(Refusal::Setting);
+        return Checked::Refused(Refusal::SETTING);
     }
     if LONGEST < names.len() {
-        return Checked::Refused(Refusal::Setting);
+        return Checked::Refused(Refusal::SETTING);
     }
     let stands = block_stands(table, names, first, count);
     let Checked::Accepted = stands else {
@@ -60,10 +58,10 @@ pub fn check_encoder_schema(table: &[u8], names: &[u8], first: u64, count: u64) 
     ensures { λ r. ⌜ r ≡ encoderRule (now (table .entry)) (now (names .entry)) first count ⌝ }
 {
     if LONGEST < table.len() {
-        return Checked::Refused(Refusal::Setting);
+        return Checked::Refused(Refusal::SETTING);
     }
     if LONGEST < names.len() {
-        return Checked::Refused(Refusal::Setting);
+        return Checked::Refused(Refusal::SETTING);
     }
     encoder_rules(table, names, first, count)
 }
@@ -75,10 +73,10 @@ pub fn format_rules(table: &[u8], names: &[u8], references: &[u8], registry: &[u
     ensures { λ r. ⌜ r ≡ formatRules (slices (now (table .entry)) (now (names .entry)) (now (references .entry)) (now (registry .entry))) ⌝ }
 {
     if !forms_ok(table, names, references, registry) {
-        return Checked::Refused(Refusal::BadSchemaTable);
+        return Checked::Refused(Refusal::BAD_SCHEMA_TABLE);
     }
     if !depths_ok(table, references, registry) {
-        return Checked::Refused(Refusal::TooDeep);
+        return Checked::Refused(Refusal::TOO_DEEP);
     }
     let order = rules_order(table, names, references, registry);
     let Checked::Accepted = order else {
@@ -91,16 +89,16 @@ pub fn check_format(table: &[u8], names: &[u8], references: &[u8], registry: &[u
     ensures { λ r. ⌜ r ≡ formatRule (slices (now (table .entry)) (now (names .entry)) (now (references .entry)) (now (registry .entry))) ⌝ }
 {
     if LONGEST < table.len() {
-        return Checked::Refused(Refusal::Setting);
+        return Checked::Refused(Refusal::SETTING);
     }
     if LONGEST < names.len() {
-        return Checked::Refused(Refusal::Setting);
+        return Checked::Refused(Refusal::SETTING);
     }
     if LONGEST < references.len() {
-        return Checked::Refused(Refusal::Setting);
+        return Checked::Refused(Refusal::SETTING);
     }
     if LONGEST < registry.len() {
-        return Checked::Refused(Refusal::Setting);
+        return Checked::Refused(Refusal::SETTING);
     }
     format_rules(table, names, references, registry)
 }

@@ -18,6 +18,7 @@ use rules::Located;
 use rules::Purpose;
 use rules::Reference;
 use rules::Refusal;
+use rules::Why;
 
 fn entries_rule(table: &[u8], registry: &[u8]) -> Checked
     requires { ⌜ EntriesSound (now table) (now registry) ⌝ }
@@ -55,8 +56,14 @@ fn root_of(table: &[u8], t: u64, found: Located) -> Checked
 {
     match found {
         Located::Block(first, count) => block_root(table, first, count, Purpose::Format),
-        Located::NoTable => Checked::Refused(Refusal::UnknownRegistryReference { table: t }),
-        Located::NoEntry => Checked::Refused(Refusal::UnknownRegistryReference { table: t }),
+        Located::NoTable => Checked::Refused(Refusal {
+            why: Why::UnknownRegistryReference { table: t },
+            place: t,
+        }),
+        Located::NoEntry => Checked::Refused(Refusal {
+            why: Why::UnknownRegistryReference { table: t },
+            place: t,
+        }),
     }
 }
 
@@ -95,7 +102,7 @@ pub fn rules_order(table: &[u8], names: &[u8], references: &[u8], registry: &[u8
     ensures { λ r. ⌜ r ≡ rulesOrder (slices (now (table .entry)) (now (names .entry)) (now (references .entry)) (now (registry .entry))) ⌝ }
 {
     if references.len() / REFERENCE_SIZE == 0 {
-        return Checked::Refused(Refusal::EmptyTableSchemas);
+        return Checked::Refused(Refusal::EMPTY_TABLE_SCHEMAS);
     }
     let entries = entries_rule(table, registry);
     let Checked::Accepted = entries else {

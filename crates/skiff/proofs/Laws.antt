@@ -1,4 +1,4 @@
--- Laws of the answer slice: numbers one after another, and refusal numbers, which are small.
+-- Laws of the answer slice: numbers one after another.
 -- Assumes nothing.
 use Prim.Native.Nat.{ℕ, _+_, _*_, _≤_, _<_}
 use mathlib.Core.Path.{_≡_, refl, sym, _∙_}
@@ -8,39 +8,12 @@ use borrow.Author.Tests.{le-leb, lt-leb}
 use lib.ListN.{length, length-append}
 use Rattle.rules.specs.Choice.{pick}
 use Rattle.rules.specs.Bytes.{le, over}
-use Rattle.rules.specs.Refusals.{said, reportOf}
 use Rattle.rules.specs.Reading.{Decoded}
-use Rattle.rules.specs.declared.Refusal.{Refusal}
-use Rattle.rules.specs.declared.Refusal.the-variants.{Setting, BadSchemaTable, TooDeep, UnexpectedChildren, TooManyChildren, EmptyTableSchemas, UnknownRegistryReference, TableSchemaRootMustBeTuple, TableSchemaMustBeTuple, TableSchemaChildMissingName, MissingTableSchema, Truncated, RowTooLarge, BlobTooLarge, ValueDoesNotMatchSchema, TupleLength, InvalidVariantTag, BadValueTable, NoNodeRoom, NoPayloadRoom, NoOutputRoom}
 use Rattle.rules.specs.declared.Read.{Read}
 use Rattle.rules.proofs.Over.{over-at}
 use Rattle.rules.proofs.Stands.{length-le}
 use Rattle.skiff.specs.declared.Answer.{Answer}
 use Rattle.skiff.specs.Answers.{words, layout, ofRead, leaves, returned, kept}
-
-pub number-small : (r : Refusal) → reportOf r .number < 22
-unfolding reportOf said
-number-small Setting = omega arith
-number-small BadSchemaTable = omega arith
-number-small TooDeep = omega arith
-number-small (UnexpectedChildren type count place) = omega arith
-number-small (TooManyChildren type count maximum place) = omega arith
-number-small EmptyTableSchemas = omega arith
-number-small (UnknownRegistryReference table) = omega arith
-number-small (TableSchemaRootMustBeTuple found place) = omega arith
-number-small (TableSchemaMustBeTuple found place) = omega arith
-number-small (TableSchemaChildMissingName index place) = omega arith
-number-small (MissingTableSchema index place) = omega arith
-number-small (Truncated context place) = omega arith
-number-small (RowTooLarge limit place) = omega arith
-number-small (BlobTooLarge type length limit place) = omega arith
-number-small (ValueDoesNotMatchSchema type kind place) = omega arith
-number-small (TupleLength expected actual place) = omega arith
-number-small (InvalidVariantTag type tag children place) = omega arith
-number-small BadValueTable = omega arith
-number-small (NoNodeRoom needed place) = omega arith
-number-small (NoPayloadRoom needed place) = omega arith
-number-small (NoOutputRoom needed place) = omega arith
 
 -- ---- numbers, one after another
 

@@ -1,8 +1,7 @@
--- An answer in numbers, by what was read or why a run stopped; and that its number is small.
+-- An answer in numbers, by what was read or why a run stopped.
 -- Assumes nothing.
-use Prim.Native.Nat.{ℕ, _<_}
+use Prim.Native.Nat.{ℕ}
 use mathlib.Core.Path.{_≡_}
-use native.Mathlib.Omega.{arith}
 use Rattle.rules.specs.Refusals.{reportOf}
 use Rattle.rules.specs.declared.Report.{Report}
 use Rattle.rules.specs.declared.Extent.{Extent}
@@ -11,31 +10,25 @@ use Rattle.rules.specs.declared.Read.{Read}
 use Rattle.rules.specs.declared.Read.the-variants as read
 use Rattle.rules.specs.declared.Stop.{Stop}
 use Rattle.rules.specs.declared.Stop.the-variants as stop
-use Rattle.skiff.specs.declared.Answer.{Answer}
 use Rattle.skiff.specs.Answers.{fine, none, ofRead, ofRan, whatOf, whyOf}
-use Rattle.skiff.proofs.Laws.{number-small}
 
--- an answer, and that its number is small
-abbrev Told : Answer → Answer → Type 0
-Told given asked = (given ≡ asked) × (given .why .number < 22)
-
-pub told-row : (w : Report) (x : Read) (e : Extent) → x ≡ read.Row e → w ≡ fine → Told (record { what = 0; why = w; rows = 1; row = e }) (ofRead x)
+pub told-row : (w : Report) (x : Read) (e : Extent) → x ≡ read.Row e → w ≡ fine → record { what = 0; why = w; rows = 1; row = e } ≡ ofRead x
 unfolding ofRead
-told-row w x e p q = (rw (p, q), rw q (omega arith))
+told-row w x e p q = rw (p, q)
 
 module _ (w : Report) (n : Extent) where
-  pub told-end : (x : Read) → x ≡ read.End → w ≡ fine → n ≡ none 0 → Told (record { what = 1; why = w; rows = 0; row = n }) (ofRead x)
+  pub told-end : (x : Read) → x ≡ read.End → w ≡ fine → n ≡ none 0 → record { what = 1; why = w; rows = 0; row = n } ≡ ofRead x
   unfolding ofRead
-  told-end x p q m = (rw (p, q, m), rw q (omega arith))
+  told-end x p q m = rw (p, q, m)
 
-  pub told-refused : (x : Read) (r : Refusal) → x ≡ read.Refused r → w ≡ reportOf r → n ≡ none 0 → Told (record { what = 2; why = w; rows = 0; row = n }) (ofRead x)
+  pub told-refused : (x : Read) (r : Refusal) → x ≡ read.Refused r → w ≡ reportOf r → n ≡ none 0 → record { what = 2; why = w; rows = 0; row = n } ≡ ofRead x
   unfolding ofRead
-  told-refused x r p q m = (rw (p, q, m), rw q (number-small r))
+  told-refused x r p q m = rw (p, q, m)
 
-  pub ran-end : (x : Stop) (rows bytes : ℕ) → x ≡ stop.End → w ≡ fine → n ≡ none bytes → Told (record { what = 1; why = w; rows = rows; row = n }) (ofRan (record { rows = rows; bytes = bytes; stop = x }))
+  pub ran-end : (x : Stop) (rows bytes : ℕ) → x ≡ stop.End → w ≡ fine → n ≡ none bytes → record { what = 1; why = w; rows = rows; row = n } ≡ ofRan (record { rows = rows; bytes = bytes; stop = x })
   unfolding ofRan whatOf whyOf
-  ran-end x rows bytes p q m = (rw (p, q, m), rw q (omega arith))
+  ran-end x rows bytes p q m = rw (p, q, m)
 
-  pub ran-refused : (x : Stop) (rows bytes : ℕ) (r : Refusal) → x ≡ stop.Refused r → w ≡ reportOf r → n ≡ none bytes → Told (record { what = 2; why = w; rows = rows; row = n }) (ofRan (record { rows = rows; bytes = bytes; stop = x }))
+  pub ran-refused : (x : Stop) (rows bytes : ℕ) (r : Refusal) → x ≡ stop.Refused r → w ≡ reportOf r → n ≡ none bytes → record { what = 2; why = w; rows = rows; row = n } ≡ ofRan (record { rows = rows; bytes = bytes; stop = x })
   unfolding ofRan whatOf whyOf
-  ran-refused x rows bytes r p q m = (rw (p, q, m), rw q (number-small r))
+  ran-refused x rows bytes r p q m = rw (p, q, m)

@@ -1,6 +1,6 @@
 // The C functions. An answer goes to a slice that is kept for answers, in one layout for all of them: include/skiff.h.
 ghost use mathlib.Core.Path.{_≡_};
-ghost use Prim.Native.Nat.{_+_, _≤_, _<_};
+ghost use Prim.Native.Nat.{_+_, _≤_};
 ghost use mathlib.Core.List.{_∷_, []};
 ghost use lib.ListN.{length};
 ghost use Rattle.rules.specs.Bytes.{over};
@@ -49,7 +49,7 @@ fn bytes_read(bytes: u64) -> Extent
 }
 
 fn of_read(answer: Read) -> Answer
-    ensures { λ r. ⌜ (r ≡ ofRead answer) × (r .why .number < 22) ⌝ }
+    ensures { λ r. ⌜ r ≡ ofRead answer ⌝ }
 {
     match answer {
         Read::Row(row) => Answer {
@@ -74,7 +74,7 @@ fn of_read(answer: Read) -> Answer
 }
 
 fn of_ran(rows: u64, bytes: u64, stop: Stop) -> Answer
-    ensures { λ r. ⌜ (r ≡ ofRan (record { rows = rows; bytes = bytes; stop = stop })) × (r .why .number < 22) ⌝ }
+    ensures { λ r. ⌜ r ≡ ofRan (record { rows = rows; bytes = bytes; stop = stop }) ⌝ }
 {
     match stop {
         Stop::End => Answer {
@@ -111,7 +111,7 @@ fn put_answer(s: &mut [u8], answer: Answer)
     let why = answer.why;
     let row = answer.row;
     put64(s, 0, answer.what);
-    put_five(s, 8, why.number, why.place, why.a, why.b, why.c);
+    put_five(s, 8, why.number as u64, why.place, why.a, why.b, why.c);
     put_five(
         s,
         48,
@@ -125,11 +125,11 @@ fn put_answer(s: &mut [u8], answer: Answer)
 
 // Gives an answer to the host: in its slice, and the refusal's number.
 fn give(s: &mut [u8], answer: Answer) -> u32
-    requires { ⌜ (answer .why .number < 22) × (88 ≤ length (now s)) ⌝ }
+    requires { ⌜ 88 ≤ length (now s) ⌝ }
     ensures { λ r. ⌜ (r ≡ answer .why .number) × (now (s .exit) ≡ over (now (s .entry)) 0 (layout answer)) ⌝ }
 {
     put_answer(s, answer);
-    answer.why.number as u32
+    answer.why.number
 }
 
 // The row at a position.

@@ -12,7 +12,7 @@ use Rattle.rules.specs.Format.{Format, formatRules}
 use Rattle.rules.specs.Reading.{limits, rowAt, skipped, skipFrom, whenAccepted, skipRule, runFrom, refusedRun, runRule, ranOf}
 use Rattle.rules.specs.declared.Settings.{Settings}
 use Rattle.rules.specs.declared.Refusal.{Refusal}
-use Rattle.rules.specs.declared.Refusal.the-variants.{Setting}
+use Rattle.rules.specs.Refusals.{Setting}
 use Rattle.rules.specs.declared.Checked.{Checked}
 use Rattle.rules.specs.declared.Checked.the-variants.{Accepted, Refused}
 use Rattle.rules.specs.declared.Read.{Read}

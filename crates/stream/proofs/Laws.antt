@@ -19,7 +19,7 @@ use Rattle.rules.specs.Walk.{Limits, Answer, Got, numberOf, walk, after, _>>=_}
 use Rattle.rules.specs.Reading.{start, rootFrom, rowAt, extent, skipped}
 use Rattle.rules.specs.declared.Settings.{Settings}
 use Rattle.rules.specs.declared.Refusal.{Refusal}
-use Rattle.rules.specs.declared.Refusal.the-variants.{Truncated, MissingTableSchema, UnknownRegistryReference}
+use Rattle.rules.specs.Refusals.{Truncated, MissingTableSchema, UnknownRegistryReference}
 use Rattle.rules.specs.declared.Located.{Located}
 use Rattle.rules.specs.declared.Located.the-variants.{Block, NoTable, NoEntry}
 use Rattle.rules.specs.declared.Read.{Read}

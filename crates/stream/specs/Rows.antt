@@ -11,7 +11,7 @@ use Rattle.rules.specs.Format.{Format, shortOk, sizesOk, formatRules, tableSche
 use Rattle.rules.specs.Walk.{Limits, Got, _>>=_, walk}
 use Rattle.rules.specs.Reading.{settingsOk, start, skipped}
 use Rattle.rules.specs.declared.Settings.{Settings}
-use Rattle.rules.specs.declared.Refusal.the-variants.{Setting, MissingTableSchema, UnknownRegistryReference}
+use Rattle.rules.specs.Refusals.{Setting, MissingTableSchema, UnknownRegistryReference}
 use Rattle.rules.specs.declared.Located.{Located}
 use Rattle.rules.specs.declared.Located.the-variants.{NoTable, NoEntry}
 use Rattle.rules.specs.declared.Checked.the-variants.{Accepted}

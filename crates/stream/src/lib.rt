@@ -1,6 +1,7 @@
 // Rows of a stream: the row at a position, and the run over a whole stream. The format is checked once, and each row is judged by
 // the one walk.
 ghost use mathlib.Core.Path.{_≡_};
+ghost use Rattle.rules.specs.Refusals.{Setting};
 ghost use Rattle.rules.specs.Reading.{skipRule, whenAccepted, runRule, refusedRun, ranOf};
 ghost use Rattle.schema.specs.Slices.{slices};
 ghost use Rattle.stream.specs.Rows.{boundsOk};
@@ -10,15 +11,13 @@ pub mod row;
 use row::row_at;
 use row::run_rows;
 use rules::Checked;
+use rules::LONGEST;
 use rules::Ran;
 use rules::Read;
 use rules::Refusal;
 use rules::Settings;
 use rules::Stop;
 use schema::format_rules;
-
-// A slice that is read has at most so many bytes.
-const LONGEST: usize = 4294967295;
 
 // Settings and slices are inside document 01's bounds.
 pub fn within_bounds(
@@ -51,11 +50,11 @@ pub fn within_bounds(
 
 // A format that is refused, as the answer of a call.
 pub fn bad_format(checked: Checked) -> Read
-    ensures { λ r. ⌜ r ≡ whenAccepted Read.Refused checked (Read.Refused Refusal.Setting) ⌝ }
+    ensures { λ r. ⌜ r ≡ whenAccepted Read.Refused checked (Read.Refused Setting) ⌝ }
 {
     match checked {
         Checked::Refused(why) => Read::Refused(why),
-        Checked::Accepted => Read::Refused(Refusal::Setting),
+        Checked::Accepted => Read::Refused(Refusal::SETTING),
     }
 }
 
@@ -72,10 +71,10 @@ pub fn skip_row(
     ensures { λ r. ⌜ r ≡ skipRule (slices (now (table .entry)) (now (names .entry)) (now (references .entry)) (now (registry .entry))) settings (now (input .entry)) position ⌝ }
 {
     if !within_bounds(settings, table, names, references, registry, input) {
-        return Read::Refused(Refusal::Setting);
+        return Read::Refused(Refusal::SETTING);
     }
     if (input.len() as u64) < position {
-        return Read::Refused(Refusal::Setting);
+        return Read::Refused(Refusal::SETTING);
     }
     let format = format_rules(table, names, references, registry);
     let Checked::Accepted = format else {
@@ -99,11 +98,11 @@ fn stopped(why: Refusal) -> Ran
 }
 
 fn not_begun(checked: Checked) -> Ran
-    ensures { λ r. ⌜ r ≡ ranOf (whenAccepted refusedRun checked (refusedRun Refusal.Setting)) ⌝ }
+    ensures { λ r. ⌜ r ≡ ranOf (whenAccepted refusedRun checked (refusedRun Setting)) ⌝ }
 {
     match checked {
         Checked::Refused(why) => stopped(why),
-        Checked::Accepted => stopped(Refusal::Setting),
+        Checked::Accepted => stopped(Refusal::SETTING),
     }
 }
 
@@ -119,7 +118,7 @@ pub fn run(
     ensures { λ r. ⌜ r ≡ ranOf (runRule (slices (now (table .entry)) (now (names .entry)) (now (references .entry)) (now (registry .entry))) settings (now (input .entry))) ⌝ }
 {
     if !within_bounds(settings, table, names, references, registry, input) {
-        return stopped(Refusal::Setting);
+        return stopped(Refusal::SETTING);
     }
     let format = format_rules(table, names, references, registry);
     let Checked::Accepted = format else {

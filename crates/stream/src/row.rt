@@ -18,6 +18,7 @@ use rules::Read;
 use rules::Refusal;
 use rules::Settings;
 use rules::Stop;
+use rules::Why;
 use schema::format::table_schema;
 
 fn no_value(value: Skipped) -> Read
@@ -25,7 +26,7 @@ fn no_value(value: Skipped) -> Read
 {
     match value {
         Skipped::Refused(why) => Read::Refused(why),
-        Skipped::At(_) => Read::Refused(Refusal::Setting),
+        Skipped::At(_) => Read::Refused(Refusal::SETTING),
     }
 }
 
@@ -40,7 +41,7 @@ fn no_table(tag: Number) -> Place
 {
     match tag {
         Number::Refused(why) => Place::Refused(why),
-        Number::Is(_, _) => Place::Refused(Refusal::Setting),
+        Number::Is(_, _) => Place::Refused(Refusal::SETTING),
     }
 }
 
@@ -49,7 +50,7 @@ pub fn no_row(place: Place) -> Read
 {
     match place {
         Place::Refused(why) => Read::Refused(why),
-        Place::Block(_, _, _) => Read::Refused(Refusal::Setting),
+        Place::Block(_, _, _) => Read::Refused(Refusal::SETTING),
     }
 }
 
@@ -65,11 +66,14 @@ pub fn block_at(names: &[u8], references: &[u8], registry: &[u8], input: &[u8], 
     let found = table_schema(names, references, registry, tag);
     match found {
         Located::Block(first, count) => Place::Block(tag, first, count),
-        Located::NoTable => Place::Refused(Refusal::MissingTableSchema {
-            index: tag,
+        Located::NoTable => Place::Refused(Refusal {
+            why: Why::MissingTableSchema { index: tag },
             place: at as u64,
         }),
-        Located::NoEntry => Place::Refused(Refusal::UnknownRegistryReference { table: tag }),
+        Located::NoEntry => Place::Refused(Refusal {
+            why: Why::UnknownRegistryReference { table: tag },
+            place: tag,
+        }),
     }
 }
 

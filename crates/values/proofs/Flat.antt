@@ -15,14 +15,14 @@ use Rattle.rules.specs.Bytes.{Stands}
 use Rattle.rules.specs.Wire.{form, written, writtenIf, typeOf, typeIn, wireTypes}
 use Rattle.rules.specs.Value.{Value, nothing, boolean, number, wide, blob, variant, repeated, tuple, Items, done, item, Values, none, more, items, values, tall, tallI, tallV, Fits, FitsI, FitsV, recordsOf, payloadOf}
 use Rattle.rules.specs.ValueRecord.{valueRecordsIn, valueRecordAt}
-use Rattle.rules.specs.ValueTable.{bit, pays, paysI, paysV, kind, sizeOf, contentOf, headOf, below, belowI, belowV, heads, flat, TableOf, Spot, Parsed, Whole, Broken, _>>=_, kindOf, next, storedAt, scalarAt, tagAt, itemsAt, valuesAt, nodeOf, headed, valueAt, exactly, tableValue}
+use Rattle.rules.specs.ValueTable.{bit, pays, paysI, paysV, kind, sizeOf, contentOf, headOf, below, belowI, belowV, heads, flat, TableOf, Spot, Parsed, Whole, Broken, _>>=_, kindOf, next, storedAt, scalarAt, tagAt, itemsAt, valuesAt, nodeOf, headed, valueAt, exactly, ends, tableValue}
 use Rattle.rules.specs.declared.ValueRecord.{ValueRecord}
 use Rattle.rules.proofs.Stands.{stands-in, stands-part, stands-self}
 use Rattle.values.proofs.Records.{whole-records, RecordIs, is-record, kind-is, tag-is, size-is, content-is, Shows, shows-in, whole-shows}
 use Rattle.values.proofs.Sizes.{length-pays, length-belowI, length-belowV, length-heads, items-within, values-within}
 use Rattle.values.proofs.Codes.{fixed-code, raw-code, sized-code}
 use Rattle.values.proofs.Span.{Span, left, right, the-record, rest-span, lands, lands-here}
-use Rattle.values.proofs.Parse.{Reads, ends, is-table}
+use Rattle.values.proofs.Parse.{Reads, is-table}
 
 -- a boolean as a number, and back
 test-bit : (x : Bool) → ltb 0 (bit x) ≡ x

@@ -12,12 +12,13 @@ use Rattle.rules.specs.ValueTable.{TableOf, kind, sizeOf, headOf, below, belowV
 use Rattle.rules.specs.Walk.{Limits, blobLimit}
 use Rattle.rules.specs.Writing.{Refused, write, writeI, writeV, writeRow}
 use Rattle.rules.specs.declared.Refusal.{Refusal}
-use Rattle.rules.specs.declared.Refusal.the-variants.{BlobTooLarge, ValueDoesNotMatchSchema, TupleLength, InvalidVariantTag}
+use Rattle.rules.specs.Refusals.{BlobTooLarge, ValueDoesNotMatchSchema, TupleLength, InvalidVariantTag}
+use Rattle.rules.proofs.Tests.{either}
 use Rattle.values.proofs.Records.{tag-is, size-is, whole-shows}
 use Rattle.values.proofs.Sizes.{length-belowV, values-within}
 use Rattle.values.proofs.Flat.{count-fits}
 use Rattle.values.proofs.Meets.{Has, first, later, HasV, firstV, laterV, Met, itself, in-variant, in-repeated, in-tuple, Kept, has-fits, has-kept, variant-kept, kept-head, kept-below, met-fits, met-kept, kept-in, kept-kind}
-use Rattle.values.proofs.Says.{Any, Says, puts, refuses, then, either, refused, takes, fits, tags}
+use Rattle.values.proofs.Says.{Any, Says, puts, refuses, then, refused, takes, fits, tags}
 
 -- why a value is not written at node i₀, its record being r₀
 pub data Reason (sch : List ℕ) (lim : Limits) (whole : Value) (i₀ r₀ : ℕ) : Refusal → Type 0 where
@@ -50,11 +51,11 @@ module _ (sch : List ℕ) (lim : Limits) (whole : Value) (i₀ r₀ : ℕ) where
     write-says (boolean x) i r m = fits sch lim 1 i r (mismatch m) (λ q. puts tt)
     write-says (number k x) i r m = fits sch lim k i r (mismatch m) (λ q. puts tt)
     write-says (wide k x) i r m = fits sch lim k i r (mismatch m) (λ q. puts tt)
-    write-says (blob k x) i r m = fits sch lim k i r (mismatch m) (λ q. either _ (λ e. puts tt) (λ e. refuses (too-large m q (leb-false (length x) (blobLimit lim k) e))))
+    write-says (blob k x) i r m = fits sch lim k i r (mismatch m) (λ q. either (Says _ _) _ (λ e. puts tt) (λ e. refuses (too-large m q (leb-false (length x) (blobLimit lim k) e))))
     write-says (variant t v) i r m = fits sch lim 15 i r (mismatch m) (λ q. tags sch lim t i (r + 1) (stray m q) (λ l.
         then (write-says v (nodeAt sch i .first + t) (r + 1) (in-variant m l refl refl)) (λ x h. puts tt)))
     write-says (repeated is) i r m = fits sch lim 16 i r (mismatch m) (λ q. writeI-says is i (r + 1) is r m q (λ t v n h. h))
-    write-says (tuple vs) i r m = fits sch lim 17 i r (mismatch m) (λ q. either _
+    write-says (tuple vs) i r m = fits sch lim 17 i r (mismatch m) (λ q. either (Says _ _) _
         (λ e. writeV-says vs (nodeAt sch i .first) (r + 1) (λ v j n h. in-tuple m h (eqb-true (values vs) (nodeAt sch i .children) e)))
         (λ e. refuses (wrong-length m q (eqb-false (values vs) (nodeAt sch i .children) e))))
 

@@ -171,10 +171,6 @@ module _ (table store : List ℕ) where
   reads zero tag p l = fails
   reads (suc d) tag p l = headed-reads (suc d) tag p _ (node-reads d (valueAt table store d) (reads d) p l)
 
-  -- the end of a table: all records, and all bytes of the store
-  abbrev pub ends : Spot
-  ends = record { at = valueRecordsIn (length table); from = length store }
-
   exact : Holds (λ v q. TableOf v table store) (tableValue table store)
   unfolding tableValue
   exact = when _ (λ e. by (valueAt table store 64 0 (record { at = 0; from = 0 })) (reads 64 0 (record { at = 0; from = 0 }) (omega arith)) e)

@@ -1,17 +1,16 @@
 -- What holds of the bytes that are written, and of the refusals.
 -- Assumes nothing.
 use Prim.Native.Nat.{ℕ, _≤_, _<_}
-use mathlib.Core.Path.{_≡_, refl}
-use mathlib.Core.Bool.{Bool, true, false}
+use mathlib.Core.Path.{_≡_}
 use mathlib.Core.List.{List}
 use borrow.Author.Tests.{ltb-true, ltb-false, eqb-true, eqb-false}
-use Rattle.rules.specs.Choice.{pick}
 use Rattle.rules.specs.Wire.{form}
 use Rattle.rules.specs.Block.{nodeAt}
 use Rattle.rules.specs.Walk.{Limits}
 use Rattle.rules.specs.Writing.{Wrote, Put, Refused, _>>=_, kindFor, fitting, tagged}
 use Rattle.rules.specs.declared.Refusal.{Refusal}
-use Rattle.rules.specs.declared.Refusal.the-variants.{ValueDoesNotMatchSchema, InvalidVariantTag}
+use Rattle.rules.specs.Refusals.{ValueDoesNotMatchSchema, InvalidVariantTag}
+use Rattle.rules.proofs.Tests.{either}
 
 -- no property at all
 unfoldable pub Any : {A : Type 0} → A → Type 0
@@ -36,12 +35,6 @@ unfolding _>>=_
 then (puts {b = b} h) f = f b h
 then (refuses h) f = refuses h
 
--- by a test
-pub either : {P : List ℕ → Type 0} {R : Refusal → Type 0} {x y : Wrote} (t : Bool) → (t ≡ true → Says P R x) → (t ≡ false → Says P R y) → Says P R (pick t x y)
-unfolding pick
-either true f g = f refl
-either false f g = g refl
-
 module _ (sch : List ℕ) (lim : Limits) where
   -- the kind that node i takes
   abbrev pub takes : ℕ → ℕ
@@ -51,10 +44,10 @@ module _ (sch : List ℕ) (lim : Limits) where
   pub fits : {P : List ℕ → Type 0} {R : Refusal → Type 0} {w : Wrote} (kind i r : ℕ) →
       ((kind ≡ takes i → ⊥) → R (ValueDoesNotMatchSchema (nodeAt sch i .code) kind r)) → (kind ≡ takes i → Says P R w) → Says P R (fitting sch lim kind i r w)
   unfolding fitting
-  fits kind i r g f = either _ (λ e. f (eqb-true kind (takes i) e)) (λ e. refuses (g (eqb-false kind (takes i) e)))
+  fits kind i r g f = either (Says _ _) _ (λ e. f (eqb-true kind (takes i) e)) (λ e. refuses (g (eqb-false kind (takes i) e)))
 
   -- the tag is tested (17)
   pub tags : {P : List ℕ → Type 0} {R : Refusal → Type 0} {w : Wrote} (t i r : ℕ) →
       (nodeAt sch i .children ≤ t → R (InvalidVariantTag (nodeAt sch i .code) t (nodeAt sch i .children) r)) → (t < nodeAt sch i .children → Says P R w) → Says P R (tagged sch lim t i r w)
   unfolding tagged
-  tags t i r g f = either _ (λ e. f (ltb-true t (nodeAt sch i .children) e)) (λ e. refuses (g (ltb-false t (nodeAt sch i .children) e)))
+  tags t i r g f = either (Says _ _) _ (λ e. f (ltb-true t (nodeAt sch i .children) e)) (λ e. refuses (g (ltb-false t (nodeAt sch i .children) e)))

@@ -16,7 +16,8 @@ use Rattle.rules.specs.Value.{Value, nothing, boolean, number, wide, blob, vari
 use Rattle.rules.specs.Grammar.{Conforms, conforms, Suits, s-nothing, s-boolean, s-number, s-wide, s-blob, s-variant, s-repeated, s-tuple, SuitI, s-done, s-item, SuitV, s-none, s-more, formOf, childrenOf, bytesV, bytesI, bytesF, encoded, encodedRow}
 use Rattle.rules.specs.Walk.{Limits, blobLimit}
 use Rattle.rules.specs.Writing.{Wrote, Put, _>>=_, kindFor, fitting, tagged, write, writeI, writeV, writeRow}
-use Rattle.values.proofs.Says.{Any, Says, puts, refuses, then, either, put, fits, tags}
+use Rattle.rules.proofs.Tests.{either}
+use Rattle.values.proofs.Says.{Any, Says, puts, refuses, then, put, fits, tags}
 use Rattle.values.proofs.Codes.{empty-code, truth-code, plain, scalar-taken, nothing-taken, boolean-taken, variant-taken, repeated-taken, tuple-taken}
 
 module _ (sch store : List ℕ) where
@@ -91,7 +92,7 @@ module _ (sch store : List ℕ) (lim : Limits) where
         puts (record { conforms = conforms z; within = tt; bytes = refl }))
     write-fair (blob c x) i r (denotes {k = k} {ss = ss} l e m a) h = fits sch lim c i r (λ n. tt) (λ q.
         let z : Suits (form k) k ss (blob c x) = rw (scalar-taken c k (rw (h .0)) (rw e at q), h .0) s-blob in
-        either _ (λ n. puts (record { conforms = conforms z; within = leb-true (length x) (blobLimit lim c) n; bytes = refl })) (λ n. refuses tt))
+        either (Says _ _) _ (λ n. puts (record { conforms = conforms z; within = leb-true (length x) (blobLimit lim c) n; bytes = refl })) (λ n. refuses tt))
     write-fair (variant t v) i r (denotes {k = k} {ss = ss} l e m a) h = fits sch lim 15 i r (λ n. tt) (λ q. tags sch lim t i (r + 1) (λ n. tt) (λ n.
         let lt : t < count ss = rw (denote-count sch store a) n in
         then (write-fair v (nodeAt sch i .first + t) (r + 1) (denote-child sch store a t n) (h .1)) (λ x y.
@@ -100,7 +101,7 @@ module _ (sch store : List ℕ) (lim : Limits) where
     write-fair (repeated is) i r (denotes {k = k} {ss = ss} l e m a) h = fits sch lim 16 i r (λ n. tt) (λ q.
         items-fair k ss is (rw e at q) (writeI-fair is i (r + 1) k e a h))
     write-fair (tuple vs) i r (denotes {k = k} {ss = ss} l e m a) h = fits sch lim 17 i r (λ n. tt) (λ q.
-        either _ (λ n. values-fair k ss vs (rw e at q) (writeV-fair vs (nodeAt sch i .first) (r + 1) a (eqb-true (values vs) (nodeAt sch i .children) n) h)) (λ n. refuses tt))
+        either (Says _ _) _ (λ n. values-fair k ss vs (rw e at q) (writeV-fair vs (nodeAt sch i .first) (r + 1) a (eqb-true (values vs) (nodeAt sch i .children) n) h)) (λ n. refuses tt))
 
     writeI-fair : (is : Items) (i r k : ℕ) {ss : Schemas} → nodeAt sch i .code ≡ k → DenoteAll sch store (nodeAt sch i .first) (nodeAt sch i .children) ss → FitsI is → Says (FairI lim (widthOf (form k)) ss is) Any (writeI sch lim is i r)
     writeI-fair done i r k e a h = rw e (puts (record { suits = s-done; within = tt; bytes = refl }))

@@ -1,6 +1,5 @@
 pub mod Parts
 pub mod Fields
-pub mod Halves
-pub mod Codes
-pub mod Names
+pub mod CodeTable
+pub mod NameTable
 pub mod Theorems

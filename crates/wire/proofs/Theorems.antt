@@ -12,8 +12,8 @@ use Rattle.rules.specs.declared.Order.the-variants.{Equal}
 use Rattle.rules.specs.declared.WireType.{WireType}
 use Rattle.rules.specs.declared.Known.the-variants.{Wire}
 use Rattle.rules.proofs.Orders as orders
-use Rattle.wire.proofs.Codes as codes
-use Rattle.wire.proofs.Names as names
+use Rattle.wire.proofs.CodeTable as codes
+use Rattle.wire.proofs.NameTable as names
 
 -- The code of a wire type names that type.
 pub code-names-type : (t : WireType) → typeOf (codeOf t) ≡ Wire t

@@ -1,4 +1,4 @@
-// Little-endian fields, written.
+// Numbers in bytes, little-endian, written.
 ghost use mathlib.Core.Path.{_≡_};
 ghost use Prim.Native.Nat.{_+_, _≤_};
 ghost use lib.ListN.{length};

@@ -8,6 +8,9 @@ use Rattle.skiff.proofs.put_answer.Tie as tie
 put64-requires : tie.Need-put64-requires
 put64-requires c κs = search needs
 
+cast-put-five : tie.Need-cast-put-five
+cast-put-five c = search needs
+
 put-five-requires : tie.Need-put-five-requires
 put-five-requires c κs = search needs
 
@@ -19,8 +22,8 @@ same-length c = search needs
 
 returns : tie.Need-returns
 unfolding layout
-returns c = eleven _ _ _ _ _ _ _ refl (c .before .before .before .before .before .before .before .before .before .before .put64 .ensures) (c .before .before .before .before .before .before .put-five .ensures) (c .before .before .put-five2 .ensures)
+returns c = eleven _ _ _ _ _ _ _ refl (c .before .before .before .before .before .before .before .before .before .before .before .put64 .ensures) (c .before .before .before .before .before .before .put-five .ensures) (c .before .before .put-five2 .ensures)
 
 pub put-answer-spec : {M : Type 1} → statement M
 put-answer-spec =
-    tie.close (tie.spec put64-requires put-five-requires put-five-requires-2 same-length returns)
+    tie.close (tie.spec put64-requires cast-put-five put-five-requires put-five-requires-2 same-length returns)

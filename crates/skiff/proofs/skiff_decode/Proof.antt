@@ -25,7 +25,7 @@ same-length-3 : tie.Need-same-length-3
 same-length-3 c = search needs
 
 returns-2 : tie.Need-returns-2
-returns-2 c = room-kept _ _ _ _ _ _ _ _ _ _ (c .before .before .before .before .before .before .before .before .before .before .before .before .if1 .left) (c .before .before .before .of-read .ensures .0) (c .before .before .before .before .before .before .before .before .before .next-row .ensures) (c .before .before .give .ensures)
+returns-2 c = room-kept _ _ _ _ _ _ _ _ _ _ (c .before .before .before .before .before .before .before .before .before .before .before .before .if1 .left) (c .before .before .before .of-read .ensures) (c .before .before .before .before .before .before .before .before .before .next-row .ensures) (c .before .before .give .ensures)
 
 pub skiff-decode-spec : {M : Type 1} → statement M
 skiff-decode-spec =

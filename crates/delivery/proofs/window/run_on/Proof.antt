@@ -49,7 +49,7 @@ returns c =
 returns-2 : tie.Need-returns-2
 returns-2 c =
     let i = inside (c .before .before .before .before .before .before .before .before) in
-    (adds-refused _ _ _ _ (c .before .before .stop .given .1) (c .moved .ensures) ∙ ap (added _) (is (c .before .before .before .before .before .before .before .before)), omega (arith, i))
+    (adds-refused _ _ _ _ (c .before .before .stop .given .1) (c .moved .ensures) ∙ ap (added _) (is (c .before .before .before .before .before .before .before .before)), omega (arith, i, c .before .before .before .before .before .before .before .before .before .before .before .before .before .before .before .pre))
 
 pub run-on-spec : {M : Type 1} → statement M
 run-on-spec =

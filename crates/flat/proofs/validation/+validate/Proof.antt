@@ -1,9 +1,7 @@
 use borrow.Author.Needs.{needs}
 use native.Mathlib.Omega.{arith}
 use Prim.Native.Nat.{ℕ, _+_, _-_, _≤_, _<_}
-use mathlib.Core.Path.{_≡_, refl, sym, _∙_}
-use mathlib.Core.Logic.{⊎-elim}
-use borrow.Author.Tests.{not-false}
+use mathlib.Core.Path.{_≡_, sym, _∙_}
 use lib.ListN.{length}
 use borrow.Fn.Kinds.{In}
 use borrow.Fn.PlainCycle.{Measures, is, falls, and}
@@ -18,7 +16,6 @@ use Rattle.flat.proofs.validation.validate.Kinds as kinds
 use Rattle.flat.proofs.validation.+validate.Lts-validate as lts
 use Rattle.record.proofs.node.node_at.Reads as node-at
 use Rattle.flat.proofs.validation.node_rule.Reads as node-rule
-use Rattle.flat.proofs.validation.plain_leaf.Reads as plain-leaf
 use Rattle.flat.proofs.validation.+validate.{statement}
 use Rattle.flat.proofs.validation.+validate.Tie.{close}
 
@@ -33,7 +30,7 @@ abbrev below : ℕ → In 1 kinds.ps
 below t = and 1 kinds.ps (falls 1 kinds.ps _<_ μ-validate t) validate.Pre
 
 abbrev calls : ℕ → lts.Claims
-calls t = (node-at.Asked, node-at.Learnt, node-rule.Asked, node-rule.Learnt, plain-leaf.Asked, plain-leaf.Learnt, below t, validate.Post)
+calls t = (node-at.Asked, node-at.Learnt, node-rule.Asked, node-rule.Learnt, below t, validate.Post)
 
 -- what is left comes to the whole
 abbrev Inv-loop : lts.InvT-loop
@@ -77,26 +74,17 @@ module _ (t : ℕ) where
       let start = c .before .before .before .before .before .before .before .before in
       rw (c .before .before .before .before .before .node-at .ensures) (start .pre .1 .0 _ (start .pre .1 .1))
 
-  sub-plain-leaf : lts.Need-sub-plain-leaf (calls t) (at t) validate.Post Inv-loop μ-loop
-  sub-plain-leaf c = omega (arith, c .before .before .before .before .before .before .if1 .left)
-
-  add-plain-leaf : lts.Need-add-plain-leaf (calls t) (at t) validate.Post Inv-loop μ-loop
-  add-plain-leaf c = omega (arith, fits c, c .before .before .before .before .before .before .before .before .pre .1 .2)
-
-  plain-leaf-requires : lts.Need-plain-leaf-requires (calls t) (at t) validate.Post Inv-loop μ-loop
-  plain-leaf-requires c κs = omega (arith, fits c)
-
   sub-validate : lts.Need-sub-validate (calls t) (at t) validate.Post Inv-loop μ-loop
-  sub-validate c = omega (arith, c .before .before .before .before .before .before .before .before .if1 .left)
+  sub-validate c = omega (arith, c .before .before .before .before .before .before .if1 .left)
 
   add-validate : lts.Need-add-validate (calls t) (at t) validate.Post Inv-loop μ-loop
-  add-validate c = omega (arith, fits (c .before .before), c .before .before .before .before .before .before .before .before .before .before .pre .1 .2)
+  add-validate c = omega (arith, fits c, c .before .before .before .before .before .before .before .before .pre .1 .2)
 
   validate-requires : lts.Need-validate-requires (calls t) (at t) validate.Post Inv-loop μ-loop
   validate-requires c κs =
-      let u = c .before .before .before .before .before .before .before .before in
+      let u = c .before .before .before .before .before .before in
       let start = u .before .before in
-      (omega (arith, start .pre .0, u .if1 .left), (start .pre .1 .0, omega (arith, fits (c .before .before)), start .pre .1 .2))
+      (omega (arith, start .pre .0, u .if1 .left), (start .pre .1 .0, omega (arith, fits c), start .pre .1 .2))
 
   enum-told-3 : lts.Need-enum-told-3 (calls t) (at t) validate.Post Inv-loop μ-loop
   enum-told-3 c = search needs
@@ -105,7 +93,7 @@ module _ (t : ℕ) where
   enum-told-4 c = search needs
 
   returns-3 : lts.Need-returns-3 (calls t) (at t) validate.Post Inv-loop μ-loop
-  returns-3 c = let l = c .before .before .before .before .before in
+  returns-3 c = let l = c .before .before .before in
       turn-off _ _ _ _ (l .loop-test .taken) _ (c .before .before .validate .ensures) (c .enum-told4 .given .1) ∙ l .before .loop .inv .1
 
   add-k : lts.Need-add-k (calls t) (at t) validate.Post Inv-loop μ-loop
@@ -115,17 +103,11 @@ module _ (t : ℕ) where
   loop-less c = omega arith
 
   loop-again : lts.Need-loop-again (calls t) (at t) validate.Post Inv-loop μ-loop
-  loop-again c = let l = c .before .before in (
-    omega arith,
-    ⊎-elim (λ w. turn-on _ _ _ _ (l .loop-test .taken) _ (w .1 .ensures) (w .3 .given .1))
-        (λ w. turn-on _ _ _ _ (l .loop-test .taken) _ refl (c .before .plain-leaf .ensures _ (not-false _ (w .left))))
-        (c .if2 .came)
-        ∙ l .before .loop .inv .1,
-  )
+  loop-again c = let l = c .before .before .before in (omega arith, turn-on _ _ _ _ (l .loop-test .taken) _ (c .before .before .validate .ensures) (c .enum-told3 .given .1) ∙ l .before .loop .inv .1)
 
   returns-4 : lts.Need-returns-4 (calls t) (at t) validate.Post Inv-loop μ-loop
   returns-4 c = sym (in-order-end _ _ _ _ (c .loop-test .left)) ∙ c .before .loop .inv .1
 
 pub +validate-spec : {M : Type 1} → statement M
 +validate-spec =
-    close μ-validate λ t. lts.spec (calls t) (at t) validate.Post Inv-loop μ-loop (returns t) (node-at-requires t) (add-node-rule t) (node-rule-requires t) (enum-told t) (enum-told-2 t) (returns-2 t) (loop-holds t) (sub-plain-leaf t) (add-plain-leaf t) (plain-leaf-requires t) (sub-validate t) (add-validate t) (validate-requires t) (enum-told-3 t) (enum-told-4 t) (returns-3 t) (add-k t) (loop-less t) (loop-again t) (returns-4 t)
+    close μ-validate λ t. lts.spec (calls t) (at t) validate.Post Inv-loop μ-loop (returns t) (node-at-requires t) (add-node-rule t) (node-rule-requires t) (enum-told t) (enum-told-2 t) (returns-2 t) (loop-holds t) (sub-validate t) (add-validate t) (validate-requires t) (enum-told-3 t) (enum-told-4 t) (returns-3 t) (add-k t) (loop-less t) (loop-again t) (returns-4 t)

@@ -1,6 +1,7 @@
-use mathlib.Core.Path.{_≡_}
 use native.Mathlib.Omega.{arith}
-use Rattle.rules.specs.Wire.{wireTypes, typeIn, typeOf, written, writtenIf, form, widthOf, endTag}
+use borrow.Author.Needs.{needs}
+use Rattle.rules.specs.Wire.{endTag}
+use Rattle.wire.proofs.CodeTable.{tag-two}
 use Rattle.read.specs.Children.{endsAt}
 use Rattle.read.proofs.Codes.{shape-variant, shape-repeated}
 use Rattle.read.proofs.fields.ends.Statement.{statement}
@@ -11,16 +12,19 @@ unfolding endsAt
 returns c = rw (shape-variant _ (c .if1 .taken))
 
 returns-2 : tie.Need-returns-2
-unfolding endsAt endTag wireTypes typeIn typeOf written writtenIf form widthOf
+unfolding endsAt endTag
 returns-2 c =
-    let e : c .before .before .args .code ≡ 17 = omega arith in
-    rw (shape-repeated _ (c .before .if1 .left) (c .before .before .pre), e)
+    let b = c .before .before in
+    rw (shape-repeated _ (b .if1 .left) (b .before .pre), ← c .before .tag-width .ensures, c .if2 .taken)
 
 returns-3 : tie.Need-returns-3
-unfolding endsAt endTag wireTypes typeIn typeOf written writtenIf form widthOf
+unfolding endsAt endTag
 returns-3 c =
-    let e : c .before .before .args .code ≡ 18 = omega arith in
-    rw (shape-repeated _ (c .before .if1 .left) (c .before .before .pre), e)
+    let b = c .before .before in
+    rw (shape-repeated _ (b .if1 .left) (b .before .pre), tag-two _ (omega arith) (b .before .pre) _ (c .before .tag-width .ensures) (c .if2 .left))
+
+tag-width-requires : tie.Need-tag-width-requires
+tag-width-requires c κs = search needs
 
 pub ends-spec : {M : Type 1} → statement M
-ends-spec = tie.close (tie.spec returns returns-2 returns-3)
+ends-spec = tie.close (tie.spec returns tag-width-requires returns-2 returns-3)

@@ -55,8 +55,8 @@ returns-4 c = rw (← c .before .before .before .before .before .before .before 
 add-t14 : tie.Need-add-t14
 add-t14 c = search needs
 
-add-t18 : tie.Need-add-t18
-add-t18 c = search needs
+add-t19 : tie.Need-add-t19
+add-t19 c = search needs
 
 returns-5 : tie.Need-returns-5
 unfolding blobOf reading charged having bytesOf passed stored pick _>>=_
@@ -81,5 +81,5 @@ skip-blob-spec =
     returns-3
     returns-4
     add-t14
-    add-t18
+    add-t19
     returns-5)

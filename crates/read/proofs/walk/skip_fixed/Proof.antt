@@ -21,8 +21,8 @@ add-t7 c = search needs
 kept-requires : tie.Need-kept-requires
 kept-requires c κs = search needs
 
-add-t13 : tie.Need-add-t13
-add-t13 c = search needs
+add-t14 : tie.Need-add-t14
+add-t14 c = search needs
 
 returns-2 : tie.Need-returns-2
 unfolding fixedOf bytesOf passed stored pick _>>=_
@@ -31,4 +31,4 @@ returns-2 c = rw (← c .before .before .before .before .fixed-width .ensures .0
 pub skip-fixed-spec : {M : Type 1} → statement M
 skip-fixed-spec =
     tie.close
-    (tie.spec fixed-width-requires sub-if1 returns add-t7 kept-requires add-t13 returns-2)
+    (tie.spec fixed-width-requires sub-if1 returns add-t7 kept-requires add-t14 returns-2)

@@ -1,6 +1,5 @@
 use borrow.Author.Needs.{needs}
-use Rattle.wire.proofs.Halves.{le-two, halves}
-use Rattle.rules.proofs.Stands.{length-le}
+use Rattle.wire.proofs.Fields.{write-parts}
 use Rattle.wire.proofs.store.put32.Statement.{statement}
 use Rattle.wire.proofs.store.put32.Tie as tie
 
@@ -19,7 +18,7 @@ same-length c = search needs
 returns : tie.Need-returns
 returns c =
     let first = c .before .before .before .before .before .before in
-    halves _ _ _ _ _ _ _ _ (le-two _) (length-le _ _) (first .put16 .ensures) (c .before .before .put162 .ensures)
+    write-parts _ _ _ _ 2 2 _ (first .put16 .ensures) (c .before .before .put162 .ensures)
 
 pub put32-spec : {M : Type 1} → statement M
 put32-spec = tie.close (tie.spec put16-requires add-put16 put16-requires-2 same-length returns)

@@ -1,6 +1,5 @@
 use borrow.Author.Needs.{needs}
-use Rattle.wire.proofs.Halves.{le-four, halves}
-use Rattle.rules.proofs.Stands.{length-le}
+use Rattle.wire.proofs.Fields.{write-parts}
 use Rattle.wire.proofs.store.put64.Statement.{statement}
 use Rattle.wire.proofs.store.put64.Tie as tie
 
@@ -19,7 +18,7 @@ same-length c = search needs
 returns : tie.Need-returns
 returns c =
     let first = c .before .before .before .before .before .before in
-    halves _ _ _ _ _ _ _ _ (le-four _) (length-le _ _) (first .put32 .ensures) (c .before .before .put322 .ensures)
+    write-parts _ _ _ _ 4 4 _ (first .put32 .ensures) (c .before .before .put322 .ensures)
 
 pub put64-spec : {M : Type 1} → statement M
 put64-spec = tie.close (tie.spec put32-requires add-put32 put32-requires-2 same-length returns)

@@ -35,8 +35,8 @@ module _ (t : ℕ) where
   pub returns-2 : lts.Need-returns-2 (skip-value-calls t) (skip-value-at t) skip-value.Post
   returns-2 c = rw (c .dear .ensures _ (c .before .enum-told .given .1), skim-dear _ _ _ _ _ (c .before .before .before .before .before .before .before .before .args .p) (c .before .before .before .before .before .if1 .left) _ (c .before .before .before .charge .ensures) _ (c .before .enum-told .given .1))
 
-  pub add-t25 : lts.Need-add-t25 (skip-value-calls t) (skip-value-at t) skip-value.Post
-  add-t25 c = search needs
+  pub add-t26 : lts.Need-add-t26 (skip-value-calls t) (skip-value-at t) skip-value.Post
+  add-t26 c = search needs
 
   pub node-code-requires : lts.Need-node-code-requires (skip-value-calls t) (skip-value-at t) skip-value.Post
   node-code-requires c κs = search needs

@@ -1,0 +1,99 @@
+-- No second answer, said of each call's own contract. `Post` is what a call has to show when it returns: of its arguments, of its
+-- result, and of what it was lent. Whatever result, and whatever later contents of the slices that were lent to be written, meets it
+-- on some arguments is the same as any other that does, refusals included. So a weaker `ensures` fails here.
+-- Assumes nothing.
+use Prim.Native.Nat.{ℕ}
+use mathlib.Core.Path.{_≡_, sym, _∙_}
+use mathlib.Core.List.{List, [], _∷_}
+use contract.Lifetimes.{Lfts}
+use borrow.Fn.Kinds.{PK, RK, Dens, Out, resT, endedOf}
+use denote.Triple.Clauses.{AtExit}
+use Rattle.rules.proofs.Settings.new as settings-new
+use Rattle.rules.proofs.Settings.within_bounds as settings-within-bounds
+use Rattle.rules.proofs.Refusal.in_numbers as in-numbers
+use Rattle.wire.proofs.names.parse as parse
+use Rattle.wire.proofs.names.is_name as is-name
+use Rattle.wire.proofs.types.from_code as from-code
+use Rattle.wire.proofs.types.code_of as code-of
+use Rattle.wire.proofs.types.fixed_width as fixed-width
+use Rattle.wire.proofs.codes.maximum_of as maximum-of
+use Rattle.schema.proofs.check_schema as check-schema
+use Rattle.schema.proofs.check_encoder_schema as check-encoder-schema
+use Rattle.schema.proofs.check_format as check-format
+use Rattle.stream.proofs.within_bounds as within-bounds
+use Rattle.stream.proofs.skip_row as skip-row
+use Rattle.stream.proofs.run as run
+use Rattle.decode.proofs.next_row as next-row
+use Rattle.skiff.proofs.skiff_skip as skiff-skip
+use Rattle.skiff.proofs.skiff_run as skiff-run
+use Rattle.skiff.proofs.skiff_decode as skiff-decode
+
+-- one result
+abbrev pub OneAnswer : {n : ℕ} (ps : List (PK n)) (r : RK n) → Out n ps r → Type 0
+OneAnswer {n} ps r Post = (κs : Lfts n) (a : Dens κs ps) (x y : resT r κs .Denot) (s t : AtExit (endedOf n ps r) κs) → Post κs a x s → Post κs a y t → x ≡ y
+
+-- one result, and one contents of each slice that was lent
+abbrev pub OneOutcome : {n : ℕ} (ps : List (PK n)) (r : RK n) → ((κs : Lfts n) → AtExit (endedOf n ps r) κs → List (List ℕ)) → Out n ps r → Type 0
+OneOutcome {n} ps r lent Post = (κs : Lfts n) (a : Dens κs ps) (x y : resT r κs .Denot) (s t : AtExit (endedOf n ps r) κs) → Post κs a x s → Post κs a y t → (x ≡ y) × (lent κs s ≡ lent κs t)
+
+-- ---- settings and refusals
+pub settings-new-one-answer : OneAnswer settings-new.Kinds.ps settings-new.Kinds.r settings-new.Reads.Post
+settings-new-one-answer κs a x y s t p q = p ∙ sym q
+
+pub settings-within-bounds-one-answer : OneAnswer settings-within-bounds.Kinds.ps settings-within-bounds.Kinds.r settings-within-bounds.Reads.Post
+settings-within-bounds-one-answer κs a x y s t p q = p ∙ sym q
+
+pub in-numbers-one-answer : OneAnswer in-numbers.Kinds.ps in-numbers.Kinds.r in-numbers.Reads.Post
+in-numbers-one-answer κs a x y s t p q = p ∙ sym q
+
+-- ---- wire types, by code and by name
+pub parse-one-answer : OneAnswer parse.Kinds.ps parse.Kinds.r parse.Reads.Post
+parse-one-answer κs a x y s t p q = p ∙ sym q
+
+pub is-name-one-answer : OneAnswer is-name.Kinds.ps is-name.Kinds.r is-name.Reads.Post
+is-name-one-answer κs a x y s t p q = p ∙ sym q
+
+pub from-code-one-answer : OneAnswer from-code.Kinds.ps from-code.Kinds.r from-code.Reads.Post
+from-code-one-answer κs a x y s t p q = p ∙ sym q
+
+pub code-of-one-answer : OneAnswer code-of.Kinds.ps code-of.Kinds.r code-of.Reads.Post
+code-of-one-answer κs a x y s t p q = p ∙ sym q
+
+pub fixed-width-one-answer : OneAnswer fixed-width.Kinds.ps fixed-width.Kinds.r fixed-width.Reads.Post
+fixed-width-one-answer κs a x y s t p q = p ∙ sym q
+
+pub maximum-of-one-answer : OneAnswer maximum-of.Kinds.ps maximum-of.Kinds.r maximum-of.Reads.Post
+maximum-of-one-answer κs a x y s t p q = p ∙ sym q
+
+-- ---- schemas and formats
+pub check-schema-one-answer : OneAnswer check-schema.Kinds.ps check-schema.Kinds.r check-schema.Reads.Post
+check-schema-one-answer κs a x y s t p q = p ∙ sym q
+
+pub check-encoder-schema-one-answer : OneAnswer check-encoder-schema.Kinds.ps check-encoder-schema.Kinds.r check-encoder-schema.Reads.Post
+check-encoder-schema-one-answer κs a x y s t p q = p ∙ sym q
+
+pub check-format-one-answer : OneAnswer check-format.Kinds.ps check-format.Kinds.r check-format.Reads.Post
+check-format-one-answer κs a x y s t p q = p ∙ sym q
+
+-- ---- reading
+pub within-bounds-one-answer : OneAnswer within-bounds.Kinds.ps within-bounds.Kinds.r within-bounds.Reads.Post
+within-bounds-one-answer κs a x y s t p q = p ∙ sym q
+
+pub skip-row-one-answer : OneAnswer skip-row.Kinds.ps skip-row.Kinds.r skip-row.Reads.Post
+skip-row-one-answer κs a x y s t p q = p ∙ sym q
+
+pub run-one-answer : OneAnswer run.Kinds.ps run.Kinds.r run.Reads.Post
+run-one-answer κs a x y s t p q = p ∙ sym q
+
+-- ---- the calls that write
+pub next-row-one-answer : OneOutcome next-row.Kinds.ps next-row.Kinds.r (λ κs (settings, (table, (names, (references, (registry, (input, (position, (records, (payload, _))))))))). records .now ∷ payload .now ∷ []) next-row.Reads.Post
+next-row-one-answer κs a x y s t p q = (p .0 ∙ sym (q .0), rw (p .1 .0, p .1 .1, q .1 .0, q .1 .1))
+
+pub skiff-skip-one-answer : OneOutcome skiff-skip.Kinds.ps skiff-skip.Kinds.r (λ κs (charge, (blob, (row, (table, (names, (references, (registry, (input, (position, (answer, _)))))))))). answer .now ∷ []) skiff-skip.Reads.Post
+skiff-skip-one-answer κs a x y s t p q = (p .0 ∙ sym (q .0), rw (p .1, q .1))
+
+pub skiff-run-one-answer : OneOutcome skiff-run.Kinds.ps skiff-run.Kinds.r (λ κs (charge, (blob, (row, (table, (names, (references, (registry, (input, (answer, _))))))))). answer .now ∷ []) skiff-run.Reads.Post
+skiff-run-one-answer κs a x y s t p q = (p .0 ∙ sym (q .0), rw (p .1, q .1))
+
+pub skiff-decode-one-answer : OneOutcome skiff-decode.Kinds.ps skiff-decode.Kinds.r (λ κs (charge, (blob, (row, (table, (names, (references, (registry, (input, (position, (records, (payload, (answer, _)))))))))))). answer .now ∷ records .now ∷ payload .now ∷ []) skiff-decode.Reads.Post
+skiff-decode-one-answer κs a x y s t p q = (p .0 ∙ sym (q .0), rw (p .1 .0, p .1 .1 .0, p .1 .1 .1, q .1 .0, q .1 .1 .0, q .1 .1 .1))

@@ -1,0 +1,225 @@
+-- No second answer, of the public functions that other crates call on the way to an answer: steps, most of them with a `requires`,
+-- which the statements here do not need.
+-- Assumes nothing.
+use Prim.Native.Nat.{ℕ}
+use mathlib.Core.Path.{_≡_, refl, sym, _∙_, ap}
+use mathlib.Core.List.{List, [], _∷_}
+use Rattle.call_promises.proofs.OneAnswer.{OneAnswer, OneOutcome}
+use Rattle.wire.proofs.numbers.wide as wide
+use Rattle.wire.proofs.numbers.u16_at as u16-at
+use Rattle.wire.proofs.numbers.u32_at as u32-at
+use Rattle.wire.proofs.numbers.u64_at as u64-at
+use Rattle.wire.proofs.numbers.field as field
+use Rattle.wire.proofs.order.order_of as order-of
+use Rattle.wire.proofs.order.compare as compare
+use Rattle.wire.proofs.order.is_equal as is-equal
+use Rattle.flat.proofs.block.node_at as node-at
+use Rattle.flat.proofs.block.span_ok as span-ok
+use Rattle.flat.proofs.block.block_ok as block-ok
+use Rattle.flat.proofs.block.depth_of as depth-of
+use Rattle.flat.proofs.table.block_form_ok as block-form-ok
+use Rattle.flat.proofs.table.block_depth_ok as block-depth-ok
+use Rattle.flat.proofs.table.block_rule as block-rule
+use Rattle.flat.proofs.table.block_root as block-root
+use Rattle.flat.proofs.table.block_stands as block-stands
+use Rattle.flat.proofs.validation.validate as validate
+use Rattle.flat.proofs.validation.check_root as check-root
+use Rattle.schema.proofs.encoder_rules as encoder-rules
+use Rattle.schema.proofs.format_rules as format-rules
+use Rattle.schema.proofs.forms.forms_ok as forms-ok
+use Rattle.schema.proofs.depths.depths_ok as depths-ok
+use Rattle.schema.proofs.order.rules_order as rules-order
+use Rattle.schema.proofs.format.reference_at as reference-at
+use Rattle.schema.proofs.format.entry_at as entry-at
+use Rattle.schema.proofs.format.lookup as lookup
+use Rattle.schema.proofs.format.resolve as resolve
+use Rattle.schema.proofs.format.table_schema as table-schema
+use Rattle.read.proofs.budget.RowBudget.new as budget-new
+use Rattle.read.proofs.budget.RowBudget.charge as charge
+use Rattle.read.proofs.budget.blob_limit as blob-limit
+use Rattle.read.proofs.fields.read_tag as read-tag
+use Rattle.read.proofs.fields.read_table as read-table
+use Rattle.read.proofs.fields.read_length as read-length
+use Rattle.wire.proofs.codes.fixed_width as width-of-code
+use Rattle.read.proofs.fields.kept as kept
+use Rattle.read.proofs.fields.ends as ends
+use Rattle.read.proofs.walk.skip_root as skip-root
+use Rattle.stream.proofs.bad_format as bad-format
+use Rattle.stream.proofs.row.block_at as block-at
+use Rattle.stream.proofs.row.row_of as row-of
+use Rattle.stream.proofs.row.row_at as row-at
+use Rattle.stream.proofs.row.run_rows as run-rows
+use Rattle.decode.proofs.row.room_for as room-for
+use Rattle.wire.proofs.store.put16 as put16
+use Rattle.wire.proofs.store.put32 as put32
+use Rattle.wire.proofs.store.put64 as put64
+use Rattle.record.proofs.value.put_record as put-record
+use Rattle.record.proofs.payload.copy as copy
+use Rattle.fill.proofs.fill_row as fill-row
+use Rattle.decode.proofs.row.fill_at as fill-at
+use Rattle.decode.proofs.row.decode_row as decode-row
+
+-- ---- numbers and byte strings
+pub wide-one-answer : OneAnswer wide.Kinds.ps wide.Kinds.r wide.Reads.Post
+wide-one-answer κs a x y s t p q = p .0 ∙ sym (q .0)
+
+pub u16-at-one-answer : OneAnswer u16-at.Kinds.ps u16-at.Kinds.r u16-at.Reads.Post
+u16-at-one-answer κs a x y s t p q = p ∙ sym q
+
+pub u32-at-one-answer : OneAnswer u32-at.Kinds.ps u32-at.Kinds.r u32-at.Reads.Post
+u32-at-one-answer κs a x y s t p q = p ∙ sym q
+
+pub u64-at-one-answer : OneAnswer u64-at.Kinds.ps u64-at.Kinds.r u64-at.Reads.Post
+u64-at-one-answer κs a x y s t p q = p ∙ sym q
+
+pub field-one-answer : OneAnswer field.Kinds.ps field.Kinds.r field.Reads.Post
+field-one-answer κs a x y s t p q = p ∙ sym q
+
+pub order-of-one-answer : OneAnswer order-of.Kinds.ps order-of.Kinds.r order-of.Reads.Post
+order-of-one-answer κs a x y s t p q = p ∙ sym q
+
+pub compare-one-answer : OneAnswer compare.Kinds.ps compare.Kinds.r compare.Reads.Post
+compare-one-answer κs a x y s t p q = p ∙ sym q
+
+pub is-equal-one-answer : OneAnswer is-equal.Kinds.ps is-equal.Kinds.r is-equal.Reads.Post
+is-equal-one-answer κs a x y s t p q = p ∙ sym q
+
+-- ---- a block
+pub node-at-one-answer : OneAnswer node-at.Kinds.ps node-at.Kinds.r node-at.Reads.Post
+node-at-one-answer κs a x y s t p q = p ∙ sym q
+
+pub span-ok-one-answer : OneAnswer span-ok.Kinds.ps span-ok.Kinds.r span-ok.Reads.Post
+span-ok-one-answer κs a x y s t p q = p ∙ sym q
+
+pub block-ok-one-answer : OneAnswer block-ok.Kinds.ps block-ok.Kinds.r block-ok.Reads.Post
+block-ok-one-answer κs a x y s t p q = p ∙ sym q
+
+pub depth-of-one-answer : OneAnswer depth-of.Kinds.ps depth-of.Kinds.r depth-of.Reads.Post
+depth-of-one-answer κs a x y s t p q = p ∙ sym q
+
+pub block-form-ok-one-answer : OneAnswer block-form-ok.Kinds.ps block-form-ok.Kinds.r block-form-ok.Reads.Post
+block-form-ok-one-answer κs a x y s t p q = p ∙ sym q
+
+pub block-depth-ok-one-answer : OneAnswer block-depth-ok.Kinds.ps block-depth-ok.Kinds.r block-depth-ok.Reads.Post
+block-depth-ok-one-answer κs a x y s t p q = p ∙ sym q
+
+pub block-rule-one-answer : OneAnswer block-rule.Kinds.ps block-rule.Kinds.r block-rule.Reads.Post
+block-rule-one-answer κs a x y s t p q = p ∙ sym q
+
+pub block-root-one-answer : OneAnswer block-root.Kinds.ps block-root.Kinds.r block-root.Reads.Post
+block-root-one-answer κs a x y s t p q = p ∙ sym q
+
+pub block-stands-one-answer : OneAnswer block-stands.Kinds.ps block-stands.Kinds.r block-stands.Reads.Post
+block-stands-one-answer κs a x y s t p q = p ∙ sym q
+
+pub validate-one-answer : OneAnswer validate.Kinds.ps validate.Kinds.r validate.Reads.Post
+validate-one-answer κs a x y s t p q = p ∙ sym q
+
+pub check-root-one-answer : OneAnswer check-root.Kinds.ps check-root.Kinds.r check-root.Reads.Post
+check-root-one-answer κs a x y s t p q = p ∙ sym q
+
+-- ---- a format
+pub encoder-rules-one-answer : OneAnswer encoder-rules.Kinds.ps encoder-rules.Kinds.r encoder-rules.Reads.Post
+encoder-rules-one-answer κs a x y s t p q = p ∙ sym q
+
+pub format-rules-one-answer : OneAnswer format-rules.Kinds.ps format-rules.Kinds.r format-rules.Reads.Post
+format-rules-one-answer κs a x y s t p q = p ∙ sym q
+
+pub forms-ok-one-answer : OneAnswer forms-ok.Kinds.ps forms-ok.Kinds.r forms-ok.Reads.Post
+forms-ok-one-answer κs a x y s t p q = p ∙ sym q
+
+pub depths-ok-one-answer : OneAnswer depths-ok.Kinds.ps depths-ok.Kinds.r depths-ok.Reads.Post
+depths-ok-one-answer κs a x y s t p q = p ∙ sym q
+
+pub rules-order-one-answer : OneAnswer rules-order.Kinds.ps rules-order.Kinds.r rules-order.Reads.Post
+rules-order-one-answer κs a x y s t p q = p ∙ sym q
+
+pub reference-at-one-answer : OneAnswer reference-at.Kinds.ps reference-at.Kinds.r reference-at.Reads.Post
+reference-at-one-answer κs a x y s t p q = p ∙ sym q
+
+pub entry-at-one-answer : OneAnswer entry-at.Kinds.ps entry-at.Kinds.r entry-at.Reads.Post
+entry-at-one-answer κs a x y s t p q = p ∙ sym q
+
+pub lookup-one-answer : OneAnswer lookup.Kinds.ps lookup.Kinds.r lookup.Reads.Post
+lookup-one-answer κs a x y s t p q = p ∙ sym q
+
+pub resolve-one-answer : OneAnswer resolve.Kinds.ps resolve.Kinds.r resolve.Reads.Post
+resolve-one-answer κs a x y s t p q = p ∙ sym q
+
+pub table-schema-one-answer : OneAnswer table-schema.Kinds.ps table-schema.Kinds.r table-schema.Reads.Post
+table-schema-one-answer κs a x y s t p q = p ∙ sym q
+
+-- ---- the walk
+pub budget-new-one-answer : OneAnswer budget-new.Kinds.ps budget-new.Kinds.r budget-new.Reads.Post
+budget-new-one-answer κs a x y s t p q = p ∙ sym q
+
+pub charge-one-answer : OneAnswer charge.Kinds.ps charge.Kinds.r charge.Reads.Post
+charge-one-answer κs a x y s t p q = p ∙ sym q
+
+pub blob-limit-one-answer : OneAnswer blob-limit.Kinds.ps blob-limit.Kinds.r blob-limit.Reads.Post
+blob-limit-one-answer κs a x y s t p q = p ∙ sym q
+
+pub read-tag-one-answer : OneAnswer read-tag.Kinds.ps read-tag.Kinds.r read-tag.Reads.Post
+read-tag-one-answer κs a x y s t p q = p ∙ sym q
+
+pub read-table-one-answer : OneAnswer read-table.Kinds.ps read-table.Kinds.r read-table.Reads.Post
+read-table-one-answer κs a x y s t p q = p ∙ sym q
+
+pub read-length-one-answer : OneAnswer read-length.Kinds.ps read-length.Kinds.r read-length.Reads.Post
+read-length-one-answer κs a x y s t p q = p ∙ sym q
+
+pub width-of-code-one-answer : OneAnswer width-of-code.Kinds.ps width-of-code.Kinds.r width-of-code.Reads.Post
+width-of-code-one-answer κs a x y s t p q = p .0 ∙ sym (q .0)
+
+pub kept-one-answer : OneAnswer kept.Kinds.ps kept.Kinds.r kept.Reads.Post
+kept-one-answer κs a x y s t p q = p .0 ∙ sym (q .0)
+
+pub ends-one-answer : OneAnswer ends.Kinds.ps ends.Kinds.r ends.Reads.Post
+ends-one-answer κs a x y s t p q = p ∙ sym q
+
+pub skip-root-one-answer : OneAnswer skip-root.Kinds.ps skip-root.Kinds.r skip-root.Reads.Post
+skip-root-one-answer κs a x y s t p q = p ∙ sym q
+
+-- ---- rows
+pub bad-format-one-answer : OneAnswer bad-format.Kinds.ps bad-format.Kinds.r bad-format.Reads.Post
+bad-format-one-answer κs a x y s t p q = p ∙ sym q
+
+pub block-at-one-answer : OneAnswer block-at.Kinds.ps block-at.Kinds.r block-at.Reads.Post
+block-at-one-answer κs a x y s t p q = p ∙ sym q
+
+pub row-of-one-answer : OneAnswer row-of.Kinds.ps row-of.Kinds.r row-of.Reads.Post
+row-of-one-answer κs a x y s t p q = p ∙ sym q
+
+pub row-at-one-answer : OneAnswer row-at.Kinds.ps row-at.Kinds.r row-at.Reads.Post
+row-at-one-answer κs a x y s t p q = p ∙ sym q
+
+pub run-rows-one-answer : OneAnswer run-rows.Kinds.ps run-rows.Kinds.r run-rows.Reads.Post
+run-rows-one-answer κs a x y s t p q = p ∙ sym q
+
+pub room-for-one-answer : OneAnswer room-for.Kinds.ps room-for.Kinds.r room-for.Reads.Post
+room-for-one-answer κs a x y s t p q = p ∙ sym q
+
+-- ---- steps that write
+pub put16-one-answer : OneOutcome put16.Kinds.ps put16.Kinds.r (λ κs (s, _). s .now ∷ []) put16.Reads.Post
+put16-one-answer κs a x y s t p q = (refl, rw (p, q))
+
+pub put32-one-answer : OneOutcome put32.Kinds.ps put32.Kinds.r (λ κs (s, _). s .now ∷ []) put32.Reads.Post
+put32-one-answer κs a x y s t p q = (refl, rw (p, q))
+
+pub put64-one-answer : OneOutcome put64.Kinds.ps put64.Kinds.r (λ κs (s, _). s .now ∷ []) put64.Reads.Post
+put64-one-answer κs a x y s t p q = (refl, rw (p, q))
+
+pub put-record-one-answer : OneOutcome put-record.Kinds.ps put-record.Kinds.r (λ κs (records, _). records .now ∷ []) put-record.Reads.Post
+put-record-one-answer κs a x y s t p q = (refl, rw (p, q))
+
+pub copy-one-answer : OneOutcome copy.Kinds.ps copy.Kinds.r (λ κs (input, (from, (n, (payload, _)))). payload .now ∷ []) copy.Reads.Post
+copy-one-answer κs a x y s t p q = (refl, rw (p, q))
+
+pub fill-row-one-answer : OneOutcome fill-row.Kinds.ps fill-row.Kinds.r (λ κs (block, (input, (at, (records, (payload, _))))). records .now ∷ payload .now ∷ []) fill-row.Reads.Post
+fill-row-one-answer κs a x y s t p q = (refl, rw (p .0, p .1, q .0, q .1))
+
+pub fill-at-one-answer : OneOutcome fill-at.Kinds.ps fill-at.Kinds.r (λ κs (table, (input, (at, (first, (count, (records, (payload, _))))))). records .now ∷ payload .now ∷ []) fill-at.Reads.Post
+fill-at-one-answer κs a x y s t p q = (refl, rw (p .0, p .1, q .0, q .1))
+
+pub decode-row-one-answer : OneOutcome decode-row.Kinds.ps decode-row.Kinds.r (λ κs (table, (names, (references, (registry, (input, (at, (settings, (records, (payload, _))))))))). records .now ∷ payload .now ∷ []) decode-row.Reads.Post
+decode-row-one-answer κs a x y s t p q = (ap (λ d. d .answer) (p ∙ sym q), ap (λ d. d .records ∷ d .payload ∷ []) (p ∙ sym q))

@@ -1,0 +1,51 @@
+-- What each answer says in document 01's numbers. A refusal says its number, its place and what it carries; where nothing is refused the
+-- number is 0, and what is returned stands where a refusal's values stand.
+-- Assumes nothing: these are definitions.
+use Prim.Native.Nat.{ℕ}
+use mathlib.Core.List.{List, [], _∷_}
+use Rattle.rules.specs.Refusals.{lineOf, refusalNumber}
+use Rattle.rules.specs.declared.Refusal.{Refusal}
+use Rattle.rules.specs.declared.Checked.{Checked}
+use Rattle.rules.specs.declared.Extent.{Extent}
+use Rattle.rules.specs.declared.Read.{Read}
+use Rattle.rules.specs.declared.Stop.{Stop}
+use Rattle.rules.specs.declared.Written.{Written}
+
+-- number, place, and then what is carried or returned
+pub record Said : Type 0 where
+  pub number : ℕ
+  pub place : ℕ
+  pub carries : List ℕ
+
+-- what a refusal says
+unfoldable pub said : Refusal → Said
+said r = record { number = refusalNumber r; place = r .place; carries = lineOf (r .why) .carries }
+
+-- nothing is refused, and nothing returned
+unfoldable pub noneSaid : Said
+noneSaid = record { number = 0; place = 0; carries = [] }
+
+-- accepted rows return table, bytes, records and payload bytes
+unfoldable pub rowSaid : Extent → Said
+rowSaid e = record { number = 0; place = 0; carries = e .table ∷ e .bytes ∷ e .records ∷ e .payload ∷ [] }
+
+-- reading: a row, the end of the stream, or a refusal
+unfoldable pub readSaid : Read → Said
+readSaid (Read.Row e) = rowSaid e
+readSaid Read.End = noneSaid
+readSaid (Read.Refused r) = said r
+
+-- a run stops at the end, or at the first refusal
+unfoldable pub stopSaid : Stop → Said
+stopSaid Stop.End = noneSaid
+stopSaid (Stop.Refused r) = said r
+
+-- encoding: a row, or a refusal
+unfoldable pub writtenSaid : Written → Said
+writtenSaid (Written.Row e) = rowSaid e
+writtenSaid (Written.Refused r) = said r
+
+-- a check: accepted, or a refusal
+unfoldable pub checkedSaid : Checked → Said
+checkedSaid Checked.Accepted = noneSaid
+checkedSaid (Checked.Refused r) = said r
