@@ -2,8 +2,8 @@ use mathlib.Core.Path.{_∙_}
 use native.Mathlib.Omega.{arith}
 use borrow.Author.Needs.{needs}
 use Rattle.rules.proofs.Stands.{le-leAt}
-use Rattle.record.proofs.payload.copy_word.Statement.{statement}
-use Rattle.record.proofs.payload.copy_word.Tie as tie
+use Rattle.payload.proofs.copy_word.Statement.{statement}
+use Rattle.payload.proofs.copy_word.Tie as tie
 
 u64-at-requires : tie.Need-u64-at-requires
 u64-at-requires c κs = search needs

@@ -1,7 +1,7 @@
 use borrow.Author.Needs.{needs}
-use Rattle.rules.specs.Block.{nodeAt}
-use Rattle.flat.proofs.block.node_at.Statement.{statement}
-use Rattle.flat.proofs.block.node_at.Tie as tie
+use Rattle.rules.specs.Format.{referenceAt}
+use Rattle.record.proofs.reference.reference_at.Statement.{statement}
+use Rattle.record.proofs.reference.reference_at.Tie as tie
 
 mul-at : tie.Need-mul-at
 mul-at c = search needs
@@ -9,17 +9,11 @@ mul-at c = search needs
 shared-slice-read-t6 : tie.Need-shared-slice-read-t6
 shared-slice-read-t6 c = search needs
 
-add-t7 : tie.Need-add-t7
-add-t7 c = search needs
+add-field : tie.Need-add-field
+add-field c = search needs
 
-shared-slice-read-t9 : tie.Need-shared-slice-read-t9
-shared-slice-read-t9 c = search needs
-
-add-u16-at : tie.Need-add-u16-at
-add-u16-at c = search needs
-
-u16-at-requires : tie.Need-u16-at-requires
-u16-at-requires c κs = search needs
+field-requires : tie.Need-field-requires
+field-requires c κs = search needs
 
 add-u32-at : tie.Need-add-u32-at
 add-u32-at c = search needs
@@ -40,19 +34,17 @@ u32-at-requires-3 : tie.Need-u32-at-requires-3
 u32-at-requires-3 c κs = search needs
 
 returns : tie.Need-returns
-unfolding nodeAt
+unfolding referenceAt
 returns c = cc
 
-pub node-at-spec : {M : Type 1} → statement M
-node-at-spec =
+pub reference-at-spec : {M : Type 1} → statement M
+reference-at-spec =
     tie.close
     (tie.spec
     mul-at
     shared-slice-read-t6
-    add-t7
-    shared-slice-read-t9
-    add-u16-at
-    u16-at-requires
+    add-field
+    field-requires
     add-u32-at
     u32-at-requires
     add-u32-at-2

@@ -3,9 +3,9 @@ use Prim.Native.Nat.{_+_, _-_, _≤_}
 use mathlib.Core.Path.{_≡_, sym, _∙_}
 use lib.ListN.{length, length-set}
 use Rattle.rules.specs.Bytes.{part, over}
-use Rattle.record.proofs.Copy.{copy-none, copy-turn, copy-end}
-use Rattle.record.proofs.payload.copy_few.Statement.{statement}
-use Rattle.record.proofs.payload.copy_few.Tie as tie
+use Rattle.payload.proofs.Turns.{copy-none, copy-turn, copy-end}
+use Rattle.payload.proofs.copy_few.Statement.{statement}
+use Rattle.payload.proofs.copy_few.Tie as tie
 
 abbrev Inv-loop : tie.InvT-loop
 Inv-loop input from n payload₀ to k₀ payload k = (k ≤ n) × ((length payload ≡ length payload₀) × (over payload (to + k) (part input (from + k) (n - k)) ≡ over payload₀ to (part input from n)))

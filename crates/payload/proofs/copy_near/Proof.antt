@@ -1,7 +1,7 @@
 use mathlib.Core.Path.{refl}
 use borrow.Author.Needs.{needs}
-use Rattle.record.proofs.payload.copy_near.Statement.{statement}
-use Rattle.record.proofs.payload.copy_near.Tie as tie
+use Rattle.payload.proofs.copy_near.Statement.{statement}
+use Rattle.payload.proofs.copy_near.Tie as tie
 
 least-requires : tie.Need-least-requires
 least-requires c κs = search needs

@@ -4,9 +4,9 @@ use mathlib.Core.Path.{_≡_, refl, _∙_}
 use native.Mathlib.Omega.{arith}
 use lib.ListN.{length}
 use Rattle.rules.specs.Bytes.{part, over}
-use Rattle.record.proofs.Copy.{copy-word, near-step}
-use Rattle.record.proofs.payload.copy.Statement.{statement}
-use Rattle.record.proofs.payload.copy.Tie as tie
+use Rattle.payload.proofs.Turns.{copy-word, near-step}
+use Rattle.payload.proofs.copy.Statement.{statement}
+use Rattle.payload.proofs.copy.Tie as tie
 
 abbrev Inv-loop : tie.InvT-loop
 Inv-loop input from n payload₀ to last k₀ payload k = (length payload ≡ length payload₀) × (payload ≡ over payload₀ to (part input from (min k n)))

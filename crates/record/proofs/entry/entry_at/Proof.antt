@@ -1,7 +1,7 @@
 use borrow.Author.Needs.{needs}
 use Rattle.rules.specs.Format.{entryAt}
-use Rattle.schema.proofs.format.entry_at.Statement.{statement}
-use Rattle.schema.proofs.format.entry_at.Tie as tie
+use Rattle.record.proofs.entry.entry_at.Statement.{statement}
+use Rattle.record.proofs.entry.entry_at.Tie as tie
 
 mul-at : tie.Need-mul-at
 mul-at c = search needs
