@@ -20,7 +20,7 @@ use Rattle.rules.specs.Grammar.{Row}
 use Rattle.rules.specs.Walk.{Limits, Pos, Got, Refused}
 use Rattle.rules.specs.Reading.{limits, rowAt, schemaOf, Accepts, skipRule, roomTest, untouched, decodeRule, NoRow, LeavesRow, runRule, Iterated, byteCount, ranOf}
 use Rattle.rules.specs.Reasons.{RowReason, RowJudged}
-use Rattle.rules.specs.Windows.{movedAnswer, WasCut, goesOn, continued, added}
+use Rattle.rules.specs.Windows.{movedAnswer, WasCut, goesOn, continued, added, runAfter}
 use Rattle.rules.specs.Writing.{encodeRule, encodeFrom}
 use Rattle.rules.specs.RoundTrip.{EncodeAsked, Encodable, encodedInto, EncodeRefuses, ReadAsked, decodedAs}
 use Rattle.rules.specs.Rows.{outcome, lines, outcomes}
@@ -172,6 +172,13 @@ pub counts-in-windows : (f : Format) (s : Settings) (inp more : List ℕ) → By
     goesOn (ranOf (runRule f s inp) .stop) ≡ Bool.true →
     ranOf (runRule f s (inp ++ more)) ≡ added (ranOf (runRule f s inp)) (ranOf (runRule f s (drop (ranOf (runRule f s inp) .bytes) (inp ++ more))))
 counts-in-windows = windows.ran-in-windows
+
+-- So whoever keeps the counts of a run that ended or was cut, and the bytes from the end of its rows on, has the run over all, however
+-- many bytes come after: also where they are more than 4,294,967,295 in all, which is refused by 1.
+pub run-after-counts : (f : Format) (s : Settings) (inp more : List ℕ) → Bytes (inp ++ more) → goesOn (ranOf (runRule f s inp) .stop) ≡ Bool.true →
+    runAfter f s (ranOf (runRule f s inp) .rows) (ranOf (runRule f s inp) .bytes) (drop (ranOf (runRule f s inp) .bytes) (inp ++ more)) ≡
+    ranOf (runRule f s (inp ++ more))
+run-after-counts = windows.run-after
 
 -- ---- value tables: records and payload are the table of one value at most, and the rule finds it
 pub value-tables : (r y : List ℕ) (v : Value) → length r ≤ 4294967295 → (tableValue r y ≡ Whole v (ends r y)) ↔ TableOf v r y

@@ -21,7 +21,6 @@ use stream::run;
 use wire::field;
 ghost use Prim.Native.Nat.{_+_, _≤_};
 ghost use lib.ListN.{length};
-ghost use mathlib.Core.Path.{_≡_};
 
 // The longest five byte strings of a case, together.
 const SPACE: u64 = 4194304;
@@ -139,14 +138,8 @@ fn answer_all(space: &mut [u8]) {
     }
 }
 
-// Room for the byte strings of a case. The `ensures` gives only the length, which lending the array as a slice needs.
-fn space() -> [u8; 4194304]
-    ensures { λ r. ⌜ 4194304 ≡ length r ⌝ }
-{
-    [0; 4194304]
-}
-
 fn main() {
-    let mut bytes = space();
+    // Room for the byte strings of a case.
+    let mut bytes = [0u8; 4194304];
     answer_all(&mut bytes);
 }

@@ -6,8 +6,8 @@ use mathlib.Core.Bool.{Bool, true, false}
 use mathlib.Core.List.{List, [], _∷_, _++_, map}
 use native.Mathlib.Omega.{arith}
 use native.Mathlib.Nat.{add-zero}
-use borrow.Author.Tests.{eqb-true, eqb-false, eq-eqb, ne-eqb, le-leb, ltb-true, ltb-false}
-use lib.Dec.{ltb, eqb}
+use borrow.Author.Tests.{eqb-true, eqb-false, eq-eqb, ne-eqb, le-leb, leb-true, ltb-true, ltb-false}
+use lib.Dec.{leb, ltb, eqb}
 use lib.ListN.{length, getD, drop, List·getD-append, List·getD-eq-default, length-append, length-drop}
 use lib.Seq.{getD-drop}
 use Rattle.rules.specs.Choice.{pick, _and_}
@@ -17,7 +17,7 @@ use Rattle.rules.specs.Format.{Format, sizesOk, shortOk, formatRules, formatRul
 use Rattle.rules.specs.Value.{Value}
 use Rattle.rules.specs.Walk.{Limits, Pos, Answer, Got, onward}
 use Rattle.rules.specs.Reading.{settingsOk, limits, rowAt, extent, skipped, whenAccepted, refusedRun, runRule, ranOf, skipFrom, RowSpan, Run, goOn, runFrom, rowCount, byteCount}
-use Rattle.rules.specs.Windows.{moved, Inside, movedAnswer, WasCut, movedStop, movedRow, goesOn, continued, added}
+use Rattle.rules.specs.Windows.{moved, Inside, movedAnswer, WasCut, movedStop, movedRow, goesOn, continued, added, runAfter}
 use Rattle.rules.specs.declared.Settings.{Settings}
 use Rattle.rules.specs.declared.Refusal.{Refusal}
 use Rattle.rules.specs.declared.Checked.{Checked}
@@ -26,7 +26,7 @@ use Rattle.rules.specs.declared.Read.{Read}
 use Rattle.rules.specs.declared.Read.the-variants.{Row, End, Refused}
 use Rattle.rules.specs.declared.Stop.{Stop}
 use Rattle.rules.specs.declared.Ran.{Ran}
-use Rattle.rules.proofs.Tests.{and-both}
+use Rattle.rules.proofs.Tests.{and-both, and-false}
 use Rattle.blocks.proofs.FormatReasons.{format-stays}
 use Rattle.rows.proofs.Running.{Iterates, ended, refused, accepted, skip-goes, run-iterates}
 use Rattle.rows.proofs.Parts.{moved-none, row-stays, row-moves, row-inside}
@@ -264,3 +264,27 @@ module _ (f : Format) (s : Settings) (inp : List ℕ) (bs : Bytes inp) where
           let n : _≡_ {A = ℕ} 0 1 = cc in
           absurd (omega arith))
       by false e c k = unfold lineOf in outside Setting (λ l. omega arith)
+
+-- ---- the run after some rows
+
+module _ (f : Format) (s : Settings) (inp more : List ℕ) (bs : Bytes (inp ++ more)) where
+  abbrev so-far : Ran
+  so-far = ranOf (runRule f s inp)
+
+  abbrev left : List ℕ
+  left = drop (so-far .bytes) (inp ++ more)
+
+  -- Where the run over the first bytes ended or was cut (12), its counts and what is left after its rows give the run over all.
+  pub run-after : goesOn (so-far .stop) ≡ true → runAfter f s (so-far .rows) (so-far .bytes) left ≡ ranOf (runRule f s (inp ++ more))
+  unfolding runAfter _and_ pick
+  run-after g = rw (le-leb (so-far .rows) (so-far .bytes) (inside .few), whole) (by (leb (length (inp ++ more)) 4294967295) refl)
+    where
+      inside : RanInside (length inp) so-far
+      inside = ran-inside f s inp (bytes-front inp more bs)
+
+      whole : so-far .bytes + length left ≡ length (inp ++ more)
+      whole = omega (arith, inside .within, length-append inp more, length-drop (so-far .bytes) (inp ++ more))
+
+      by : (b : Bool) → leb (length (inp ++ more)) 4294967295 ≡ b → pick b (added (record { rows = so-far .rows; bytes = so-far .bytes; stop = Stop.End }) (ranOf (runRule f s left))) (ranOf (refusedRun Setting)) ≡ ranOf (runRule f s (inp ++ more))
+      by true e = unfold added in sym (ran-in-windows f s inp more bs (leb-true _ _ e) g)
+      by false e = unfold runRule in rw (e, and-false (settingsOk s and sizesOk f))
