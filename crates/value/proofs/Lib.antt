@@ -1,0 +1,5 @@
+pub mod Fields
+pub mod Walks
+pub mod Standing
+pub mod Same
+pub mod Tables
