@@ -3,3 +3,5 @@ pub mod Walks
 pub mod Standing
 pub mod Same
 pub mod Tables
+pub mod Examples
+pub mod Meaning

@@ -6,7 +6,7 @@ use mathlib.Core.Bool.{Bool, true, false}
 use mathlib.Core.List.{List}
 use native.Mathlib.Omega.{arith}
 use native.Mathlib.Nat.{add-zero}
-use borrow.Author.Tests.{lt-ltb, le-ltb, lt-leb, eq-eqb, ne-eqb, ltb-true, ltb-false, eqb-true, eqb-false, ltb-true}
+use borrow.Author.Tests.{lt-ltb, le-ltb, lt-leb, eq-eqb, ne-eqb, ltb-true, ltb-false, eqb-true, eqb-false}
 use lib.Dec.{ltb, leb, eqb}
 use lib.ListN.{length}
 use Rattle.rules.specs.Choice.{pick, _and_}
@@ -15,7 +15,7 @@ use Rattle.rules.specs.Wire.{Form, empty, truth, fixed, raw, sized, choice, ser
 use Rattle.rules.specs.Value.{Value, nothing, boolean, number, variant, repeated, tuple, Items, Values, items, values, wide, blob}
 use Rattle.rules.specs.ValueRecord.{valueRecordsIn, valueRecord, valueRecordAt}
 use Rattle.rules.specs.ValueTable as rule
-use Rattle.rules.specs.ValueTable.{bit, kind, sizeOf, contentOf, headOf, Parsed, Whole, Kind, scalar, one, list, row, other, kindOf, storedAt, scalarAt, tagAt, itemsAt, valuesAt, nodeOf, headed, valueAt}
+use Rattle.rules.specs.ValueTable.{bit, kind, sizeOf, contentOf, headOf, Parsed, Whole, kindOf, storedAt, scalarAt, tagAt, itemsAt, valuesAt, nodeOf, headed, valueAt}
 use Rattle.rules.specs.declared.ValueRecord.{ValueRecord}
 use Rattle.rules.proofs.Tests.{and-both, and-false, span-leb}
 use Rattle.rules.proofs.Stands.{leAt-lt, length-part}

@@ -1,7 +1,7 @@
 -- What the walk over the records says of the whole table.
 -- Assumes nothing.
 use Prim.Native.Nat.{ℕ, _^_, _<_}
-use mathlib.Core.Path.{_≡_, refl, sym, ap, _∙_}
+use mathlib.Core.Path.{_≡_, refl, sym}
 use mathlib.Core.Bool.{Bool, true, false}
 use mathlib.Core.List.{List}
 use borrow.Author.Tests.{eq-eqb, ne-eqb}
@@ -21,7 +21,7 @@ use Rattle.value.specs.Walk.{walk}
 use Rattle.value.specs.declared.Spot.{Spot}
 use Rattle.value.specs.declared.Walked.{Walked}
 use Rattle.value.specs.declared.Walked.the-variants.{At, Broken}
-use Rattle.value.proofs.Same.{spot, forgot, root-same}
+use Rattle.value.proofs.Same.{forgot, root-same}
 
 module _ (table store : List ℕ) where
   -- what the end of the walk says of the form

@@ -11,7 +11,7 @@ use lib.ListN.{length}
 use Rattle.rules.specs.Choice.{pick, _and_}
 use Rattle.rules.specs.ValueRecord.{valueRecordsIn, valueRecordAt}
 use Rattle.rules.specs.declared.ValueRecord.{ValueRecord}
-use Rattle.rules.proofs.Tests.{and-both, and-true, and-false, either}
+use Rattle.rules.proofs.Tests.{and-both, either}
 use Rattle.value.specs.Records.{recordOk}
 use Rattle.value.specs.Walk.{_>>=_, past, next, children, onward, walk}
 use Rattle.value.specs.declared.Spot.{Spot}

@@ -1,7 +1,7 @@
 -- The walk of the check: the rules' reading of a value table without the value. That it is the same is `walk-same`, in proofs/.
 -- Assumes nothing: these are definitions.
 use Prim.Native.Nat.{ℕ, zero, suc, _+_}
-use mathlib.Core.Bool.{Bool, false}
+use mathlib.Core.Bool.{Bool}
 use mathlib.Core.List.{List}
 use lib.ListN.{length}
 use lib.Dec.{ltb}

@@ -2,7 +2,7 @@ use Rattle.value.specs.Walk.{children, walk}
 use Rattle.value.proofs.Walks.{children-none, children-break, children-on, walk-ends}
 use borrow.Author.Needs.{needs}
 use native.Mathlib.Omega.{arith}
-use Prim.Native.Nat.{ℕ, suc, _+_, _-_, _*_, _≤_, _<_}
+use Prim.Native.Nat.{ℕ, _≤_}
 use mathlib.Core.Path.{_≡_, refl, sym, _∙_}
 use Rattle.value.proofs.walk_children.Reads as walk-children
 use Rattle.value.proofs.+walk_children+walk_value.Lts-walk_children as lts

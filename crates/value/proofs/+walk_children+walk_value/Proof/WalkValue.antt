@@ -1,12 +1,11 @@
 use lib.ListN.{length}
 use borrow.Author.Tests.{not-true, not-false}
 use Rattle.rules.specs.ValueRecord.{valueRecordsIn}
-use Rattle.value.specs.Walk.{children, walk}
 use Rattle.value.proofs.Walks.{walk-none, walk-out, walk-bad, walk-scalar, scalar-ends, walk-parent}
 use borrow.Author.Needs.{needs}
 use native.Mathlib.Omega.{arith}
-use Prim.Native.Nat.{ℕ, suc, _+_, _-_, _*_, _≤_, _<_}
-use mathlib.Core.Path.{_≡_, refl, sym, _∙_}
+use Prim.Native.Nat.{ℕ, _<_}
+use mathlib.Core.Path.{sym, _∙_}
 use Rattle.value.proofs.walk_value.Reads as walk-value
 use Rattle.value.proofs.+walk_children+walk_value.Lts-walk_value as lts
 use Rattle.value.proofs.+walk_children+walk_value.Proof.Setup.{walk-value-at, walk-value-calls}
