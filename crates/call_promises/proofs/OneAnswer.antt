@@ -20,6 +20,7 @@ use Rattle.wire.proofs.codes.maximum_of as maximum-of
 use Rattle.schema.proofs.check_schema as check-schema
 use Rattle.schema.proofs.check_encoder_schema as check-encoder-schema
 use Rattle.schema.proofs.check_format as check-format
+use Rattle.value.proofs.check_value_table as check-value-table
 use Rattle.stream.proofs.within_bounds as within-bounds
 use Rattle.stream.proofs.skip_row as skip-row
 use Rattle.stream.proofs.run as run
@@ -74,6 +75,10 @@ check-encoder-schema-one-answer κs a x y s t p q = p ∙ sym q
 
 pub check-format-one-answer : OneAnswer check-format.Kinds.ps check-format.Kinds.r check-format.Reads.Post
 check-format-one-answer κs a x y s t p q = p ∙ sym q
+
+-- ---- value tables
+pub check-value-table-one-answer : OneAnswer check-value-table.Kinds.ps check-value-table.Kinds.r check-value-table.Reads.Post
+check-value-table-one-answer κs a x y s t p q = p ∙ sym q
 
 -- ---- reading
 pub within-bounds-one-answer : OneAnswer within-bounds.Kinds.ps within-bounds.Kinds.r within-bounds.Reads.Post

@@ -60,6 +60,8 @@ use Rattle.wire.proofs.store.put32 as put32
 use Rattle.wire.proofs.store.put64 as put64
 use Rattle.record.proofs.value.put_record as put-record
 use Rattle.payload.proofs.copy as copy
+use Rattle.record.proofs.value.whole_records as whole-records
+use Rattle.value.proofs.table_form as table-form
 use Rattle.fill.proofs.fill_row as fill-row
 use Rattle.decode.proofs.row.fill_at as fill-at
 use Rattle.decode.proofs.row.decode_row as decode-row
@@ -218,6 +220,13 @@ run-rows-one-answer κs a x y s t p q = p ∙ sym q
 
 pub room-for-one-answer : OneAnswer room-for.Kinds.ps room-for.Kinds.r room-for.Reads.Post
 room-for-one-answer κs a x y s t p q = p ∙ sym q
+
+-- ---- value tables
+pub whole-records-one-answer : OneAnswer whole-records.Kinds.ps whole-records.Kinds.r whole-records.Reads.Post
+whole-records-one-answer κs a x y s t p q = p ∙ sym q
+
+pub table-form-one-answer : OneAnswer table-form.Kinds.ps table-form.Kinds.r table-form.Reads.Post
+table-form-one-answer κs a x y s t p q = p ∙ sym q
 
 -- ---- steps that write
 pub put16-one-answer : OneOutcome put16.Kinds.ps put16.Kinds.r (λ κs (s, _). s .now ∷ []) put16.Reads.Post

@@ -2,7 +2,7 @@
 ghost use mathlib.Core.Path.{_≡_};
 ghost use lib.ListN.{length};
 ghost use Rattle.rules.specs.Bytes.{over};
-ghost use Rattle.rules.specs.ValueRecord.{valueRecordStart, valueRecordsIn, ValueRecordIn, valueRecord, layout, valueRecordAt};
+ghost use Rattle.rules.specs.ValueRecord.{valueRecordStart, valueRecordsIn, wholeValueRecords, ValueRecordIn, valueRecord, layout, valueRecordAt};
 use rules::ValueRecord;
 use wire::store::put16;
 use wire::store::put32;
@@ -20,6 +20,13 @@ pub fn records_in(bytes: u64) -> u64
     ensures { λ r. ⌜ r ≡ valueRecordsIn bytes ⌝ }
 {
     bytes / VALUE_RECORD_SIZE as u64
+}
+
+// Whether so many bytes are whole records.
+pub fn whole_records(bytes: u64) -> bool
+    ensures { λ r. ⌜ r ≡ wholeValueRecords bytes ⌝ }
+{
+    bytes % VALUE_RECORD_SIZE as u64 == 0
 }
 
 // Record i.

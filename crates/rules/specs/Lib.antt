@@ -10,6 +10,7 @@ pub mod Format
 pub mod Value
 pub mod ValueRecord
 pub mod ValueTable
+pub mod ValueCheck
 pub mod Grammar
 pub mod Walk
 pub mod Reading

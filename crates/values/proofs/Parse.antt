@@ -26,12 +26,12 @@ pub data Holds {A : Type 0} (P : A → Spot → Type 0) : Parsed A → Type 0 wh
   holds : {a : A} {q : Spot} → P a q → Holds P (Whole a q)
   fails : Holds P Broken
 
-then : {A B : Type 0} {P : A → Spot → Type 0} {Q : B → Spot → Type 0} {x : Parsed A} {k : A × Spot → Parsed B} → Holds P x → ((z : A × Spot) → P (z .0) (z .1) → Holds Q (k z)) → Holds Q (x >>= k)
+pub then : {A B : Type 0} {P : A → Spot → Type 0} {Q : B → Spot → Type 0} {x : Parsed A} {k : A × Spot → Parsed B} → Holds P x → ((z : A × Spot) → P (z .0) (z .1) → Holds Q (k z)) → Holds Q (x >>= k)
 unfolding _>>=_
 then (holds {a = a} {q = q} h) f = f (a, q) h
 then fails f = fails
 
-when : {A : Type 0} {P : A → Spot → Type 0} {x : Parsed A} (t : Bool) → (t ≡ true → Holds P x) → Holds P (pick t x Broken)
+pub when : {A : Type 0} {P : A → Spot → Type 0} {x : Parsed A} (t : Bool) → (t ≡ true → Holds P x) → Holds P (pick t x Broken)
 unfolding pick
 when true f = f refl
 when false f = fails

@@ -1,0 +1,7 @@
+pub mod Fields
+pub mod Walks
+pub mod Standing
+pub mod Same
+pub mod Tables
+pub mod Examples
+pub mod Meaning

@@ -1,0 +1,44 @@
+-- The walk of the check: the rules' reading of a value table without the value. That it is the same is `walk-same`, in proofs/.
+-- Assumes nothing: these are definitions.
+use Prim.Native.Nat.{ℕ, zero, suc, _+_}
+use mathlib.Core.Bool.{Bool}
+use mathlib.Core.List.{List}
+use lib.ListN.{length}
+use lib.Dec.{ltb}
+use Rattle.rules.specs.Choice.{pick, _and_}
+use Rattle.rules.specs.ValueRecord.{valueRecordsIn, valueRecordAt}
+use Rattle.rules.specs.declared.ValueRecord.{ValueRecord}
+use Rattle.value.specs.Records.{recordOk}
+use Rattle.value.specs.declared.Spot.{Spot}
+use Rattle.value.specs.declared.Walked.{Walked}
+use Rattle.value.specs.declared.Walked.the-variants.{At, Broken}
+
+infixl 20 _>>=_
+unfoldable pub _>>=_ : Walked → (Spot → Walked) → Walked
+At q >>= k = k q
+Broken >>= k = Broken
+
+-- the next record, n payload bytes further
+abbrev pub past : ℕ → Spot → Spot
+past n p = record { at = p .at + 1; from = p .from + n }
+
+abbrev pub next : Spot → Spot
+next p = record { at = p .at + 1; from = p .from }
+
+-- so many values, one after another
+unfoldable pub children : (Spot → Walked) → ℕ → Spot → Walked
+children child zero p = At p
+children child (suc n) p = do
+  q ← child p
+  children child n q
+
+-- what follows a record that is right where it stands: its payload, or its children, which bear tags in all but a tuple
+unfoldable pub onward : (Bool → Spot → Walked) → ValueRecord → Spot → Walked
+onward child r p = pick (ltb (r .kind) 15) (At (past (r .size) p)) (children (child (ltb (r .kind) 17)) (r .size) (next p))
+
+-- a value, at most so many levels deep, in a store of so many bytes
+unfoldable pub walk : List ℕ → ℕ → ℕ → Bool → Spot → Walked
+walk table store zero tagged p = Broken
+walk table store (suc d) tagged p =
+    let r = valueRecordAt table (p .at) in
+    pick (ltb (p .at) (valueRecordsIn (length table)) and recordOk r tagged (p .from) store) (onward (walk table store d) r p) Broken

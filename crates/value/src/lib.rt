@@ -1,0 +1,243 @@
+// The check of a value table: whether records and payload store are the table of some value (18). One walk over the records in
+// preorder, each looked at once; it builds nothing.
+ghost use mathlib.Core.Path.{_≡_};
+ghost use Prim.Native.Nat.{_^_, _≤_, _<_};
+ghost use lib.Dec.{ltb};
+ghost use Rattle.rules.specs.Wire.{form};
+ghost use Rattle.rules.specs.Refusals.{BadValueTable};
+ghost use Rattle.rules.specs.ValueCheck.{tableForm, valueTableRule};
+ghost use Rattle.value.specs.Records.{tagOk, storedOk, scalarOk, parentOk, recordOk};
+ghost use Rattle.value.specs.Walk.{children, walk};
+use record::value::records_in;
+use record::value::value_record_at;
+use record::value::whole_records;
+use rules::Checked;
+use rules::LONGEST;
+use rules::Refusal;
+use rules::ValueRecord;
+use rules::Why;
+use wire::codes::fixed_width;
+
+// Where the walk stands: the next record, and the next byte of the payload store.
+pub struct Spot {
+    pub at: usize,
+    pub from: usize,
+}
+
+// What walking over a value answers: where its records and its payload end, or that there is no value.
+pub enum Walked {
+    At(Spot),
+    Broken,
+}
+
+// ---- one record
+
+// What the first number is that so many bytes do not hold.
+const PAST: [u64; 8] = [
+    1,
+    256,
+    65536,
+    16777216,
+    4294967296,
+    1099511627776,
+    281474976710656,
+    72057594037927936,
+];
+
+// Whether so many bytes hold a number: the bytes past a scalar's width are zeros.
+fn fits(x: u64, width: usize) -> bool
+    requires { ⌜ width ≤ 8 ⌝ }
+    ensures { λ b. ⌜ b ≡ ltb x (256 ^ width) ⌝ }
+{
+    if 7 < width {
+        return true;
+    }
+    x < PAST[width]
+}
+
+// Only a parent that chose the node by a tag leaves one in its record.
+fn tag_ok(tagged: bool, tag: u64) -> bool
+    ensures { λ b. ⌜ b ≡ tagOk tagged tag ⌝ }
+{
+    if tagged {
+        return true;
+    }
+    tag == 0
+}
+
+// Payload starts where the earlier payload ends, and lies in the store.
+fn stored_ok(size: u64, content: u64, from: usize, store: usize) -> bool
+    requires { ⌜ from ≤ store ⌝ }
+    ensures { λ b. ⌜ b ≡ storedOk size content from store ⌝ }
+{
+    if content != from as u64 {
+        return false;
+    }
+    size <= (store - from) as u64
+}
+
+// A blob has any length, int128 and int256 have their own, and all else is in the record.
+fn scalar_ok(kind: u8, size: u64, content: u64, from: usize, store: usize) -> bool
+    requires { ⌜ (kind < 15) × (from ≤ store) ⌝ }
+    ensures { λ b. ⌜ b ≡ scalarOk (form kind) size content from store ⌝ }
+{
+    if 12 < kind {
+        return stored_ok(size, content, from, store);
+    }
+    let width = fixed_width(kind);
+    if 8 < width {
+        if size != width as u64 {
+            return false;
+        }
+        return stored_ok(size, content, from, store);
+    }
+    if size != 0 {
+        return false;
+    }
+    if kind == 1 {
+        return content < 2;
+    }
+    fits(content, width)
+}
+
+// A variant has one child, the other two any number.
+fn parent_ok(kind: u8, size: u64, content: u64) -> bool
+    requires { ⌜ 15 ≤ kind ⌝ }
+    ensures { λ b. ⌜ b ≡ parentOk kind size content ⌝ }
+{
+    if 17 < kind {
+        return false;
+    }
+    if content != 0 {
+        return false;
+    }
+    if kind == 15 {
+        return size == 1;
+    }
+    true
+}
+
+// What a record says is right where it stands, but for its children.
+fn record_ok(r: ValueRecord, tagged: bool, from: usize, store: usize) -> bool
+    requires { ⌜ from ≤ store ⌝ }
+    ensures { λ b. ⌜ b ≡ recordOk r tagged from store ⌝ }
+{
+    let spare = r.spare;
+    if spare != 0 {
+        return false;
+    }
+    if !tag_ok(tagged, r.tag) {
+        return false;
+    }
+    let kind = r.kind;
+    if kind < 15 {
+        return scalar_ok(kind, r.size, r.content, from, store);
+    }
+    parent_ok(kind, r.size, r.content)
+}
+
+// ---- a value
+
+// The node step. What has no children has its payload's length in the field for the size, or 0.
+fn walk_value(records: &[u8], store: usize, depth: usize, tagged: bool, p: Spot) -> Walked
+    requires { ⌜ p .from ≤ store ⌝ }
+    ensures { λ r. ⌜ r ≡ walk (now (records .entry)) store depth tagged p ⌝ }
+{
+    if depth == 0 {
+        return Walked::Broken;
+    }
+    let at = p.at;
+    let from = p.from;
+    if records_in(records.len() as u64) <= at as u64 {
+        return Walked::Broken;
+    }
+    let r = value_record_at(records, at);
+    if !record_ok(r, tagged, from, store) {
+        return Walked::Broken;
+    }
+    let kind = r.kind;
+    let size = r.size;
+    if kind < 15 {
+        return Walked::At(Spot {
+            at: at + 1,
+            from: from + size as usize,
+        });
+    }
+    let below = Spot { at: at + 1, from };
+    let s = walk_children(records, store, depth - 1, kind < 17, size, below);
+    let Walked::At(q) = s else {
+        return s;
+    };
+    Walked::At(q)
+}
+
+// The children step: so many values, one after another. A count that the records do not keep ends where they end.
+fn walk_children(
+    records: &[u8],
+    store: usize,
+    depth: usize,
+    tagged: bool,
+    count: u64,
+    p: Spot,
+) -> Walked
+    requires { ⌜ p .from ≤ store ⌝ }
+    ensures { λ r. ⌜ r ≡ children (walk (now (records .entry)) store depth tagged) count p ⌝ }
+{
+    let mut q = p;
+    let mut left = count;
+    while 0 < left {
+        let s = walk_value(records, store, depth, tagged, q);
+        let Walked::At(next) = s else {
+            return s;
+        };
+        q = next;
+        left -= 1;
+    }
+    Walked::At(q)
+}
+
+// ---- the table
+
+fn no_table() -> Checked
+    ensures { λ r. ⌜ r ≡ Checked.Refused BadValueTable ⌝ }
+{
+    Checked::Refused(Refusal {
+        why: Why::BadValueTable,
+        place: 0,
+    })
+}
+
+// The form alone, the sizes left to a caller that has more to test before it.
+pub fn table_form(records: &[u8], payload: &[u8]) -> Checked
+    ensures { λ r. ⌜ r ≡ tableForm (now (records .entry)) (now (payload .entry)) ⌝ }
+{
+    let bytes = records.len() as u64;
+    let store = payload.len();
+    if !whole_records(bytes) {
+        return no_table();
+    }
+    let s = walk_value(records, store, 64, false, Spot { at: 0, from: 0 });
+    let Walked::At(end) = s else {
+        return no_table();
+    };
+    if end.at as u64 != records_in(bytes) {
+        return no_table();
+    }
+    if end.from != store {
+        return no_table();
+    }
+    Checked::Accepted
+}
+
+// The check of a value table.
+pub fn check_value_table(records: &[u8], payload: &[u8]) -> Checked
+    ensures { λ r. ⌜ r ≡ valueTableRule (now (records .entry)) (now (payload .entry)) ⌝ }
+{
+    if LONGEST < records.len() {
+        return Checked::Refused(Refusal::SETTING);
+    }
+    if LONGEST < payload.len() {
+        return Checked::Refused(Refusal::SETTING);
+    }
+    table_form(records, payload)
+}
