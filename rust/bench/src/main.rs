@@ -9,8 +9,8 @@ use std::process::ExitCode;
 
 use schemas::ALL;
 use timing::{
-    best_of, check_library, check_original, decode_bare, decode_library, decode_original, original, run_library,
-    run_original,
+    best_of, check_library, check_original, decode_bare, decode_library, decode_original, original,
+    run_library, run_original,
 };
 
 const USAGE: &str = "\

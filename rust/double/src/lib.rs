@@ -1,6 +1,6 @@
-//! A TEST DOUBLE, not the library: the three C functions with the plain reading behind them, and with a
-//! planted fault where DOUBLE_FAULT names one. The front end and row-diff can be built over it where
-//! there is no archive, and row-diff's own tests show with it that a wrong library is found out.
+//! A TEST DOUBLE, not the library: its C functions, under its symbols, with the plain reading behind them,
+//! and with a planted fault where DOUBLE_FAULT names one. The front end and row-diff can be built over it
+//! where there is no archive, and row-diff's own tests show with it that a wrong library is found out.
 //!
 //! Nothing that is said of the library may rest on a run over this.
 
@@ -35,10 +35,10 @@ impl Call<'_> {
 }
 
 macro_rules! reading_call {
-    ($name:ident, $is_run:literal, $position:expr, ($($extra:ident: $type:ty),*), $finish:expr) => {
+    ($symbol:literal, $name:ident, $is_run:literal, $position:expr, ($($extra:ident: $type:ty),*), $finish:expr) => {
         /// # Safety
         /// Each pointer leads to as many bytes as the length after it says.
-        #[no_mangle]
+        #[export_name = $symbol]
         pub unsafe extern "C" fn $name(
             node_charge: u64,
             max_blob_bytes: u64,
@@ -76,9 +76,10 @@ macro_rules! reading_call {
     };
 }
 
-reading_call!(skiff_skip, false, position, (position: u64), fault::answer);
-reading_call!(skiff_run, true, 0, (), fault::answer);
+reading_call!("skiff1_skip", skiff_skip, false, position, (position: u64), fault::answer);
+reading_call!("skiff1_run", skiff_run, true, 0, (), fault::answer);
 reading_call!(
+    "skiff1_decode",
     skiff_decode,
     false,
     position,

@@ -10,17 +10,18 @@ use crate::{Format, Settings};
 extern crate double as _;
 
 /// A shorter answer slice is left as it is, and so are all others; the call returns 1.
-pub const ANSWER_BYTES: usize = 88;
+pub const ANSWER_SIZE: usize = 88;
 
 /// What one value record takes of the slice that it is written to.
 pub const VALUE_RECORD_BYTES: usize = 16;
 
 /// The C functions: all of them are given settings, format and input first and the answer slice last, so
-/// that only what stands between is written for each.
+/// that only what stands between is written for each. The version of the layouts is part of the symbol, as
+/// in the header, so that an archive of another version does not link.
 macro_rules! reading_calls {
-    ($(fn $name:ident($($own:ident: $type:ty),*);)+) => {
+    ($($symbol:literal fn $name:ident($($own:ident: $type:ty),*);)+) => {
         extern "C" {
-            $(fn $name(
+            $(#[link_name = $symbol] fn $name(
                 node_charge: u64,
                 max_blob_bytes: u64,
                 max_row_bytes: u64,
@@ -43,15 +44,15 @@ macro_rules! reading_calls {
 }
 
 reading_calls! {
-    fn skiff_skip(position: u64);
-    fn skiff_decode(
+    "skiff1_skip" fn skiff_skip(position: u64);
+    "skiff1_decode" fn skiff_decode(
         position: u64,
         value_records: *mut u8,
         value_records_len: usize,
         payload: *mut u8,
         payload_len: usize
     );
-    fn skiff_run();
+    "skiff1_run" fn skiff_run();
 }
 
 /// The three settings as numbers, unchecked: the library checks them.
