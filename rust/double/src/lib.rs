@@ -5,14 +5,16 @@
 //! Nothing that is said of the library may rest on a run over this.
 
 mod decoding;
+mod encoding;
 mod fault;
 
 use std::slice;
 
+use plain::encoding::Given;
 use plain::reading::{run, skip};
 use plain::report::Report;
 use plain::settings::Settings;
-use plain::tables::FormatTables;
+use plain::tables::{Block, FormatTables};
 
 /// All that a reading call is given but for its answer slice. A run's position is 0.
 #[derive(Clone, Copy)]
@@ -96,3 +98,54 @@ reading_call!(
         decoding::answer(call, decoding::Lent { records, payload, answer })
     }
 );
+
+/// # Safety
+/// Each pointer leads to as many bytes as the length after it says.
+#[export_name = "skiff1_encode"]
+pub unsafe extern "C" fn skiff_encode(
+    node_charge: u64,
+    max_blob_bytes: u64,
+    max_row_bytes: u64,
+    records: *const u8,
+    records_len: usize,
+    names: *const u8,
+    names_len: usize,
+    first: u64,
+    count: u64,
+    value_records: *const u8,
+    value_records_len: usize,
+    payload: *const u8,
+    payload_len: usize,
+    output: *mut u8,
+    output_len: usize,
+    position: u64,
+    answer: *mut u8,
+    answer_len: usize,
+) -> u32 {
+    let given = Given {
+        settings: Settings { node_charge, max_blob_bytes, max_row_bytes },
+        records: slice::from_raw_parts(records, records_len),
+        names: slice::from_raw_parts(names, names_len),
+        block: Block { first, count },
+        value_records: slice::from_raw_parts(value_records, value_records_len),
+        payload: slice::from_raw_parts(payload, payload_len),
+    };
+    let output = slice::from_raw_parts_mut(output, output_len);
+    encoding::encode_answer(given, output, position, slice::from_raw_parts_mut(answer, answer_len))
+}
+
+/// # Safety
+/// Each pointer leads to as many bytes as the length after it says.
+#[export_name = "skiff1_check_value_table"]
+pub unsafe extern "C" fn skiff_check_value_table(
+    value_records: *const u8,
+    value_records_len: usize,
+    payload: *const u8,
+    payload_len: usize,
+    answer: *mut u8,
+    answer_len: usize,
+) -> u32 {
+    let records = slice::from_raw_parts(value_records, value_records_len);
+    let payload = slice::from_raw_parts(payload, payload_len);
+    encoding::check_answer(records, payload, slice::from_raw_parts_mut(answer, answer_len))
+}
