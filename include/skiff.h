@@ -106,6 +106,10 @@ enum skiff_what {
  * The row at `position` of `input`, under the format of the four tables before it: schema records, the
  * store of their names, a reference for each table, and a registry of named schemas, which may be empty.
  * Returns the refusal's number, 0 for a row and for an end.
+ *
+ * Where `input` is a window of a longer stream, of at most 4,294,967,295 bytes, what skiff_skip and
+ * skiff_decode answer stands whatever bytes come after the window, but for an end and SKIFF_TRUNCATED;
+ * and it is the stream's own answer, with the window's start added to a place that is an offset.
  */
 uint32_t skiff_skip(uint64_t node_charge, uint64_t max_blob_bytes, uint64_t max_row_bytes,
                     const uint8_t *records, size_t records_len,

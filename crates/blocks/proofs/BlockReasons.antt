@@ -11,7 +11,7 @@ use lib.ListN.{length}
 use Rattle.rules.specs.Choice.{pick}
 use Rattle.rules.specs.Refusals.{lineOf, refusalNumber, inOrder, Setting, BadSchemaTable, TooDeep, TableSchemaMustBeTuple, TableSchemaChildMissingName}
 use Rattle.rules.specs.Schema.{deep, NonEmpty}
-use Rattle.rules.specs.Block.{block, nodeAt, nameIn, blockTree}
+use Rattle.rules.specs.Block.{nodeSize, block, nodeAt, nameIn, blockTree}
 use Rattle.rules.specs.SchemaRules.{notTuple, rootRule, nameRule, childRule, tableRule}
 use Rattle.rules.specs.Format.{blockDepthOk, blockRule, oneBlock, schemaAnswer, encoderRule}
 use Rattle.rules.specs.declared.Node.{Node}
@@ -33,7 +33,7 @@ module _ (table names : List ℕ) (first n : ℕ) where
     too-long : 4294967295 < max (length table) (length names) →
         SchemaReason Setting
     -- 2: the table has no whole records, or the block is not formed
-    bad-form : (length table % 16 ≡ 0 → FormedBlock table names first n → ⊥) →
+    bad-form : (length table % nodeSize ≡ 0 → FormedBlock table names first n → ⊥) →
         SchemaReason BadSchemaTable
     -- 3: the block is more than 64 deep
     too-deep : 64 < deep (blockTree (block table first n) names) →
@@ -128,7 +128,7 @@ module _ (table names : List ℕ) (first n : ℕ) where
       (λ form. says-else _ _ _ _
       (λ depth. says-map (λ r b. broken b) (block-says table names first n (form-accepts table names first n .0 (and-both _ _ form .1)) depth))
       (λ e. too-deep (deep-says table names first n e)))
-      (λ e. bad-form (λ w g. refuted _ (λ (h : FormedBlock table names first n). and-true _ _ (eq-eqb (length table % 16) 0 w) (form-accepts table names first n .1 h)) e g)))
+      (λ e. bad-form (λ w g. refuted _ (λ (h : FormedBlock table names first n). and-true _ _ (eq-eqb (length table % nodeSize) 0 w) (form-accepts table names first n .1 h)) e g)))
       (λ e.
       let h : (max (length table) (length names) ≤ 4294967295) → ⊥ = refuted _ (λ h. and-true _ _ (le-leb (length table) 4294967295 (omega arith)) (le-leb (length names) 4294967295 (omega arith))) e in
       too-long (omega arith))

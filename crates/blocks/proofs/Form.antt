@@ -12,7 +12,7 @@ use borrow.Author.Tests.{ne-eqb, leb-true, ltb-true, eqb-true, eqb-false, le-leb
 use lib.ListN.{length, getD}
 use lib.Dec.{leb, eqb, ltb}
 use Rattle.rules.specs.Choice.{pick, _and_, all}
-use Rattle.rules.specs.Block.{nodeAt, records, Closed, earlier, nameOk, childrenOk, recordOk, recordAt, blockOk, Ordered, Named, Formed}
+use Rattle.rules.specs.Block.{nodeSize, nodeStart, nodeAt, records, Closed, earlier, nameOk, childrenOk, recordOk, recordAt, blockOk, Ordered, Named, Formed}
 use Rattle.rules.specs.declared.Node.{Node}
 use Rattle.rules.proofs.Tests.{and-both, and-true, all-each, all-true, pick-either}
 use Rattle.rules.proofs.Stands.{leAt-lt}
@@ -24,7 +24,7 @@ earlier-suc s i = rw add-one
 
 pub kids-small : (s : List ℕ) → ((i : ℕ) → getD s i 0 < 256) → (i : ℕ) → nodeAt s i .children < 4294967296
 unfolding nodeAt
-kids-small s h i = leAt-lt s h (i * 16 + 12) 4
+kids-small s h i = leAt-lt s h (nodeStart i + 12) 4
 
 pub earlier-small : (s : List ℕ) → ((i : ℕ) → getD s i 0 < 256) → (i : ℕ) → earlier s i ≤ i * 4294967296
 unfolding earlier
@@ -41,7 +41,7 @@ pub record-at : (s : List ℕ) (store i next : ℕ) (n : Node) → n ≡ nodeAt 
 unfolding recordAt
 record-at s store i next n e h b q = rw (← e, ← h, q)
 
-pub block-ends : (s : List ℕ) (store i next : ℕ) → length s % 16 ≡ 0 → records s ≤ 131072 → i ≡ records s → next ≡ 1 + earlier s i → all (recordAt s store) i ≡ true → eqb (records s) next ≡ blockOk s store
+pub block-ends : (s : List ℕ) (store i next : ℕ) → length s % nodeSize ≡ 0 → records s ≤ 131072 → i ≡ records s → next ≡ 1 + earlier s i → all (recordAt s store) i ≡ true → eqb (records s) next ≡ blockOk s store
 unfolding blockOk _and_
 block-ends s store i next a b e h r = rw (eq-eqb _ _ a, le-leb _ _ b, ← e, r, h)
 
@@ -90,7 +90,7 @@ ordered s store e =
     let a = and-both _ _ e in
     let b = and-both _ _ (a .0) in
     let d = and-both _ _ (b .0) in
-    let z : length s % 16 ≡ 0 = eqb-true _ _ (d .0) in
+    let z : length s % nodeSize ≡ 0 = eqb-true _ _ (d .0) in
     let m : records s ≡ 1 + earlier s (records s) = eqb-true _ _ (a .1) in
     record {
       size = omega arith;
@@ -115,7 +115,7 @@ formed s store = (
         names = λ i h. name-named _ _ (and-both _ _ (each i h) .1);
       },
   λ b.
-      let z : length s % 16 ≡ 0 = omega (arith, b .order .size) in
+      let z : length s % nodeSize ≡ 0 = omega (arith, b .order .size) in
       let m : records s ≡ 1 + earlier s (records s) = omega (arith, b .order .size) in
       and-true _ _ (and-true _ _ (and-true _ _ (eq-eqb _ _ z) (le-leb _ _ (b .order .most)))
       (all-true _ _ (λ i h.

@@ -12,9 +12,9 @@ use Rattle.rules.specs.Choice.{pick, _and_, all}
 use Rattle.rules.specs.Bytes.{part}
 use Rattle.rules.specs.Refusals.{lineOf, refusalNumber, _then_, inOrder, Setting, BadSchemaTable, TooDeep, EmptyTableSchemas, UnknownRegistryReference, TableSchemaRootMustBeTuple, TableSchemaChildMissingName}
 use Rattle.rules.specs.Schema.{deep, NonEmpty}
-use Rattle.rules.specs.Block.{records, block, nodeAt, nameIn}
+use Rattle.rules.specs.Block.{block, nodeAt, nameIn}
 use Rattle.rules.specs.SchemaRules.{notTuple}
-use Rattle.rules.specs.Format.{Format, blockDepthOk, referenceAt, entryAt, entryName, resolved, tables, tableSchema, entryDepthOk, referenceDepthOk, depthsOk, entryRule, rootOf, inlineRule, referenceRule, rulesOrder, sizesOk, formatRules, formatRule}
+use Rattle.rules.specs.Format.{entryCount, Format, blockDepthOk, referenceAt, entryAt, entryName, resolved, tables, tableSchema, entryDepthOk, referenceDepthOk, depthsOk, entryRule, rootOf, inlineRule, referenceRule, rulesOrder, sizesOk, formatRules, formatRule}
 use Rattle.rules.specs.Good.{schemaFrom}
 use Rattle.rules.specs.declared.Located.{Located}
 use Rattle.rules.specs.declared.Located.the-variants.{Block, NoTable, NoEntry}
@@ -31,7 +31,7 @@ module _ (f : Format) where
   -- The blocks of a format: those of its registry entries, and those of its inline references.
   pub data BlockOf : ℕ → ℕ → Type 0 where
     of-entry : {j : ℕ} →
-        j < records (f .registry) →
+        j < entryCount (f .registry) →
         BlockOf (entryAt (f .registry) j .first) (entryAt (f .registry) j .count)
     of-table : {t : ℕ} →
         t < tables f → referenceAt (f .references) t .kind ≡ 0 →
@@ -59,7 +59,7 @@ module _ (f : Format) where
     -- 7: table t refers to a name that no entry has
     unknown : {t : ℕ} →
         t < tables f → referenceAt (f .references) t .kind ≡ 1 →
-        ((j : ℕ) → j < records (f .registry) → entryName (f .names) (f .registry) j ≡ part (f .names) (referenceAt (f .references) t .start) (referenceAt (f .references) t .len) → ⊥) →
+        ((j : ℕ) → j < entryCount (f .registry) → entryName (f .names) (f .registry) j ≡ part (f .names) (referenceAt (f .references) t .start) (referenceAt (f .references) t .len) → ⊥) →
         FormatReason (UnknownRegistryReference t)
     -- 8: the root of table t's schema is no tuple; the place is its record
     not-tuple : {t first n : ℕ} →
@@ -89,7 +89,7 @@ module _ (f : Format) where
   depths-reason : depthsOk f ≡ false → FormatReason f TooDeep
   unfolding depthsOk entryDepthOk referenceDepthOk pick
   depths-reason e = ⊎-elim
-      (λ (p : all (entryDepthOk f) (records (f .registry)) ≡ false). let r = all-fails _ _ p in too-deep (of-entry {j = r .0} (r .1 .0)) (deep-says _ _ _ _ (r .1 .1)))
+      (λ (p : all (entryDepthOk f) (entryCount (f .registry)) ≡ false). let r = all-fails _ _ p in too-deep (of-entry {j = r .0} (r .1 .0)) (deep-says _ _ _ _ (r .1 .1)))
       (λ (p : all (referenceDepthOk f) (tables f) ≡ false). let r = all-fails _ _ p in by (r .0) (r .1 .0) (eqb (referenceAt (f .references) (r .0) .kind) 0) refl (r .1 .1))
       (and-fails _ _ e)
     where
@@ -130,7 +130,7 @@ module _ (f : Format) where
   unfolding depthsOk rulesOrder entryDepthOk entryRule pick
   order-says w depth = by (eqb (tables f) 0) refl
     where
-      by : (b : Bool) → eqb (tables f) 0 ≡ b → Says (FormatReason f) (pick b (Refused EmptyTableSchemas) (inOrder (entryRule f) 0 (records (f .registry)) then inOrder (referenceRule f) 0 (tables f)))
+      by : (b : Bool) → eqb (tables f) 0 ≡ b → Says (FormatReason f) (pick b (Refused EmptyTableSchemas) (inOrder (entryRule f) 0 (entryCount (f .registry)) then inOrder (referenceRule f) 0 (tables f)))
       by true e = says (no-tables (eqb-true _ _ e))
       by false e =
           let d = and-both _ _ depth in

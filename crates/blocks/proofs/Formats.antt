@@ -11,9 +11,9 @@ use Rattle.rules.specs.Choice.{pick, all}
 use Rattle.rules.specs.Bytes.{part}
 use Rattle.rules.specs.Refusals.{_then_, inOrder}
 use Rattle.rules.specs.Schema.{TableRoot}
-use Rattle.rules.specs.Block.{records, block}
+use Rattle.rules.specs.Block.{block}
 use Rattle.rules.specs.SchemaRules.{tableRule}
-use Rattle.rules.specs.Format.{Format, blockDepthOk, referenceAt, entryAt, entryName, resolved, tables, entryDepthOk, referenceDepthOk, depthsOk, entryRule, rootOf, inlineRule, referenceRule, rulesOrder, sizesOk, formatRules, formatRule}
+use Rattle.rules.specs.Format.{entryCount, Format, blockDepthOk, referenceAt, entryAt, entryName, resolved, tables, entryDepthOk, referenceDepthOk, depthsOk, entryRule, rootOf, inlineRule, referenceRule, rulesOrder, sizesOk, formatRules, formatRule}
 use Rattle.rules.specs.Good.{GoodBlock, Ascending, schemaFrom, GoodEntry, Inline, ByName, GoodReference, GoodTables, GoodFormat}
 use Rattle.rules.specs.declared.Reference.{Reference}
 use Rattle.rules.specs.declared.Located.{Located}
@@ -69,7 +69,7 @@ module _ (f : Format) where
         (λ (n : ByName f r). let z = ne-eqb (r .kind) 0 (λ e. omega (arith, n .kind)) in (rw z, rw z))
         (g .either)
 
-  module _ (entries : (j : ℕ) → j < records (f .registry) → GoodEntry f j) (up : Ascending (entryName (f .names) (f .registry)) (records (f .registry))) (r : Reference) where
+  module _ (entries : (j : ℕ) → j < entryCount (f .registry) → GoodEntry f j) (up : Ascending (entryName (f .names) (f .registry)) (entryCount (f .registry))) (r : Reference) where
     pub placed : GoodReference f r → Placed r
     unfolding resolved pick
     placed g = ⊎-elim
@@ -129,8 +129,8 @@ module _ (f : Format) where
         references = λ t h. reference-good (good w d v) (w .ascends) (referenceAt (f .references) t) t (w .references t h) (all-each _ _ t (d .1) h) (in-order-iff _ _ .0 (v .1) t h);
       }
     where
-      good : Forms f → (all (entryDepthOk f) (records (f .registry)) ≡ true) × (all (referenceDepthOk f) (tables f) ≡ true) → (inOrder (entryRule f) 0 (records (f .registry)) ≡ Accepted) × (inOrder (referenceRule f) 0 (tables f) ≡ Accepted) →
-          (j : ℕ) → j < records (f .registry) → GoodEntry f j
+      good : Forms f → (all (entryDepthOk f) (entryCount (f .registry)) ≡ true) × (all (referenceDepthOk f) (tables f) ≡ true) → (inOrder (entryRule f) 0 (entryCount (f .registry)) ≡ Accepted) × (inOrder (referenceRule f) 0 (tables f) ≡ Accepted) →
+          (j : ℕ) → j < entryCount (f .registry) → GoodEntry f j
       good w d v j h = record {
         name = w .entries j h .name;
         good = passes _ _ _ _ .0 (record { form-ok = form-accepts _ _ _ _ .1 (w .entries j h .formed); depth-ok = all-each _ _ j (d .0) h; rules-ok = in-order-iff _ _ .0 (v .0) j h });

@@ -11,8 +11,8 @@ use lib.ListN.{length}
 use lib.Dec.{leb, eqb}
 use Rattle.rules.specs.Choice.{pick, _and_}
 use Rattle.rules.specs.Bytes.{isLess}
-use Rattle.rules.specs.Block.{records}
-use Rattle.rules.specs.Format.{Format, blockFormOk, referenceAt, entryAt, entryName, tables, referenceOk, ascending, entryOk, referenceFormOk, formsOk}
+use Rattle.rules.specs.Block.{nodeSize}
+use Rattle.rules.specs.Format.{referenceSize, entrySize, entryCount, Format, blockFormOk, referenceAt, entryAt, entryName, tables, referenceOk, ascending, entryOk, referenceFormOk, formsOk}
 use Rattle.rules.specs.Good.{Ascending}
 use Rattle.rules.specs.declared.Reference.{Reference}
 use Rattle.rules.proofs.Tests.{and-both, and-true, all-each, all-true, pick-either}
@@ -43,11 +43,11 @@ module _ (f : Format) where
 
   -- Whole records in table, references and registry; formed entries, their names strictly ascending; formed references.
   pub record Forms : Type 0 where
-    pub whole-table : length (f .table) % 16 ≡ 0
-    pub whole-references : length (f .references) % 16 ≡ 0
-    pub whole-registry : length (f .registry) % 16 ≡ 0
-    pub entries : (j : ℕ) → j < records (f .registry) → FormedEntry j
-    pub ascends : Ascending (entryName (f .names) (f .registry)) (records (f .registry))
+    pub whole-table : length (f .table) % nodeSize ≡ 0
+    pub whole-references : length (f .references) % referenceSize ≡ 0
+    pub whole-registry : length (f .registry) % entrySize ≡ 0
+    pub entries : (j : ℕ) → j < entryCount (f .registry) → FormedEntry j
+    pub ascends : Ascending (entryName (f .names) (f .registry)) (entryCount (f .registry))
     pub references : (t : ℕ) → t < tables f → FormedReference (referenceAt (f .references) t)
 
 module _ (f : Format) where

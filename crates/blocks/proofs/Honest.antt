@@ -1,6 +1,6 @@
 -- What the refusals of the schema rules say: a record of the block that breaks them, its code, its child count, and the maximum.
 -- Assumes nothing.
-use Prim.Native.Nat.{ℕ, zero, suc, _+_, _*_, _≤_, _<_}
+use Prim.Native.Nat.{ℕ, zero, suc, _+_, _≤_, _<_}
 use mathlib.Core.Path.{_≡_, refl, sym, _∙_}
 use mathlib.Core.Bool.{Bool, true, false}
 use mathlib.Core.List.{List}
@@ -11,7 +11,7 @@ use lib.Dec.{eqb}
 use Rattle.rules.specs.Choice.{pick, _and_, all}
 use Rattle.rules.specs.Wire.{form, written, writtenIf, typeOf, typeIn, wireTypes, maximum}
 use Rattle.rules.specs.Refusals.{_then_, inOrder, UnexpectedChildren, TooManyChildren}
-use Rattle.rules.specs.Block.{nodeAt, records, Closed, Formed}
+use Rattle.rules.specs.Block.{NodeIn, nodeAt, records, Closed, Formed}
 use Rattle.rules.specs.SchemaRules.{nodeRule, ruleAt, schemaRule}
 use Rattle.rules.specs.declared.Refusal.{Refusal}
 use Rattle.rules.specs.declared.Checked.{Checked}
@@ -75,7 +75,7 @@ module _ (s : List ℕ) (base : ℕ) where
       by Any e = unfold nodeRule in silent
       by Unknown e = absurd (differ (unfold isKnown in (rw e at (known (nodeAt s i .code) h))))
 
-  schemaRule-says : Closed s → ((i : ℕ) → i < records s → nodeAt s i .code ≤ 19) → (d i : ℕ) → i * 16 + 16 ≤ length s → Shallow s d i → Says (Broken s base) (schemaRule s base d i)
+  schemaRule-says : Closed s → ((i : ℕ) → i < records s → nodeAt s i .code ≤ 19) → (d i : ℕ) → NodeIn i (length s) → Shallow s d i → Says (Broken s base) (schemaRule s base d i)
   unfolding schemaRule Shallow inOrder Closed
   schemaRule-says c k zero i l h = absurd h
   schemaRule-says c k (suc d) i l h =
@@ -89,5 +89,5 @@ module _ (s : List ℕ) (base : ℕ) where
           says-then _ _ _ (rw z at (f 0 (omega arith))) (all (j + 1) n (λ t l. let e : j + suc t ≡ (j + 1) + t = omega arith in rw e at (f (suc t) (omega arith))))
 
   -- a refusal of the rules names a record of the block that breaks them
-  pub honest : (store d i : ℕ) (r : Refusal) → Formed s store → i * 16 + 16 ≤ length s → Shallow s d i → schemaRule s base d i ≡ Refused r → Broken s base r
+  pub honest : (store d i : ℕ) (r : Refusal) → Formed s store → NodeIn i (length s) → Shallow s d i → schemaRule s base d i ≡ Refused r → Broken s base r
   honest store d i r b l h e = said (rw e at (schemaRule-says (closed s (b .order)) (b .codes) d i l h))

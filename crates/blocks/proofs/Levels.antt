@@ -1,6 +1,6 @@
 -- The levels of a block in level order, and the depth of its tree.
 -- Assumes nothing.
-use Prim.Native.Nat.{ℕ, zero, suc, _+_, _-_, _*_, _≤_, _<_}
+use Prim.Native.Nat.{ℕ, zero, suc, _+_, _-_, _≤_, _<_}
 use mathlib.Core.Path.{_≡_, refl, sym, _∙_}
 use mathlib.Core.List.{List}
 use mathlib.Core.Logic.{_⊎_, inl, inr, ⊎-elim, _↔_}
@@ -9,7 +9,7 @@ use native.Mathlib.Nat.{eq-or-lt-of-le}
 use native.Mathlib.Numerals.{add-one}
 use lib.ListN.{length}
 use Rattle.rules.specs.Schema.{Schema, Schemas, deep, deeps}
-use Rattle.rules.specs.Block.{nodeAt, records, treesFrom, treeAt, blockTree, Denotes, denotes, DenoteAll, no-node, a-node, Closed, earlier, Ordered}
+use Rattle.rules.specs.Block.{nodeSize, NodeIn, nodeAt, records, treesFrom, treeAt, blockTree, Denotes, denotes, DenoteAll, no-node, a-node, Closed, earlier, Ordered}
 use Rattle.blocks.proofs.Form.{earlier-suc, earlier-mono, whole, closed, before}
 
 -- node i and all below it lie within d levels
@@ -184,7 +184,7 @@ module _ (s store : List ℕ) where
         let z : i + 0 ≡ i = omega arith in
         omega (arith, shallow-deep x d (rw z at (h 0 (omega arith))), shallow-deeps y d (λ t b. let e : i + suc t ≡ (i + 1) + t = omega arith in rw e at (h (suc t) (omega arith))))
 
-  pub tree-denotes : Closed s → (d i : ℕ) → i * 16 + 16 ≤ length s → Shallow s d i → Denotes s store i (treeAt s store d i)
+  pub tree-denotes : Closed s → (d i : ℕ) → NodeIn i (length s) → Shallow s d i → Denotes s store i (treeAt s store d i)
   unfolding treeAt Shallow treesFrom Closed
   tree-denotes c zero i l h = absurd h
   tree-denotes c (suc d) i l h = denotes l refl refl (all (nodeAt s i .first) (nodeAt s i .children) (λ t b. tree-denotes c d (nodeAt s i .first + t) (omega (arith, c i l)) (h t b)))
@@ -196,7 +196,7 @@ module _ (s store : List ℕ) where
           a-node (rw z at (f 0 (omega arith))) (all (j + 1) n (λ t l. let e : j + suc t ≡ (j + 1) + t = omega arith in rw e at (f (suc t) (omega arith))))
 
   module _ (f : Ordered s) where
-    some : 16 ≤ length s
+    some : nodeSize ≤ length s
     some = omega (arith, f .size)
 
     -- a block in level order denotes a schema

@@ -9,8 +9,7 @@ use native.Mathlib.Nat.{eq-or-lt-of-le}
 use native.Mathlib.Decide.{decLt}
 use Rattle.rules.specs.Choice.{pick}
 use Rattle.rules.specs.Bytes.{order, isEqual}
-use Rattle.rules.specs.Block.{records}
-use Rattle.rules.specs.Format.{entryAt, entryName, lookup}
+use Rattle.rules.specs.Format.{entryCount, entryAt, entryName, lookup}
 use Rattle.rules.specs.Good.{Ascending}
 use Rattle.rules.specs.declared.Order.{Order}
 use Rattle.rules.specs.declared.Order.the-variants.{Less, Equal, Greater}
@@ -50,7 +49,7 @@ one-name name n a i k p q e = by (decLt i k) (decLt k i)
 -- Some entry has the name, and its block is this one.
 pub record Has (names registry name : List ℕ) (first n : ℕ) : Type 0 where
   pub entry : ℕ
-  pub below : entry < records registry
+  pub below : entry < entryCount registry
   pub same : entryName names registry entry ≡ name
   pub first-is : entryAt registry entry .first ≡ first
   pub count-is : entryAt registry entry .count ≡ n
@@ -79,15 +78,15 @@ module _ (names registry name : List ℕ) where
       by Equal e r = found {k = j} (omega arith) (omega arith) (order-equal (entryName names registry j) name e)
       by Greater e r = later j n (λ q. let z : _≡_ {A = ℕ} 0 1 = cc (order-same name, rw q at e) in omega arith) r
 
-  looked-misses : {l : Located} → Looked 0 (records registry) l → (l ≡ NoEntry) ↔ ((k : ℕ) → k < records registry → entryName names registry k ≡ name → ⊥)
+  looked-misses : {l : Located} → Looked 0 (entryCount registry) l → (l ≡ NoEntry) ↔ ((k : ℕ) → k < entryCount registry → entryName names registry k ≡ name → ⊥)
   looked-misses (found {k = m} a b e) = (λ p. let z : _≡_ {A = ℕ} 0 1 = cc in absurd (omega arith), λ h. absurd (h m (omega arith) e))
   looked-misses (missing f) = (λ p k h e. f k (omega arith) (omega arith) e, λ h. refl)
 
-  looked-finds : {l : Located} → Looked 0 (records registry) l → Ascending (entryName names registry) (records registry) → (first n : ℕ) → (l ≡ Block first n) ↔ Has names registry name first n
+  looked-finds : {l : Located} → Looked 0 (entryCount registry) l → Ascending (entryName names registry) (entryCount registry) → (first n : ℕ) → (l ≡ Block first n) ↔ Has names registry name first n
   looked-finds (found {k = m} a b e) up first n = (
     λ p. record { entry = m; below = omega arith; same = e; first-is = cc; count-is = cc },
     λ h.
-        let i : m ≡ h .entry = one-name (entryName names registry) (records registry) up m (h .entry) (omega arith) (h .below) (e ∙ sym (h .same)) in
+        let i : m ≡ h .entry = one-name (entryName names registry) (entryCount registry) up m (h .entry) (omega arith) (h .below) (e ∙ sym (h .same)) in
         rw (i, h .first-is, h .count-is),
   )
   looked-finds (missing f) up first n = (λ p. let z : _≡_ {A = ℕ} 0 1 = cc in absurd (omega arith), λ h. absurd (f (h .entry) (omega arith) (omega (arith, h .below)) (h .same)))
@@ -97,17 +96,17 @@ module _ (names registry name : List ℕ) where
   looked-there j n (missing f) p = let z : _≡_ {A = ℕ} 0 1 = cc in omega arith
 
   -- A lookup by name never says that there is no such table.
-  pub lookup-there : lookup names registry name 0 (records registry) ≡ NoTable → ⊥
-  lookup-there = looked-there 0 (records registry) (looked 0 (records registry))
+  pub lookup-there : lookup names registry name 0 (entryCount registry) ≡ NoTable → ⊥
+  lookup-there = looked-there 0 (entryCount registry) (looked 0 (entryCount registry))
 
   -- The lookup finds no entry just if none has the name.
-  pub lookup-misses : (lookup names registry name 0 (records registry) ≡ NoEntry) ↔ ((k : ℕ) → k < records registry → entryName names registry k ≡ name → ⊥)
-  lookup-misses = looked-misses (looked 0 (records registry))
+  pub lookup-misses : (lookup names registry name 0 (entryCount registry) ≡ NoEntry) ↔ ((k : ℕ) → k < entryCount registry → entryName names registry k ≡ name → ⊥)
+  lookup-misses = looked-misses (looked 0 (entryCount registry))
 
   -- In an ascending registry the lookup finds a block just if it is that of an entry with the name.
-  pub lookup-finds : Ascending (entryName names registry) (records registry) → (first n : ℕ) → (lookup names registry name 0 (records registry) ≡ Block first n) ↔ Has names registry name first n
-  lookup-finds = looked-finds (looked 0 (records registry))
+  pub lookup-finds : Ascending (entryName names registry) (entryCount registry) → (first n : ℕ) → (lookup names registry name 0 (entryCount registry) ≡ Block first n) ↔ Has names registry name first n
+  lookup-finds = looked-finds (looked 0 (entryCount registry))
 
   -- And there is only one such entry.
-  pub one-entry : Ascending (entryName names registry) (records registry) → (i k : ℕ) → i < records registry → k < records registry → entryName names registry i ≡ name → entryName names registry k ≡ name → i ≡ k
-  one-entry up i k p q a b = one-name (entryName names registry) (records registry) up i k p q (a ∙ sym b)
+  pub one-entry : Ascending (entryName names registry) (entryCount registry) → (i k : ℕ) → i < entryCount registry → k < entryCount registry → entryName names registry i ≡ name → entryName names registry k ≡ name → i ≡ k
+  one-entry up i k p q a b = one-name (entryName names registry) (entryCount registry) up i k p q (a ∙ sym b)

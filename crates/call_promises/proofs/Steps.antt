@@ -13,7 +13,12 @@ use Rattle.wire.proofs.numbers.field as field
 use Rattle.wire.proofs.order.order_of as order-of
 use Rattle.wire.proofs.order.compare as compare
 use Rattle.wire.proofs.order.is_equal as is-equal
-use Rattle.flat.proofs.block.node_at as node-at
+use Rattle.record.proofs.node.node_at as node-at
+use Rattle.record.proofs.node.node_code as node-code
+use Rattle.record.proofs.node.node_first as node-first
+use Rattle.record.proofs.node.node_children as node-children
+use Rattle.record.proofs.value.value_record_at as value-record-at
+use Rattle.record.proofs.value.records_in as records-in
 use Rattle.flat.proofs.block.span_ok as span-ok
 use Rattle.flat.proofs.block.block_ok as block-ok
 use Rattle.flat.proofs.block.depth_of as depth-of
@@ -29,8 +34,8 @@ use Rattle.schema.proofs.format_rules as format-rules
 use Rattle.schema.proofs.forms.forms_ok as forms-ok
 use Rattle.schema.proofs.depths.depths_ok as depths-ok
 use Rattle.schema.proofs.order.rules_order as rules-order
-use Rattle.schema.proofs.format.reference_at as reference-at
-use Rattle.schema.proofs.format.entry_at as entry-at
+use Rattle.record.proofs.reference.reference_at as reference-at
+use Rattle.record.proofs.entry.entry_at as entry-at
 use Rattle.schema.proofs.format.lookup as lookup
 use Rattle.schema.proofs.format.resolve as resolve
 use Rattle.schema.proofs.format.table_schema as table-schema
@@ -54,7 +59,7 @@ use Rattle.wire.proofs.store.put16 as put16
 use Rattle.wire.proofs.store.put32 as put32
 use Rattle.wire.proofs.store.put64 as put64
 use Rattle.record.proofs.value.put_record as put-record
-use Rattle.record.proofs.payload.copy as copy
+use Rattle.payload.proofs.copy as copy
 use Rattle.fill.proofs.fill_row as fill-row
 use Rattle.decode.proofs.row.fill_at as fill-at
 use Rattle.decode.proofs.row.decode_row as decode-row
@@ -87,6 +92,21 @@ is-equal-one-answer κs a x y s t p q = p ∙ sym q
 -- ---- a block
 pub node-at-one-answer : OneAnswer node-at.Kinds.ps node-at.Kinds.r node-at.Reads.Post
 node-at-one-answer κs a x y s t p q = p ∙ sym q
+
+pub node-code-one-answer : OneAnswer node-code.Kinds.ps node-code.Kinds.r node-code.Reads.Post
+node-code-one-answer κs a x y s t p q = p ∙ sym q
+
+pub node-first-one-answer : OneAnswer node-first.Kinds.ps node-first.Kinds.r node-first.Reads.Post
+node-first-one-answer κs a x y s t p q = p ∙ sym q
+
+pub node-children-one-answer : OneAnswer node-children.Kinds.ps node-children.Kinds.r node-children.Reads.Post
+node-children-one-answer κs a x y s t p q = p ∙ sym q
+
+pub value-record-at-one-answer : OneAnswer value-record-at.Kinds.ps value-record-at.Kinds.r value-record-at.Reads.Post
+value-record-at-one-answer κs a x y s t p q = p ∙ sym q
+
+pub records-in-one-answer : OneAnswer records-in.Kinds.ps records-in.Kinds.r records-in.Reads.Post
+records-in-one-answer κs a x y s t p q = p ∙ sym q
 
 pub span-ok-one-answer : OneAnswer span-ok.Kinds.ps span-ok.Kinds.r span-ok.Reads.Post
 span-ok-one-answer κs a x y s t p q = p ∙ sym q

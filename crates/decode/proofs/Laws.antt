@@ -11,7 +11,7 @@ use lib.Dec.{leb}
 use lib.ListN.{length}
 use Rattle.rules.specs.Choice.{pick}
 use Rattle.rules.specs.Bytes.{Bytes, over}
-use Rattle.rules.specs.Block.{nodeAt, records, block, Closed}
+use Rattle.rules.specs.Block.{nodeSize, nodeAt, records, block, Closed}
 use Rattle.rules.specs.Format.{tableSchema, formatRules}
 use Rattle.rules.specs.Value.{Value, recordsOf, payloadOf}
 use Rattle.rules.specs.ValueRecord.{valueRecordsIn}
@@ -63,7 +63,7 @@ module _ (table names references registry : List ℕ) (ok : formatRules (slices 
   record Rooted : Type 0 where
     within : first + count ≤ records table
     closed : Closed (block table first count)
-    root : 16 ≤ length (block table first count)
+    root : nodeSize ≤ length (block table first count)
     compound : 14 < nodeAt (block table first count) 0 .code
 
   rooted : Rooted

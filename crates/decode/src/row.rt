@@ -12,6 +12,7 @@ ghost use Rattle.stream.specs.Rows.{Asked};
 ghost use Rattle.fill.specs.Filling.{rowValue};
 ghost use Rattle.decode.specs.Steps.{Granted, roomFor};
 use fill::fill_row;
+use record::node::NODE_SIZE;
 use record::value::records_in;
 use rules::Extent;
 use rules::LONGEST;
@@ -71,8 +72,8 @@ pub fn fill_at(
     ensures records { λ _. ⌜ now (records .exit) ≡ over (now (records .entry)) 0 (flat (rowValue (block (now (table .entry)) first count) (now (input .entry)) (at + 2)) 0 0) ⌝ }
     ensures payload { λ _. ⌜ now (payload .exit) ≡ over (now (payload .entry)) 0 (pays (rowValue (block (now (table .entry)) first count) (now (input .entry)) (at + 2))) ⌝ }
 {
-    let start = first as usize * 16;
-    let end = start + count as usize * 16;
+    let start = first as usize * NODE_SIZE;
+    let end = start + count as usize * NODE_SIZE;
     fill_row(&table[start..end], input, at + 2, records, payload);
 }
 

@@ -1,10 +1,10 @@
 -- What a node comes to at once: a leaf that is it, or a leaf that its tag names.
 -- Assumes nothing.
-use Prim.Native.Nat.{ℕ, _+_, _-_, _*_, _≤_, _<_}
+use Prim.Native.Nat.{ℕ, _+_, _-_, _≤_, _<_}
 use mathlib.Core.Path.{_≡_, refl, sym, subst, _∙_}
 use mathlib.Core.List.{List, _++_}
 use native.Mathlib.Omega.{arith}
-use lib.ListN.{length, getD}
+use lib.ListN.{length}
 use Rattle.rules.specs.Bytes.{leAt, over}
 use Rattle.rules.specs.Wire.{choice, form, widthOf}
 use Rattle.rules.specs.Block.{nodeAt}
@@ -106,7 +106,7 @@ module _ (sch inp : List ℕ) (d i code : ℕ) (c : code ≡ nodeAt sch i .code)
   leads-on h = (h, refl)
 
   -- and a variant the leaf that its tag names, once its record is written
-  module _ (g : IsGot (readAt sch inp d i (s .at))) (h : 14 < code) (l : code < 17) (t w : ℕ) (is : t ≡ leAt inp (s .at) (widthOf (form code))) (p : w ≡ widthOf (form code)) (first : ℕ) (f : first ≡ leAt sch (i * 16 + 8) 4) where
+  module _ (g : IsGot (readAt sch inp d i (s .at))) (h : 14 < code) (l : code < 17) (t w : ℕ) (is : t ≡ leAt inp (s .at) (widthOf (form code))) (p : w ≡ widthOf (form code)) (first : ℕ) (f : first ≡ nodeAt sch i .first) where
     wide : widthOf (form (nodeAt sch i .code)) ≡ w
     wide = rw (← c) (sym p)
 
@@ -120,18 +120,17 @@ module _ (sch inp : List ℕ) (d i code : ℕ) (c : code ≡ nodeAt sch i .code)
     within = omega (arith, k .there, p, tag-some code h (omega arith))
 
     child : nodeAt sch i .first + leAt inp (s .at) w ≡ first + t
-    unfolding nodeAt
     child = omega (arith, tagged, f)
 
     pub inside : first + t < nodeAt sch i .first + nodeAt sch i .children
     inside = omega (arith, k .inside, child)
 
-    pub leads-child : getD sch ((first + t) * 16) 0 < 15 → (rs′ : List ℕ) → rs′ ≡ over rs (valueRecordStart (s .records)) (layout (valueRecord 15 tag 1 0)) →
-        Leads (readAt sch inp d i (s .at)) inp code tag s rs rs′ (Leaf (getD sch ((first + t) * 16) 0) t (spot (s .at + w) (s .records + 1) (s .payload)))
-    unfolding Leads nodeAt
-    leads-child q rs′ z =
-        let y = leaf-read sch inp (d - 1) (first + t) (s .at + w) q (rw child at (k .is)) in
-        (q, rw (← y) (variant-rest _ _ t tag (s .at + w) s rs rs′ (rw child at (k .is)) (rw (child, ← tagged) at (k .value)) (rw child at (k .ends)) z))
+    pub leads-child : (below : ℕ) → below ≡ nodeAt sch (first + t) .code → below < 15 → (rs′ : List ℕ) → rs′ ≡ over rs (valueRecordStart (s .records)) (layout (valueRecord 15 tag 1 0)) →
+        Leads (readAt sch inp d i (s .at)) inp code tag s rs rs′ (Leaf below t (spot (s .at + w) (s .records + 1) (s .payload)))
+    unfolding Leads
+    leads-child below u q rs′ z =
+        let y = leaf-read sch inp (d - 1) (first + t) (s .at + w) (rw (← u) q) (rw child at (k .is)) in
+        (q, rw (u, ← y) (variant-rest _ _ t tag (s .at + w) s rs rs′ (rw child at (k .is)) (rw (child, ← tagged) at (k .value)) (rw child at (k .ends)) z))
 
 -- ---- what the caller learns
 

@@ -8,7 +8,7 @@ use lib.Dec.{ltb, eqb}
 use Rattle.rules.specs.Choice.{pick}
 use Rattle.rules.specs.Bytes.{leAt, over}
 use Rattle.rules.specs.Wire.{Form, empty, truth, fixed, raw, sized, choice, series, fields, unknown, endTag}
-use Rattle.rules.specs.Block.{nodeAt, Closed}
+use Rattle.rules.specs.Block.{nodeSize, nodeAt, Closed}
 use Rattle.rules.specs.Value.{Value, recordsOf, payloadOf}
 use Rattle.rules.specs.ValueRecord.{valueRecordStart}
 use Rattle.rules.specs.ValueTable.{bit, pays, flat}
@@ -46,7 +46,7 @@ rowValue sch inp at = valueOf (readAt sch inp 64 0 at)
 -- the root has children, all of them in the block, and it was read, and there is room
 pub record Fillable (sch inp : List ℕ) (at n m : ℕ) : Type 0 where
   pub closed : Closed sch
-  pub root : 16 ≤ length sch
+  pub root : nodeSize ≤ length sch
   pub compound : 14 < nodeAt sch 0 .code
   pub room : Room (readAt sch inp 64 0 at) (start at) n m
 

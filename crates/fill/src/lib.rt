@@ -2,20 +2,23 @@
 // two lent slices. It cannot refuse, so it tests nothing but wire codes, end tags and counts: that every byte is there and
 // that there is room for it is what each function requires.
 ghost use mathlib.Core.Path.{_≡_};
-ghost use Prim.Native.Nat.{_+_, _-_, _*_, _^_, _≤_, _<_};
+ghost use Prim.Native.Nat.{_+_, _-_, _^_, _≤_, _<_};
 ghost use lib.ListN.{length};
 ghost use lib.Dec.{ltb};
 ghost use Rattle.rules.specs.Bytes.{leAt, part, over};
 ghost use Rattle.rules.specs.Wire.{form, widthOf};
-ghost use Rattle.rules.specs.Block.{nodeAt, Closed};
+ghost use Rattle.rules.specs.Block.{nodeStart, NodeIn, nodeAt, Closed};
 ghost use Rattle.rules.specs.ValueRecord.{valueRecordStart, ValueRecordIn, valueRecord, layout};
 ghost use Rattle.rules.specs.ValueTable.{bit, pays, flat};
 ghost use Rattle.rules.specs.Writing.{kindFor};
 ghost use Rattle.fill.specs.Plain.{leafAt, readAt};
 ghost use Rattle.fill.specs.Filling.{Room, Filled, Fillable, rowValue, scalarOf, tagBytes, nextOf};
 ghost use Rattle.fill.specs.Leads.{Held, Leads};
+use payload::copy;
 use read::fields::ends;
-use record::payload::copy;
+use record::node::node_children;
+use record::node::node_code;
+use record::node::node_first;
 use record::value::put_record;
 use wire::codes::fixed_width;
 use wire::codes::tag_width;
@@ -133,7 +136,7 @@ fn tag_at(code: u8, input: &[u8], at: usize) -> u64
 
 // The child after i others. A variant has one child, a tuple `count`, and the repeated types have children up to the end tag.
 fn next_child(code: u8, first: usize, count: usize, input: &[u8], i: usize, at: usize) -> Next
-    requires { ⌜ (14 < code) × (code < 20) × ((first + count) * 16 < 2 ^ 64) × (tagBytes (form code) i ≤ length (now input) - at) ⌝ }
+    requires { ⌜ (14 < code) × (code < 20) × (nodeStart (first + count) < 2 ^ 64) × (tagBytes (form code) i ≤ length (now input) - at) ⌝ }
     ensures { λ r. ⌜ r ≡ nextOf (now (input .entry)) first count (form code) i at ⌝ }
 {
     if code == 19 {
@@ -193,12 +196,12 @@ fn fill_children(
     records: &mut [u8],
     payload: &mut [u8],
 ) -> Spot
-    requires { ⌜ Closed (now block) × (node * 16 + 16 ≤ length (now block)) × (14 < nodeAt (now block) node .code) × Room (readAt (now block) (now input) depth node (s .at)) s (length (now records)) (length (now payload)) ⌝ }
+    requires { ⌜ Closed (now block) × NodeIn node (length (now block)) × (14 < nodeAt (now block) node .code) × Room (readAt (now block) (now input) depth node (s .at)) s (length (now records)) (length (now payload)) ⌝ }
     ensures { λ r. ⌜ Filled (readAt (now (block .entry)) (now (input .entry)) depth node (s .at)) tag s r (now (records .entry)) (now (records .exit)) (now (payload .entry)) (now (payload .exit)) ⌝ }
 {
-    let code = block[node * 16];
-    let first = u32_at(block, node * 16 + 8) as usize;
-    let count = u32_at(block, node * 16 + 12) as usize;
+    let code = node_code(block, node);
+    let first = node_first(block, node) as usize;
+    let count = node_children(block, node) as usize;
     let own = s.records;
     let mut q = Spot {
         at: s.at,
@@ -241,7 +244,7 @@ fn leaf_at(
     s: Spot,
     records: &mut [u8],
 ) -> Reached
-    requires { ⌜ Closed (now block) × (node * 16 + 16 ≤ length (now block)) × (code ≡ nodeAt (now block) node .code) × Held (readAt (now block) (now input) depth node (s .at)) s (length (now records)) ⌝ }
+    requires { ⌜ Closed (now block) × NodeIn node (length (now block)) × (code ≡ nodeAt (now block) node .code) × Held (readAt (now block) (now input) depth node (s .at)) s (length (now records)) ⌝ }
     ensures { λ r. ⌜ Leads (readAt (now (block .entry)) (now (input .entry)) depth node (s .at)) (now (input .entry)) code tag s (now (records .entry)) (now (records .exit)) r ⌝ }
 {
     if code < 15 {
@@ -252,9 +255,9 @@ fn leaf_at(
     }
     let at = s.at;
     let bears = tag_at(code, input, at);
-    let first = u32_at(block, node * 16 + 8);
+    let first = node_first(block, node);
     let child = (first + bears) as usize;
-    let below = block[child * 16];
+    let below = node_code(block, child);
     if 14 < below {
         return Reached::Children;
     }
@@ -282,10 +285,10 @@ fn fill_value(
     records: &mut [u8],
     payload: &mut [u8],
 ) -> Spot
-    requires { ⌜ Closed (now block) × (node * 16 + 16 ≤ length (now block)) × Room (readAt (now block) (now input) depth node (s .at)) s (length (now records)) (length (now payload)) ⌝ }
+    requires { ⌜ Closed (now block) × NodeIn node (length (now block)) × Room (readAt (now block) (now input) depth node (s .at)) s (length (now records)) (length (now payload)) ⌝ }
     ensures { λ r. ⌜ Filled (readAt (now (block .entry)) (now (input .entry)) depth node (s .at)) tag s r (now (records .entry)) (now (records .exit)) (now (payload .entry)) (now (payload .exit)) ⌝ }
 {
-    let code = block[node * 16];
+    let code = node_code(block, node);
     let reached = leaf_at(block, node, code, depth, input, tag, s, records);
     match reached {
         Reached::Leaf(below, bears, from) => {

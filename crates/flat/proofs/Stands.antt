@@ -7,20 +7,21 @@ use mathlib.Core.List.{List}
 use lib.ListN.{length}
 use Rattle.rules.specs.Choice.{pick, _and_}
 use Rattle.rules.specs.Refusals.{_then_}
-use Rattle.rules.specs.Format.{wholeOk, blockFormOk, blockDepthOk, oneBlock}
+use Rattle.rules.specs.Format.{blockFormOk, blockDepthOk, oneBlock}
 use Rattle.rules.specs.declared.Checked.{Checked}
 use Rattle.rules.specs.declared.Checked.the-variants.{Accepted}
 use Rattle.rules.proofs.Tests.{and-both}
 use Rattle.rules.proofs.Checks.{pick-accepted}
+use Rattle.rules.specs.Block.{wholeNodes}
 use Rattle.flat.specs.Sound.{Sound}
 use Rattle.flat.proofs.Parts.{form-sound}
 
 module _ (table names : List ℕ) (first n : ℕ) where
   pub one-then : (rules : Checked) → oneBlock table names first n rules ≡ oneBlock table names first n Accepted then rules
   unfolding oneBlock pick _then_
-  one-then rules = by (wholeOk table and blockFormOk table (length names) first n) (blockDepthOk table first n) refl refl
+  one-then rules = by (wholeNodes table and blockFormOk table (length names) first n) (blockDepthOk table first n) refl refl
     where
-      by : (a b : Bool) → wholeOk table and blockFormOk table (length names) first n ≡ a → blockDepthOk table first n ≡ b → oneBlock table names first n rules ≡ oneBlock table names first n Accepted then rules
+      by : (a b : Bool) → wholeNodes table and blockFormOk table (length names) first n ≡ a → blockDepthOk table first n ≡ b → oneBlock table names first n rules ≡ oneBlock table names first n Accepted then rules
       by false b p q = rw p
       by true false p q = rw (p, q)
       by true true p q = rw (p, q)

@@ -1,25 +1,10 @@
 // The flat form of a schema block (2), and its depth (3).
 ghost use mathlib.Core.Path.{_≡_};
-ghost use Prim.Native.Nat.{_+_, _*_, _≤_};
-ghost use lib.ListN.{length};
-ghost use Rattle.rules.specs.Block.{nodeAt, spanOk, nameOk, childrenOk, recordOk, blockOk, Ordered, depthOf};
+ghost use Prim.Native.Nat.{_+_};
+ghost use Rattle.rules.specs.Block.{spanOk, nameOk, childrenOk, recordOk, blockOk, Ordered, depthOf};
+use record::node::NODE_SIZE;
+use record::node::node_at;
 use rules::Node;
-
-// The record of node i.
-pub fn node_at(s: &[u8], i: u64) -> Node
-    requires { ⌜ i * 16 + 16 ≤ length (now s) ⌝ }
-    ensures { λ r. ⌜ r ≡ nodeAt (now (s .entry)) i ⌝ }
-{
-    let at = (i * 16) as usize;
-    Node {
-        code: s[at],
-        named: s[at + 1],
-        len: wire::u16_at(s, at + 2),
-        start: wire::u32_at(s, at + 4),
-        first: wire::u32_at(s, at + 8),
-        children: wire::u32_at(s, at + 12),
-    }
-}
 
 // A span lies in what has so many bytes or records. The sum is not made, since it could wrap: the length is compared with
 // what is left behind the start.
@@ -84,10 +69,10 @@ fn record_ok(n: Node, store: u64, i: u64, next: u64) -> bool
 pub fn block_ok(s: &[u8], store: u64) -> bool
     ensures { λ r. ⌜ r ≡ blockOk (now (s .entry)) store ⌝ }
 {
-    if s.len() % 16 != 0 {
+    if s.len() % NODE_SIZE != 0 {
         return false;
     }
-    let m = (s.len() / 16) as u64;
+    let m = (s.len() / NODE_SIZE) as u64;
     if 131072 < m {
         return false;
     }
@@ -110,7 +95,7 @@ pub fn depth_of(s: &[u8]) -> u64
     requires { ⌜ Ordered (now s) ⌝ }
     ensures { λ r. ⌜ r ≡ depthOf (now (s .entry)) ⌝ }
 {
-    let m = (s.len() / 16) as u64;
+    let m = (s.len() / NODE_SIZE) as u64;
     let mut i = 0;
     let mut next = 1;
     let mut edge = 0;

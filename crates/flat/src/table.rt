@@ -11,6 +11,7 @@ use super::block::depth_of;
 use super::block::span_ok;
 use super::validation::check_root;
 use super::validation::validate;
+use record::node::NODE_SIZE;
 use rules::Checked;
 use rules::Purpose;
 use rules::Refusal;
@@ -19,8 +20,8 @@ fn block_of(table: &[u8], first: u64, count: u64) -> &[u8]
     requires { ⌜ first + count ≤ records (now table) ⌝ }
     ensures { λ r. ⌜ now r ≡ block (now (table .entry)) first count ⌝ }
 {
-    let from = (first * 16) as usize;
-    let to = ((first + count) * 16) as usize;
+    let from = first as usize * NODE_SIZE;
+    let to = (first + count) as usize * NODE_SIZE;
     &table[from..to]
 }
 
@@ -28,7 +29,7 @@ fn block_of(table: &[u8], first: u64, count: u64) -> &[u8]
 pub fn block_form_ok(table: &[u8], store: u64, first: u64, count: u64) -> bool
     ensures { λ r. ⌜ r ≡ blockFormOk (now (table .entry)) store first count ⌝ }
 {
-    let m = (table.len() / 16) as u64;
+    let m = (table.len() / NODE_SIZE) as u64;
     if !span_ok(first, count, m) {
         return false;
     }
@@ -64,7 +65,7 @@ pub fn block_root(table: &[u8], first: u64, count: u64, purpose: Purpose) -> Che
 pub fn block_stands(table: &[u8], names: &[u8], first: u64, count: u64) -> Checked
     ensures { λ r. ⌜ r ≡ oneBlock (now (table .entry)) (now (names .entry)) first count Accepted ⌝ }
 {
-    if table.len() % 16 != 0 {
+    if table.len() % NODE_SIZE != 0 {
         return Checked::Refused(Refusal::BAD_SCHEMA_TABLE);
     }
     if !block_form_ok(table, names.len() as u64, first, count) {

@@ -1,11 +1,11 @@
 // The schema rules on a block, in the Rust's order (4, 5), and a table's root and names (8, 9, 10).
 ghost use mathlib.Core.Path.{_≡_};
-ghost use Prim.Native.Nat.{_+_, _*_, _^_, _≤_, _<_};
+ghost use Prim.Native.Nat.{_+_, _^_, _≤_, _<_};
 ghost use lib.ListN.{length};
 ghost use Rattle.rules.specs.Wire.{form, maximum};
-ghost use Rattle.rules.specs.Block.{records, Closed};
+ghost use Rattle.rules.specs.Block.{nodeSize, NodeIn, records, Closed};
 ghost use Rattle.rules.specs.SchemaRules.{nodeRule, schemaRule, notTuple, rootRule, nameRule, tableRule};
-use super::block::node_at;
+use record::node::node_at;
 use rules::Checked;
 use rules::Children;
 use rules::Node;
@@ -54,7 +54,7 @@ fn node_rule(place: u64, n: Node) -> Checked
 // The first refusal in preorder: a node before its children, its children in order. `base` is the block's first record in
 // the table, so that a place is a record of the table.
 pub fn validate(s: &[u8], base: u64, depth: u64, i: u64) -> Checked
-    requires { ⌜ Closed (now s) × (i * 16 + 16 ≤ length (now s)) × (base + records (now s) < 2 ^ 64) ⌝ }
+    requires { ⌜ Closed (now s) × NodeIn i (length (now s)) × (base + records (now s) < 2 ^ 64) ⌝ }
     ensures { λ r. ⌜ r ≡ schemaRule (now (s .entry)) base depth i ⌝ }
 {
     if depth == 0 {
@@ -125,7 +125,7 @@ fn name_rule(place: u64, index: u64, n: Node) -> Checked
 
 // A table's root is a tuple, and each of its direct children has a name.
 pub fn check_root(s: &[u8], base: u64, purpose: Purpose) -> Checked
-    requires { ⌜ Closed (now s) × (16 ≤ length (now s)) × (base + records (now s) < 2 ^ 64) ⌝ }
+    requires { ⌜ Closed (now s) × (nodeSize ≤ length (now s)) × (base + records (now s) < 2 ^ 64) ⌝ }
     ensures { λ r. ⌜ r ≡ tableRule purpose (now (s .entry)) base ⌝ }
 {
     let root = node_at(s, 0);

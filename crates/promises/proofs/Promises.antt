@@ -125,11 +125,13 @@ pub reading-is-the-grammar : (f : Format) (inp : List ℕ) (lim : Limits) (at : 
 reading-is-the-grammar = row-agrees
 
 -- it refuses a row just for the reason that is there: up to a place the bytes begin a row within the limits, and what comes next fails
-pub refused-for-its-reason : (f : Format) (inp : List ℕ) (lim : Limits) (at : ℕ) → formatRules f ≡ Accepted → Bytes inp → at ≤ length inp → (r : Refusal) → (rowAt f inp lim at ≡ Refused r) ↔ RowReason f inp lim at r
+pub refused-for-its-reason : (f : Format) (inp : List ℕ) (lim : Limits) (at : ℕ) → formatRules f ≡ Accepted → Bytes inp → at ≤ length inp → (r : Refusal) →
+    (rowAt f inp lim at ≡ Refused r) ↔ RowReason f inp lim at r
 refused-for-its-reason = row-reasons
 
 -- there is no second reason
-pub no-second-reason : (f : Format) (inp : List ℕ) (lim : Limits) (at : ℕ) → formatRules f ≡ Accepted → at ≤ length inp → (r r′ : Refusal) → RowReason f inp lim at r → RowReason f inp lim at r′ → r ≡ r′
+pub no-second-reason : (f : Format) (inp : List ℕ) (lim : Limits) (at : ℕ) → formatRules f ≡ Accepted → at ≤ length inp → (r r′ : Refusal) →
+    RowReason f inp lim at r → RowReason f inp lim at r′ → r ≡ r′
 no-second-reason = one-reason
 
 -- and each row is accepted or has a reason, never both
@@ -194,9 +196,9 @@ module _ (f : Format) (s : Settings) (first n : ℕ) (recs pay out : List ℕ) (
 
   -- those bytes, as they stand in the output, decode anywhere in a stream to that value bit for bit, and no further byte is taken.
   pub decodes-to-the-value : (e : Extent) → writtenSaid (encodeFrom f s first n recs pay out at .answer) ≡ rowSaid e →
-      (s′ : Settings) (inp : List ℕ) (place : ℕ) (rs ps : List ℕ) →
-      ReadAsked s s′ v e (part (encodeFrom f s first n recs pay out at .output) at (e .bytes)) inp place rs ps →
-      decodeRule f s′ inp place rs ps ≡ decodedAs e recs pay rs ps
+      (s′ : Settings) (inp : List ℕ) (position : ℕ) (rs ps : List ℕ) →
+      ReadAsked s s′ v e (part (encodeFrom f s first n recs pay out at .output) at (e .bytes)) inp position rs ps →
+      decodeRule f s′ inp position rs ps ≡ decodedAs e recs pay rs ps
   decodes-to-the-value = reads-back f s first n recs pay out at asked v is
 
 -- Whatever is asked: a refused encode leaves the output,

@@ -1,14 +1,12 @@
 -- What a node comes to at once: its own bytes, or those of the leaf that its tag names.
 -- Assumes nothing.
-use Prim.Native.Nat.{ℕ, _+_, _-_, _*_, _≤_, _<_}
+use Prim.Native.Nat.{ℕ, _+_, _-_, _≤_, _<_}
 use mathlib.Core.Path.{_≡_, sym, subst, _∙_}
 use mathlib.Core.List.{List}
 use native.Mathlib.Omega.{arith}
 use borrow.Author.Tests.{lt-ltb}
 use lib.Dec.{ltb}
-use lib.ListN.{length, getD}
 use Rattle.rules.specs.Choice.{pick}
-use Rattle.rules.specs.Bytes.{leAt}
 use Rattle.rules.specs.Wire.{form, widthOf}
 use Rattle.rules.specs.Block.{nodeAt}
 use Rattle.read.specs.Budget.{spent}
@@ -32,30 +30,30 @@ use Rattle.read.proofs.Nodes.{skim-paid, node-leaf}
 module _ (s inp : List ℕ) (rec : Skimmer) (i code : ℕ) (k : Coded s i code) (p : Pos) where
   -- a leaf is its own
   pub leads-self : (charge : ℕ) → Ready inp charge p → code < 15 → Leads s inp rec i p (Leaf code p)
-  unfolding Leads nodeAt
-  leads-self charge r h = (rw (k .is) (node-leaf s inp rec i p (rw (← k .is) h)), r .stands)
+  unfolding Leads
+  leads-self charge r h = (node-leaf s inp rec i p code (k .is) h, r .stands)
 
   pub leads-on : 15 ≤ code → Leads s inp rec i p Children
   unfolding Leads
   leads-on h = rw (← k .is) h
 
   -- a variant is the child that its tag names
-  variant-child : (first count tag next : ℕ) → first ≡ leAt s (i * 16 + 8) 4 → count ≡ leAt s (i * 16 + 12) 4 → 14 < code → code < 17 →
+  variant-child : (first count tag next : ℕ) → first ≡ nodeAt s i .first → count ≡ nodeAt s i .children → 14 < code → code < 17 →
       Is tag next ≡ numberAt inp (widthOf (form code)) (14 + widthOf (form code)) (p .at) → tag < count → nodeOf s inp rec i p ≡ rec (first + tag) (moved p next)
-  unfolding nodeOf nodeAt valueOf choiceOf reading childOf pick
+  unfolding nodeOf valueOf choiceOf reading childOf pick
   variant-child first count tag next a b h l e m = rw (← k .is, ← a, ← b, form-choice code h l, ← e, lt-ltb tag count m)
 
 -- and where that one is a leaf, paid for, its bytes are all that is left
-pub leads-child : (s inp : List ℕ) (charge depth i code : ℕ) (k : Coded s i code) (p : Pos) (r : Ready inp charge p) (first count : ℕ) → first ≡ leAt s (i * 16 + 8) 4 → count ≡ leAt s (i * 16 + 12) 4 → 14 < code → code < 17 → (depth ≡ 0 → ⊥) →
-    (t : Number) → t ≡ numberAt inp (widthOf (form code)) (14 + widthOf (form code)) (p .at) → (tag next : ℕ) → t ≡ Is tag next → tag < count → getD s ((first + tag) * 16) 0 < 15 →
+pub leads-child : (s inp : List ℕ) (charge depth i code : ℕ) (k : Coded s i code) (p : Pos) (r : Ready inp charge p) (first count : ℕ) → first ≡ nodeAt s i .first → count ≡ nodeAt s i .children → 14 < code → code < 17 → (depth ≡ 0 → ⊥) →
+    (t : Number) → t ≡ numberAt inp (widthOf (form code)) (14 + widthOf (form code)) (p .at) → (tag next : ℕ) → t ≡ Is tag next → tag < count → (below : ℕ) → below ≡ nodeAt s (first + tag) .code → below < 15 →
     (c : Charged) → c ≡ spent (p .budget) charge next → (b : RowBudget) → c ≡ Left b →
-    Leads s inp (skim s inp charge depth) i p (Leaf (getD s ((first + tag) * 16) 0) (standing next b (p .records + 1) (p .payload)))
+    Leads s inp (skim s inp charge depth) i p (Leaf below (standing next b (p .records + 1) (p .payload)))
 unfolding Leads
-leads-child s inp charge depth i code k p r first count a b h l d t is tag next e m g c y rest z =
+leads-child s inp charge depth i code k p r first count a b h l d t is tag next e m below u g c y rest z =
     let o = number-past inp _ _ (p .at) tag next t (r .stands .within) is e in (
       variant-child s inp (skim s inp charge depth) i code k p first count tag next a b h l (sym e ∙ is) m
           ∙ skim-paid s inp charge depth (first + tag) (moved p next) d c y rest z
-          ∙ node-leaf s inp (skim s inp charge (depth - 1)) (first + tag) _ g,
+          ∙ node-leaf s inp (skim s inp charge (depth - 1)) (first + tag) _ below u g,
       record { within = o .1; short = r .stands .short; passed = omega (arith, o .0, r .stands .passed) },
     )
 

@@ -1,6 +1,6 @@
 -- A node, one level at a time.
 -- Assumes nothing.
-use Prim.Native.Nat.{ℕ, suc, _+_, _-_, _*_, _≤_, _<_}
+use Prim.Native.Nat.{ℕ, suc, _+_, _-_, _≤_, _<_}
 use mathlib.Core.Path.{_≡_, refl, _∙_}
 use mathlib.Core.Bool.{Bool, true, false}
 use mathlib.Core.List.{List}
@@ -8,11 +8,10 @@ use native.Mathlib.Omega.{arith}
 use native.Mathlib.Nat.{add-zero}
 use borrow.Author.Tests.{lt-leb, le-leb, ltb-true, ltb-false}
 use lib.Dec.{ltb, leb}
-use lib.ListN.{length, getD}
+use lib.ListN.{length}
 use Rattle.rules.specs.Choice.{pick, _and_, all}
-use Rattle.rules.specs.Bytes.{leAt}
 use Rattle.rules.specs.Wire.{Form, empty, truth, fixed, raw, sized, choice, series, fields, unknown, wireTypes, typeIn, typeOf, written, writtenIf, form, widthOf}
-use Rattle.rules.specs.Block.{nodeAt, Closed, Formed, records}
+use Rattle.rules.specs.Block.{nodeStart, nodeAt, Closed, Formed}
 use Rattle.rules.specs.declared.Refusal.{Refusal}
 use Rattle.rules.specs.Refusals.{TooDeep, Truncated}
 use Rattle.rules.proofs.Tests.{all-each}
@@ -109,9 +108,9 @@ module _ (sch inp : List ℕ) (charge d i : ℕ) (p : Pos) where
     unfolding having _>>=_ counted
     skim-paid b e = step ∙ rw e
 
-pub node-leaf : (sch inp : List ℕ) (rec : Skimmer) (i : ℕ) (p : Pos) → getD sch (i * 16) 0 < 15 → nodeOf sch inp rec i p ≡ leafOf inp (getD sch (i * 16) 0) p
-unfolding nodeOf nodeAt
-node-leaf sch inp rec i p h = value-leaf inp rec (getD sch (i * 16) 0) _ _ p h
+pub node-leaf : (sch inp : List ℕ) (rec : Skimmer) (i : ℕ) (p : Pos) (code : ℕ) → code ≡ nodeAt sch i .code → code < 15 → nodeOf sch inp rec i p ≡ leafOf inp code p
+unfolding nodeOf
+node-leaf sch inp rec i p code e h = rw (← e) (value-leaf inp rec code _ _ p h)
 
 -- ---- blocks
 
@@ -120,16 +119,16 @@ pub formed-sound : (s : List ℕ) (store : ℕ) → Formed s store → Sound s
 formed-sound s store f = record { codes = λ i h. f .codes i (omega arith); closed = blocks.closed s (f .order) }
 
 -- a node with children, its record in the code's numbers
-module _ (s : List ℕ) (i code first count : ℕ) (k : Coded s i code) (a : first ≡ leAt s (i * 16 + 8) 4) (b : count ≡ leAt s (i * 16 + 12) 4) where
+module _ (s : List ℕ) (i code first count : ℕ) (k : Coded s i code) (a : first ≡ nodeAt s i .first) (b : count ≡ nodeAt s i .children) where
   pub node-code : code ≤ 19
   node-code = rw (k .is) (k .sound .codes i (k .inside))
 
   -- its children lie in the block
-  pub node-children : (first + count) * 16 ≤ length s
-  unfolding nodeAt Closed
+  pub node-children : nodeStart (first + count) ≤ length s
+  unfolding Closed
   node-children = omega (arith, a, b, k .sound .closed i (k .inside))
 
   -- the loop starts with the whole
   pub node-start : (inp : List ℕ) (rec : Skimmer) (p : Pos) → 14 < code → steps inp rec code first count (shapeOf code) 0 (suc (length inp - p .at)) p ≡ nodeOf s inp rec i p
-  unfolding nodeOf nodeAt
+  unfolding nodeOf
   node-start inp rec p l = rw (← k .is, ← a, ← b) (steps-all inp rec code first count p l node-code)

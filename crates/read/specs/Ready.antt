@@ -1,11 +1,11 @@
 -- What the walk asks of a block, of the settings, and of where it stands.
 -- Assumes nothing: these are definitions.
-use Prim.Native.Nat.{ℕ, _+_, _*_, _^_, _≤_, _<_}
+use Prim.Native.Nat.{ℕ, _+_, _^_, _≤_, _<_}
 use mathlib.Core.Path.{_≡_}
 use mathlib.Core.Bool.{true}
 use mathlib.Core.List.{List}
 use lib.ListN.{length}
-use Rattle.rules.specs.Block.{nodeAt, Closed}
+use Rattle.rules.specs.Block.{NodeIn, nodeAt, Closed}
 use Rattle.rules.specs.Reading.{settingsOk}
 use Rattle.rules.specs.declared.Settings.{Settings}
 use Rattle.read.specs.declared.walk.Pos.{Pos}
@@ -14,7 +14,7 @@ use Rattle.read.specs.declared.walk.Pos.{Pos}
 
 -- the block has a record i
 abbrev pub Inside : List ℕ → ℕ → Type 0
-Inside s i = i * 16 + 16 ≤ length s
+Inside s i = NodeIn i (length s)
 
 -- each record has a wire code, and its children lie in the block
 pub record Sound (s : List ℕ) : Type 0 where

@@ -17,11 +17,13 @@ use super::fields::ends;
 use super::fields::kept;
 use super::fields::read_length;
 use super::fields::read_tag;
+use record::node::node_children;
+use record::node::node_code;
+use record::node::node_first;
 use rules::Refusal;
 use rules::Settings;
 use rules::Why;
 use wire::codes::fixed_width;
-use wire::u32_at;
 
 // Where the walk stands, what is left of the row's allowance, and the records and payload bytes that it has passed.
 pub struct Pos {
@@ -237,14 +239,13 @@ fn leaf_at(
     let Number::Is(tag, start) = t else {
         return Reached::Children;
     };
-    let k = node * 16;
-    let first = u32_at(block, k + 8);
-    let count = u32_at(block, k + 12);
+    let first = node_first(block, node);
+    let count = node_children(block, node);
     if count <= tag {
         return Reached::Children;
     }
     let child = (first + tag) as usize;
-    let below = block[child * 16];
+    let below = node_code(block, child);
     if 14 < below {
         return Reached::Children;
     }
@@ -283,7 +284,7 @@ fn skip_value(block: &[u8], node: usize, depth: usize, input: &[u8], p: Pos, cha
         records: p.records + 1,
         payload: p.payload,
     };
-    let code = block[node * 16];
+    let code = node_code(block, node);
     let reached = leaf_at(block, node, code, depth - 1, input, q, charge);
     match reached {
         Reached::Leaf(below, leaf) => {
@@ -321,9 +322,8 @@ fn skip_children(
     requires { ⌜ Coded (now block) node code × (14 < code) × Ready (now input) charge p ⌝ }
     ensures { λ r. ⌜ r ≡ nodeOf (now (block .entry)) (now (input .entry)) (skim (now (block .entry)) (now (input .entry)) charge depth) node p ⌝ }
 {
-    let k = node * 16;
-    let first = u32_at(block, k + 8);
-    let count = u32_at(block, k + 12);
+    let first = node_first(block, node);
+    let count = node_children(block, node);
     let mut q = p;
     let mut i: u64 = 0;
     loop {
@@ -381,7 +381,7 @@ pub fn skip_root(block: &[u8], input: &[u8], at: usize, settings: Settings) -> S
         records: 1,
         payload: 0,
     };
-    let s = skip_children(block, block[0], 0, 63, input, p, charge);
+    let s = skip_children(block, node_code(block, 0), 0, 63, input, p, charge);
     let Skipped::At(q) = s else {
         return s;
     };

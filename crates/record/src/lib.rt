@@ -1,3 +1,5 @@
-// The records of the flat tables, each with one size, one reader and one writer; and the payload beside them.
-pub mod payload;
+// The records of the flat tables, a file for each: its size, its one reader, and its writer where it is written.
+pub mod entry;
+pub mod node;
+pub mod reference;
 pub mod value;

@@ -13,13 +13,13 @@ use wire::u64_at;
 use wire::wide;
 
 // The bytes of a value record.
-const SIZE: usize = 16;
+const VALUE_RECORD_SIZE: usize = 16;
 
 // How many whole records so many bytes hold.
 pub fn records_in(bytes: u64) -> u64
     ensures { λ r. ⌜ r ≡ valueRecordsIn bytes ⌝ }
 {
-    bytes / SIZE as u64
+    bytes / VALUE_RECORD_SIZE as u64
 }
 
 // Record i.
@@ -27,7 +27,7 @@ pub fn value_record_at(records: &[u8], i: usize) -> ValueRecord
     requires { ⌜ ValueRecordIn i (length (now records)) ⌝ }
     ensures { λ r. ⌜ r ≡ valueRecordAt (now (records .entry)) i ⌝ }
 {
-    let at = i * SIZE;
+    let at = i * VALUE_RECORD_SIZE;
     ValueRecord {
         kind: records[at],
         spare: records[at + 1],
@@ -42,7 +42,7 @@ pub fn put_record(records: &mut [u8], i: usize, kind: u8, tag: u64, size: u64, c
     requires { ⌜ ValueRecordIn i (length (now records)) ⌝ }
     ensures { λ _. ⌜ now (records .exit) ≡ over (now (records .entry)) (valueRecordStart i) (layout (valueRecord kind tag size content)) ⌝ }
 {
-    let at = i * SIZE;
+    let at = i * VALUE_RECORD_SIZE;
     // the kind, and the zero above it
     put16(records, at, wide(kind));
     put16(records, at + 2, tag);

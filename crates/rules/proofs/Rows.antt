@@ -12,7 +12,7 @@ use Rattle.rules.specs.Block.{nodeAt, block, earlier, nameOk, childrenOk
 use Rattle.rules.specs.SchemaRules.{nodeRule, ruleAt, schemaRule, notTuple, rootRule, nameRule, childRule, tableRule}
 use Rattle.rules.specs.Format.{blockFormOk, blockDepthOk, blockRule, referenceAt, entryAt, entryName, lookup, resolved, tableSchema, referenceOk, ascending, entryOk, referenceFormOk, formsOk, entryDepthOk, referenceDepthOk, depthsOk, entryRule, rootOf, inlineRule, referenceRule, rulesOrder, sizesOk, formatRules, oneBlock, encoderRules}
 use Rattle.rules.specs.Value.{tally, items, values, recordsOf, payloadOf}
-use Rattle.rules.specs.ValueRecord.{layout, layouts, valueRecordAt, isRecord}
+use Rattle.rules.specs.ValueRecord.{valueRecordStart, layout, layouts, valueRecordAt, isRecord}
 use Rattle.rules.specs.ValueTable.{bit, pays, kind, sizeOf, contentOf, headOf, below, heads, flat, _>>=_ as _parsed>>=_, kindOf, storedAt, scalarAt, itemsAt, valuesAt, nodeOf, headed, valueAt, exactly, tableValue}
 use Rattle.rules.specs.Walk.{blobLimit, _>>=_, numberOf, bytesOf, charged, blobOf, childOf, pairsOf, fieldsOf, valueOf, walk}
 use Rattle.rules.specs.Reading.{settingsOk, limits, start, rootFrom, rowAt, extent, skipped, skipFrom, whenAccepted, skipRule, room, filled, decodeFrom, decodeRule}

@@ -1,4 +1,4 @@
--- A schema as a flat block of 16-byte records in level order: which blocks have the form, and what tree a block denotes.
+-- A schema as a flat block of records in level order: which blocks have the form, and what tree a block denotes.
 -- Assumes nothing: these are definitions.
 use Prim.Native.Nat.{ℕ, zero, suc, _+_, _*_, _/_, _%_, _≤_, _<_}
 use mathlib.Core.Path.{_≡_}
@@ -11,17 +11,40 @@ use Rattle.rules.specs.Bytes.{leAt, part}
 use Rattle.rules.specs.Schema.{Name, unnamed, named, Schema, node, Schemas, nil, cons, noSchema, deep}
 use Rattle.rules.specs.declared.Node.{Node}
 
+-- a schema record's bytes
+abbrev pub nodeSize : ℕ
+nodeSize = 16
+
+-- where the record of node i starts, and so how many bytes i records have
+abbrev pub nodeStart : ℕ → ℕ
+nodeStart i = i * nodeSize
+
+-- the record of node i lies in so many bytes
+abbrev pub NodeIn : ℕ → ℕ → Type 0
+NodeIn i bytes = nodeStart i + nodeSize ≤ bytes
+
 -- byte 0 wire code; byte 1 is 1 if named, else 0; 2..3 name length; 4..7 name start; 8..11 first child; 12..15 child count
 unfoldable pub nodeAt : List ℕ → ℕ → Node
-nodeAt s i = record { code = getD s (i * 16) 0; named = getD s (i * 16 + 1) 0; len = leAt s (i * 16 + 2) 2; start = leAt s (i * 16 + 4) 4; first = leAt s (i * 16 + 8) 4; children = leAt s (i * 16 + 12) 4 }
+nodeAt s i = record {
+  code = getD s (nodeStart i) 0;
+  named = getD s (nodeStart i + 1) 0;
+  len = leAt s (nodeStart i + 2) 2;
+  start = leAt s (nodeStart i + 4) 4;
+  first = leAt s (nodeStart i + 8) 4;
+  children = leAt s (nodeStart i + 12) 4;
+}
 
 -- the records of a table, whole ones
 abbrev pub records : List ℕ → ℕ
-records s = length s / 16
+records s = length s / nodeSize
+
+-- it has no other bytes
+abbrev pub wholeNodes : List ℕ → Bool
+wholeNodes s = eqb (length s % nodeSize) 0
 
 -- n records of a table from record `first` on
 unfoldable pub block : List ℕ → ℕ → ℕ → List ℕ
-block table first n = take (n * 16) (drop (first * 16) table)
+block table first n = take (nodeStart n) (drop (nodeStart first) table)
 
 -- ---- the form, as a test
 
@@ -51,7 +74,7 @@ recordAt s store i = recordOk (nodeAt s i) store i (1 + earlier s i)
 
 -- whole records, at most 131,072, each of the form, and 1 + the sum of all counts of them
 unfoldable pub blockOk : List ℕ → ℕ → Bool
-blockOk s store = eqb (length s % 16) 0 and leb (records s) 131072 and all (recordAt s store) (records s) and eqb (records s) (1 + earlier s (records s))
+blockOk s store = wholeNodes s and leb (records s) 131072 and all (recordAt s store) (records s) and eqb (records s) (1 + earlier s (records s))
 
 -- ---- the form, as facts
 
@@ -61,7 +84,7 @@ pub record LevelOrder (s : List ℕ) (i : ℕ) : Type 0 where
 
 -- what the tree needs of a block: records in level order
 pub record Ordered (s : List ℕ) : Type 0 where
-  pub size : length s ≡ (1 + earlier s (records s)) * 16
+  pub size : length s ≡ nodeStart (1 + earlier s (records s))
   pub most : records s ≤ 131072
   pub each : (i : ℕ) → i < records s → LevelOrder s i
 
@@ -104,7 +127,7 @@ module _ (s store : List ℕ) where
     -- the record of node i says what the schema says
     pub data Denotes : ℕ → Schema → Type 0 where
       denotes : {i k : ℕ} {m : Name} {ss : Schemas} →
-          i * 16 + 16 ≤ length s → nodeAt s i .code ≡ k → nameIn store (nodeAt s i) ≡ m → DenoteAll (nodeAt s i .first) (nodeAt s i .children) ss →
+          NodeIn i (length s) → nodeAt s i .code ≡ k → nameIn store (nodeAt s i) ≡ m → DenoteAll (nodeAt s i .first) (nodeAt s i .children) ss →
           Denotes i (node k m ss)
 
     -- so do n records from i on
@@ -117,4 +140,4 @@ module _ (s store : List ℕ) where
 
 -- each record's children lie in the block
 unfoldable pub Closed : List ℕ → Type 0
-Closed s = (i : ℕ) → i * 16 + 16 ≤ length s → (nodeAt s i .first + nodeAt s i .children) * 16 ≤ length s
+Closed s = (i : ℕ) → NodeIn i (length s) → nodeStart (nodeAt s i .first + nodeAt s i .children) ≤ length s

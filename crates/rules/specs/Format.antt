@@ -1,6 +1,6 @@
 -- A format: record table, name store, table references and registry. Its forms, its depths, and the order of its refusals.
 -- Assumes nothing: these are definitions.
-use Prim.Native.Nat.{ℕ, zero, suc, _+_, _*_, _%_}
+use Prim.Native.Nat.{ℕ, zero, suc, _+_, _*_, _/_, _%_, _≤_}
 use mathlib.Core.Bool.{Bool, true}
 use mathlib.Core.List.{List}
 use lib.ListN.{length, getD}
@@ -8,7 +8,7 @@ use lib.Dec.{ltb, leb, eqb}
 use Rattle.rules.specs.Choice.{pick, _and_, all}
 use Rattle.rules.specs.Bytes.{leAt, part, order, isLess, isEqual}
 use Rattle.rules.specs.Refusals.{_then_, inOrder, Setting, BadSchemaTable, TooDeep, EmptyTableSchemas, UnknownRegistryReference}
-use Rattle.rules.specs.Block.{records, block, spanOk, blockOk, depthOf}
+use Rattle.rules.specs.Block.{records, wholeNodes, block, spanOk, blockOk, depthOf}
 use Rattle.rules.specs.SchemaRules.{schemaRule, tableRule}
 use Rattle.rules.specs.declared.Reference.{Reference}
 use Rattle.rules.specs.declared.Entry.{Entry}
@@ -29,9 +29,6 @@ pub record Format : Type 0 where
 abbrev pub shortOk : List ℕ → Bool
 shortOk s = leb (length s) 4294967295
 
-abbrev pub wholeOk : List ℕ → Bool
-wholeOk s = eqb (length s % 16) 0
-
 -- ---- a block of the table, given by first record and record count
 
 -- it lies in the table and has the form (2)
@@ -48,13 +45,57 @@ blockRule table first n = schemaRule (block table first n) first 64 0
 
 -- ---- references and entries
 
+-- a table reference's bytes, where reference i starts, and that it lies in so many bytes
+abbrev pub referenceSize : ℕ
+referenceSize = 16
+
+abbrev pub referenceStart : ℕ → ℕ
+referenceStart i = i * referenceSize
+
+abbrev pub ReferenceIn : ℕ → ℕ → Type 0
+ReferenceIn i bytes = referenceStart i + referenceSize ≤ bytes
+
+-- how many whole references there are, and that there are no other bytes
+abbrev pub referenceCount : List ℕ → ℕ
+referenceCount s = length s / referenceSize
+
+abbrev pub wholeReferences : List ℕ → Bool
+wholeReferences s = eqb (length s % referenceSize) 0
+
 -- byte 0: 0 inline, 1 registry; 4..7 and 8..11: first record and record count, or name start and length; the rest 0
 unfoldable pub referenceAt : List ℕ → ℕ → Reference
-referenceAt s i = record { kind = getD s (i * 16) 0; spare = leAt s (i * 16 + 1) 3; start = leAt s (i * 16 + 4) 4; len = leAt s (i * 16 + 8) 4; rest = leAt s (i * 16 + 12) 4 }
+referenceAt s i = record {
+  kind = getD s (referenceStart i) 0;
+  spare = leAt s (referenceStart i + 1) 3;
+  start = leAt s (referenceStart i + 4) 4;
+  len = leAt s (referenceStart i + 8) 4;
+  rest = leAt s (referenceStart i + 12) 4;
+}
+
+-- the same for registry entries
+abbrev pub entrySize : ℕ
+entrySize = 16
+
+abbrev pub entryStart : ℕ → ℕ
+entryStart i = i * entrySize
+
+abbrev pub EntryIn : ℕ → ℕ → Type 0
+EntryIn i bytes = entryStart i + entrySize ≤ bytes
+
+abbrev pub entryCount : List ℕ → ℕ
+entryCount s = length s / entrySize
+
+abbrev pub wholeEntries : List ℕ → Bool
+wholeEntries s = eqb (length s % entrySize) 0
 
 -- name start, name length, first record, record count
 unfoldable pub entryAt : List ℕ → ℕ → Entry
-entryAt s i = record { start = leAt s (i * 16) 4; len = leAt s (i * 16 + 4) 4; first = leAt s (i * 16 + 8) 4; count = leAt s (i * 16 + 12) 4 }
+entryAt s i = record {
+  start = leAt s (entryStart i) 4;
+  len = leAt s (entryStart i + 4) 4;
+  first = leAt s (entryStart i + 8) 4;
+  count = leAt s (entryStart i + 12) 4;
+}
 
 unfoldable pub entryName : List ℕ → List ℕ → ℕ → List ℕ
 entryName names registry j = part names (entryAt registry j .start) (entryAt registry j .len)
@@ -70,12 +111,12 @@ lookup names registry name j (suc n) =
 unfoldable pub resolved : List ℕ → List ℕ → Reference → Located
 resolved names registry r =
     pick (eqb (r .kind) 0) (Block (r .start) (r .len))
-    (lookup names registry (part names (r .start) (r .len)) 0 (records registry))
+    (lookup names registry (part names (r .start) (r .len)) 0 (entryCount registry))
 
 module _ (f : Format) where
   -- how many tables there are
   abbrev pub tables : ℕ
-  tables = records (f .references)
+  tables = referenceCount (f .references)
 
   -- where table t's schema stands
   unfoldable pub tableSchema : ℕ → Located
@@ -104,8 +145,8 @@ module _ (f : Format) where
 
   unfoldable pub formsOk : Bool
   formsOk =
-      wholeOk (f .table) and wholeOk (f .references) and wholeOk (f .registry)
-      and all entryOk (records (f .registry)) and all referenceFormOk tables
+      wholeNodes (f .table) and wholeReferences (f .references) and wholeEntries (f .registry)
+      and all entryOk (entryCount (f .registry)) and all referenceFormOk tables
 
   -- ---- all depths (3)
   unfoldable pub entryDepthOk : ℕ → Bool
@@ -115,7 +156,7 @@ module _ (f : Format) where
   referenceDepthOk t = let r = referenceAt (f .references) t in pick (eqb (r .kind) 0) (blockDepthOk (f .table) (r .start) (r .len)) true
 
   unfoldable pub depthsOk : Bool
-  depthsOk = all entryDepthOk (records (f .registry)) and all referenceDepthOk tables
+  depthsOk = all entryDepthOk (entryCount (f .registry)) and all referenceDepthOk tables
 
   -- ---- the Rust's order: no tables; registry schemas in name order; then each table in turn: reference or inline schema, root, names
   unfoldable pub entryRule : ℕ → Checked
@@ -136,7 +177,7 @@ module _ (f : Format) where
   unfoldable pub rulesOrder : Checked
   rulesOrder =
       pick (eqb tables 0) (Refused EmptyTableSchemas)
-      (inOrder entryRule 0 (records (f .registry)) then inOrder referenceRule 0 tables)
+      (inOrder entryRule 0 (entryCount (f .registry)) then inOrder referenceRule 0 tables)
 
   unfoldable pub sizesOk : Bool
   sizesOk = shortOk (f .table) and shortOk (f .names) and shortOk (f .references) and shortOk (f .registry)
@@ -152,7 +193,7 @@ module _ (f : Format) where
 -- ---- one block by itself, given by numbers: form, depth, and what the rules say of it
 unfoldable pub oneBlock : List ℕ → List ℕ → ℕ → ℕ → Checked → Checked
 oneBlock table names first n rules =
-    pick (wholeOk table and blockFormOk table (length names) first n)
+    pick (wholeNodes table and blockFormOk table (length names) first n)
     (pick (blockDepthOk table first n) rules (Refused TooDeep))
     (Refused BadSchemaTable)
 

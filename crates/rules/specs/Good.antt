@@ -7,8 +7,8 @@ use mathlib.Core.Logic.{_⊎_}
 use lib.ListN.{length}
 use Rattle.rules.specs.Bytes.{part, order}
 use Rattle.rules.specs.Schema.{Schema, deep, Valid, TableRoot}
-use Rattle.rules.specs.Block.{records, block, Formed, blockTree, Denotes, Closed}
-use Rattle.rules.specs.Format.{Format, referenceAt, entryAt, entryName, tables, tableSchema}
+use Rattle.rules.specs.Block.{nodeSize, records, block, Formed, blockTree, Denotes, Closed}
+use Rattle.rules.specs.Format.{referenceSize, entrySize, entryCount, Format, referenceAt, entryAt, entryName, tables, tableSchema}
 use Rattle.rules.specs.Reading.{schemaOf}
 use Rattle.rules.specs.declared.Order.the-variants.{Less}
 use Rattle.rules.specs.declared.Reference.{Reference}
@@ -27,7 +27,7 @@ pub record GoodBlock (table names : List ℕ) (first n : ℕ) : Type 0 where
 pub record GoodSchema (table names : List ℕ) (first n : ℕ) : Type 0 where
   pub table-size : length table ≤ 4294967295
   pub names-size : length names ≤ 4294967295
-  pub whole : length table % 16 ≡ 0
+  pub whole : length table % nodeSize ≡ 0
   pub good : GoodBlock table names first n
 
 -- The encoder wants besides that the schema's root is a tuple whose children have non-empty names.
@@ -62,7 +62,7 @@ module _ (f : Format) where
     pub kind : r .kind ≡ 1
     pub name : r .start + r .len ≤ length (f .names)
     pub entry : ℕ
-    pub below : entry < records (f .registry)
+    pub below : entry < entryCount (f .registry)
     pub same : entryName (f .names) (f .registry) entry ≡ part (f .names) (r .start) (r .len)
     pub root : TableRoot (schemaFrom (entryAt (f .registry) entry .first) (entryAt (f .registry) entry .count))
 
@@ -74,12 +74,12 @@ module _ (f : Format) where
 
   -- Whole records in table, references and registry; at least one table; good entries, their names strictly ascending; good references.
   pub record GoodTables : Type 0 where
-    pub whole-table : length (f .table) % 16 ≡ 0
-    pub whole-references : length (f .references) % 16 ≡ 0
-    pub whole-registry : length (f .registry) % 16 ≡ 0
+    pub whole-table : length (f .table) % nodeSize ≡ 0
+    pub whole-references : length (f .references) % referenceSize ≡ 0
+    pub whole-registry : length (f .registry) % entrySize ≡ 0
     pub some : 0 < tables f
-    pub entries : (j : ℕ) → j < records (f .registry) → GoodEntry j
-    pub ascends : Ascending (entryName (f .names) (f .registry)) (records (f .registry))
+    pub entries : (j : ℕ) → j < entryCount (f .registry) → GoodEntry j
+    pub ascends : Ascending (entryName (f .names) (f .registry)) (entryCount (f .registry))
     pub references : (t : ℕ) → t < tables f → GoodReference (referenceAt (f .references) t)
 
   -- Besides, each of the four slices has at most 4,294,967,295 bytes.

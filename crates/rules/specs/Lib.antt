@@ -18,5 +18,6 @@ pub mod Good
 pub mod Answers
 pub mod Windows
 pub mod Writing
+pub mod Lines
 pub mod RoundTrip
 pub mod Rows

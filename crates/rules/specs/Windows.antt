@@ -4,15 +4,18 @@ use Prim.Native.Nat.{ℕ, _+_, _≤_}
 use mathlib.Core.Path.{_≡_}
 use mathlib.Core.Bool.{Bool, true, false}
 use mathlib.Core.List.{List, [], _∷_, _++_, map}
-use lib.Dec.{eqb}
-use Rattle.rules.specs.Choice.{pick}
-use Rattle.rules.specs.Refusals.{lineOf, refusalNumber}
+use lib.ListN.{length}
+use lib.Dec.{leb, eqb}
+use Rattle.rules.specs.Choice.{pick, _and_}
+use Rattle.rules.specs.Refusals.{Setting, lineOf, refusalNumber}
 use Rattle.rules.specs.Walk.{Answer, Got, onward}
-use Rattle.rules.specs.Reading.{RowSpan, Run, byteCount}
+use Rattle.rules.specs.Format.{Format}
+use Rattle.rules.specs.Reading.{RowSpan, Run, byteCount, ranOf, refusedRun, runRule}
 use Rattle.rules.specs.declared.Refusal.{Refusal}
 use Rattle.rules.specs.declared.Stop.{Stop}
 use Rattle.rules.specs.declared.Stop.the-variants.{End, Refused}
 use Rattle.rules.specs.declared.Ran.{Ran}
+use Rattle.rules.specs.declared.Settings.{Settings}
 
 -- A refusal of a slice, told of a stream in which the slice starts at n: in reading, places count from the slice's start, and the table of
 -- refusals says which do.
@@ -51,3 +54,11 @@ continued r rest = record { rows = r .rows ++ map (movedRow (byteCount (r .rows)
 -- the same in counts
 unfoldable pub added : Ran → Ran → Ran
 added r rest = record { rows = r .rows + rest .rows; bytes = r .bytes + rest .bytes; stop = movedStop (r .bytes) (rest .stop) }
+
+-- The run over a stream of which so many rows, of so many bytes, were accepted, and whose bytes after them are the window. A stream of
+-- more than 4,294,967,295 bytes is refused by 1, and so are more rows than bytes, which no stream has.
+unfoldable pub runAfter : Format → Settings → ℕ → ℕ → List ℕ → Ran
+runAfter f s rows bytes window =
+    pick (leb rows bytes and leb (bytes + length window) 4294967295)
+    (added (record { rows = rows; bytes = bytes; stop = End }) (ranOf (runRule f s window)))
+    (ranOf (refusedRun Setting))

@@ -10,8 +10,8 @@ use lib.ListN.{length}
 use lib.Dec.{eqb}
 use Rattle.rules.specs.Choice.{pick, _and_, all}
 use Rattle.rules.specs.Bytes.{part, order, isLess}
-use Rattle.rules.specs.Block.{records}
-use Rattle.rules.specs.Format.{wholeOk, blockDepthOk, blockRule, entryAt, referenceAt, entryName, referenceOk, ascending, entryOk, referenceFormOk, formsOk, entryDepthOk, referenceDepthOk, depthsOk, entryRule}
+use Rattle.rules.specs.Block.{wholeNodes}
+use Rattle.rules.specs.Format.{wholeReferences, entryCount, wholeEntries, blockDepthOk, blockRule, entryAt, referenceAt, entryName, referenceOk, ascending, entryOk, referenceFormOk, formsOk, entryDepthOk, referenceDepthOk, depthsOk, entryRule}
 use Rattle.rules.specs.declared.Entry.{Entry}
 use Rattle.rules.specs.declared.Reference.{Reference}
 use Rattle.rules.specs.declared.Order.{Order}
@@ -37,9 +37,9 @@ entry-any : (table names references registry : List ℕ) (j : ℕ) → entryOk (
 unfolding entryOk
 entry-any table names references registry j = rw (ascending-any table references names registry j, ascending-any table [] names registry j)
 
-pub forms-is : (table names references registry : List ℕ) → formsOk (slices table names references registry) ≡ wholeOk table and wholeOk references and wholeOk registry and entriesOk table names registry and referencesOk table names references
+pub forms-is : (table names references registry : List ℕ) → formsOk (slices table names references registry) ≡ wholeNodes table and wholeReferences references and wholeEntries registry and entriesOk table names registry and referencesOk table names references
 unfolding formsOk referenceFormOk referenceOk
-forms-is table names references registry = rw (all-same _ _ (entry-any table names references registry) (records registry))
+forms-is table names references registry = rw (all-same _ _ (entry-any table names references registry) (entryCount registry))
 
 pub depths-is : (table names references registry : List ℕ) → depthsOk (slices table names references registry) ≡ entriesShallow table registry and referencesShallow table references
 unfolding depthsOk entryDepthOk referenceDepthOk
@@ -90,7 +90,7 @@ module _ (table names registry : List ℕ) where
   pub entries-named : entriesOk table names registry ≡ true → EntriesNamed names registry
   entries-named e = record {
     inside = λ j h. entry-gives j (all-each _ _ j e h) .0;
-    ascend = ascending-iff (slices table names [] registry) (records registry) .0 (λ j h. entry-ascends j (all-each _ _ j e h));
+    ascend = ascending-iff (slices table names [] registry) (entryCount registry) .0 (λ j h. entry-ascends j (all-each _ _ j e h));
   }
 
   pub entries-sound : entriesOk table names registry ≡ true → EntriesSound table registry

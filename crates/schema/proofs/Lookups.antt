@@ -8,8 +8,7 @@ use native.Mathlib.Omega.{arith}
 use native.Mathlib.Decide.{decLt}
 use Rattle.rules.specs.Choice.{pick}
 use Rattle.rules.specs.Bytes.{part, order, isEqual}
-use Rattle.rules.specs.Block.{records}
-use Rattle.rules.specs.Format.{entryAt, entryName, lookup}
+use Rattle.rules.specs.Format.{entryCount, entryAt, entryName, lookup}
 use Rattle.rules.specs.declared.Entry.{Entry}
 use Rattle.rules.specs.declared.Order.{Order}
 use Rattle.rules.specs.declared.Order.the-variants.{Less, Equal, Greater}
@@ -20,21 +19,21 @@ use Rattle.schema.specs.Slices.{EntriesNamed}
 
 -- an entry with the name lies from `low` on and below `high`
 abbrev pub Between : List ℕ → List ℕ → List ℕ → ℕ → ℕ → Type 0
-Between names registry name low high = (i : ℕ) → i < records registry → entryName names registry i ≡ name → (low ≤ i) × (i < high)
+Between names registry name low high = (i : ℕ) → i < entryCount registry → entryName names registry i ≡ name → (low ≤ i) × (i < high)
 
-pub between-all : (names registry name : List ℕ) (n : ℕ) → n ≡ records registry → Between names registry name 0 n
+pub between-all : (names registry name : List ℕ) (n : ℕ) → n ≡ entryCount registry → Between names registry name 0 n
 between-all names registry name n e i h q = (omega arith, rw e h)
 
-pub between-none : (names registry name : List ℕ) (low high : ℕ) → Between names registry name low high → high ≤ low → NoEntry ≡ lookup names registry name 0 (records registry)
+pub between-none : (names registry name : List ℕ) (low high : ℕ) → Between names registry name low high → high ≤ low → NoEntry ≡ lookup names registry name 0 (entryCount registry)
 between-none names registry name low high b h = sym (lookup-misses names registry name .1 (λ i l q. let c = b i l q in omega (arith, c)))
 
 -- what the name of one entry tells
-module _ (names registry name : List ℕ) (ok : EntriesNamed names registry) (k : ℕ) (h : k < records registry) (e : Entry) (is : e ≡ entryAt registry k) (o : Order) (says : o ≡ order (part names (e .start) (e .len)) name) where
+module _ (names registry name : List ℕ) (ok : EntriesNamed names registry) (k : ℕ) (h : k < entryCount registry) (e : Entry) (is : e ≡ entryAt registry k) (o : Order) (says : o ≡ order (part names (e .start) (e .len)) name) where
   told : order (entryName names registry k) name ≡ o
   unfolding entryName
   told = rw (← is, says)
 
-  pub lookup-hit : o ≡ Equal → Block (e .first) (e .count) ≡ lookup names registry name 0 (records registry)
+  pub lookup-hit : o ≡ Equal → Block (e .first) (e .count) ≡ lookup names registry name 0 (entryCount registry)
   lookup-hit q = sym (lookup-finds names registry name (ok .ascend) (e .first) (e .count) .1 (record { entry = k; below = h; same = order-equal _ _ (told ∙ q); first-is = rw is; count-is = rw is }))
 
   -- a lesser name rules out all before it, a greater one all after it, and each itself
@@ -46,7 +45,7 @@ module _ (names registry name : List ℕ) (ok : EntriesNamed names registry) (k 
       by (no m) = absurd (less-self name (from (decLt i k)))
         where
           from : Dec (i < k) → order name name ≡ Less
-          from (yes n) = order-less-trans _ _ _ (rw same at (less-than (entryName names registry) (records registry) (ok .ascend) i k n h)) (told ∙ q)
+          from (yes n) = order-less-trans _ _ _ (rw same at (less-than (entryName names registry) (entryCount registry) (ok .ascend) i k n h)) (told ∙ q)
           from (no n) = let z : i ≡ k = omega arith in rw (rw z at same) at (told ∙ q)
 
   pub between-earlier : (low high : ℕ) → Between names registry name low high → o ≡ Greater → Between names registry name low k
@@ -57,7 +56,7 @@ module _ (names registry name : List ℕ) (ok : EntriesNamed names registry) (k 
       by (no m) = absurd (from (decLt k i))
         where
           from : Dec (k < i) → ⊥
-          from (yes n) = let z : _≡_ {A = ℕ} 0 1 = cc (rw same at (less-than (entryName names registry) (records registry) (ok .ascend) k i n l), told, q) in omega arith
+          from (yes n) = let z : _≡_ {A = ℕ} 0 1 = cc (rw same at (less-than (entryName names registry) (entryCount registry) (ok .ascend) k i n l), told, q) in omega arith
           from (no n) = let y : i ≡ k = omega arith in let z : _≡_ {A = ℕ} 0 1 = cc (order-same name, rw (rw y at same) at told, q) in omega arith
 
 -- what holds of each entry's block holds of the one that is found

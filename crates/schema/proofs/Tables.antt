@@ -10,8 +10,7 @@ use lib.Dec.{eqb}
 use Rattle.rules.specs.Choice.{pick}
 use Rattle.rules.specs.Refusals.{_then_, inOrder, EmptyTableSchemas}
 use Rattle.rules.specs.Bytes.{part}
-use Rattle.rules.specs.Block.{records}
-use Rattle.rules.specs.Format.{Format, referenceAt, entryAt, lookup, resolved, formsOk, inlineRule, rootOf, referenceRule, entryRule, rulesOrder}
+use Rattle.rules.specs.Format.{referenceCount, entryCount, Format, referenceAt, entryAt, lookup, resolved, formsOk, inlineRule, rootOf, referenceRule, entryRule, rulesOrder}
 use Rattle.rules.specs.declared.Reference.{Reference}
 use Rattle.rules.specs.declared.Refusal.{Refusal}
 use Rattle.rules.specs.declared.Checked.{Checked}
@@ -36,16 +35,16 @@ forms table names references registry e =
     }
 
 -- what holds of each entry's block and of an inline block holds of the block that is found
-pub resolved-in : (names registry : List ℕ) (r : Reference) (P : ℕ → ℕ → Type 0) → ((j : ℕ) → j < records registry → P (entryAt registry j .first) (entryAt registry j .count)) → (r .kind ≡ 0 → P (r .start) (r .len)) → (first n : ℕ) → resolved names registry r ≡ Block first n → P first n
+pub resolved-in : (names registry : List ℕ) (r : Reference) (P : ℕ → ℕ → Type 0) → ((j : ℕ) → j < entryCount registry → P (entryAt registry j .first) (entryAt registry j .count)) → (r .kind ≡ 0 → P (r .start) (r .len)) → (first n : ℕ) → resolved names registry r ≡ Block first n → P first n
 unfolding resolved pick
 resolved-in names registry r P h i first n e = by (eqb (r .kind) 0) refl e
   where
-    by : (b : Bool) → eqb (r .kind) 0 ≡ b → pick b (Block (r .start) (r .len)) (lookup names registry (part names (r .start) (r .len)) 0 (records registry)) ≡ Block first n → P first n
+    by : (b : Bool) → eqb (r .kind) 0 ≡ b → pick b (Block (r .start) (r .len)) (lookup names registry (part names (r .start) (r .len)) 0 (entryCount registry)) ≡ Block first n → P first n
     by true q e =
         let x : first ≡ r .start = cc in
         let y : n ≡ r .len = cc in
         rw (x, y) (i (eqb-true _ _ q))
-    by false q e = lookup-in _ _ _ P 0 (records registry) first n (λ k l. h k (omega arith)) e
+    by false q e = lookup-in _ _ _ P 0 (entryCount registry) first n (λ k l. h k (omega arith)) e
 
 -- ---- a table's rule by its steps
 root-any : (table names references registry : List ℕ) (t : ℕ) (l : Located) → rootOf (slices table names references registry) t l ≡ rootOf (slices table [] [] []) t l
@@ -67,6 +66,6 @@ module _ (table names references registry : List ℕ) (t : ℕ) (r : Reference) 
 pub table-turn : (f : Format) (t : ℕ) (r : Checked) → r ≡ referenceRule f t → r ≡ referenceRule f (0 + t)
 table-turn f t r e = let z : 0 + t ≡ t = omega arith in rw z e
 
-pub rules-is : (table names references registry : List ℕ) → rulesOrder (slices table names references registry) ≡ pick (eqb (records references) 0) (Refused EmptyTableSchemas) (entriesRule table registry then inOrder (referenceRule (slices table names references registry)) 0 (records references))
+pub rules-is : (table names references registry : List ℕ) → rulesOrder (slices table names references registry) ≡ pick (eqb (referenceCount references) 0) (Refused EmptyTableSchemas) (entriesRule table registry then inOrder (referenceRule (slices table names references registry)) 0 (referenceCount references))
 unfolding rulesOrder entryRule
 rules-is table names references registry = refl

@@ -7,16 +7,18 @@ ghost use Rattle.rules.specs.Choice.{pick};
 ghost use Rattle.rules.specs.Format.{blockDepthOk, depthsOk};
 ghost use Rattle.flat.specs.Sound.{Sound};
 ghost use Rattle.schema.specs.Slices.{slices, entriesShallow, referencesShallow, EntriesSound, InlineSound};
-use super::format::entry_at;
-use super::format::reference_at;
 use flat::table::block_depth_ok;
+use record::entry::ENTRY_SIZE;
+use record::entry::entry_at;
+use record::reference::REFERENCE_SIZE;
+use record::reference::reference_at;
 use rules::Reference;
 
 fn entries_shallow(table: &[u8], registry: &[u8]) -> bool
     requires { ⌜ EntriesSound (now table) (now registry) ⌝ }
     ensures { λ r. ⌜ r ≡ entriesShallow (now (table .entry)) (now (registry .entry)) ⌝ }
 {
-    let m = (registry.len() / 16) as u64;
+    let m = (registry.len() / ENTRY_SIZE) as u64;
     let mut j = 0;
     while j < m {
         let e = entry_at(registry, j);
@@ -44,7 +46,7 @@ fn references_shallow(table: &[u8], references: &[u8]) -> bool
     requires { ⌜ InlineSound (now table) (now references) ⌝ }
     ensures { λ r. ⌜ r ≡ referencesShallow (now (table .entry)) (now (references .entry)) ⌝ }
 {
-    let m = (references.len() / 16) as u64;
+    let m = (references.len() / REFERENCE_SIZE) as u64;
     let mut t = 0;
     while t < m {
         if !reference_shallow(table, reference_at(references, t)) {

@@ -1,52 +1,27 @@
 // References and the registry: where a table's schema stands.
 ghost use mathlib.Core.Path.{_≡_};
 ghost use mathlib.Core.List.{[]};
-ghost use Prim.Native.Nat.{_+_, _*_, _≤_};
+ghost use Prim.Native.Nat.{_+_, _≤_};
 ghost use lib.ListN.{length};
 ghost use Rattle.rules.specs.Bytes.{part};
-ghost use Rattle.rules.specs.Block.{records};
-ghost use Rattle.rules.specs.Format.{entryAt, referenceAt, lookup, resolved, tableSchema};
+ghost use Rattle.rules.specs.Format.{entryCount, lookup, resolved, tableSchema};
 ghost use Rattle.schema.specs.Slices.{slices, EntriesNamed, ReferencesNamed};
-use rules::Entry;
+use record::entry::ENTRY_SIZE;
+use record::entry::entry_at;
+use record::reference::REFERENCE_SIZE;
+use record::reference::reference_at;
 use rules::Located;
 use rules::Order;
 use rules::Reference;
-
-pub fn reference_at(s: &[u8], i: u64) -> Reference
-    requires { ⌜ i * 16 + 16 ≤ length (now s) ⌝ }
-    ensures { λ r. ⌜ r ≡ referenceAt (now (s .entry)) i ⌝ }
-{
-    let at = (i * 16) as usize;
-    Reference {
-        kind: s[at],
-        spare: wire::field(s, at + 1, 3),
-        start: wire::u32_at(s, at + 4),
-        len: wire::u32_at(s, at + 8),
-        rest: wire::u32_at(s, at + 12),
-    }
-}
-
-pub fn entry_at(s: &[u8], i: u64) -> Entry
-    requires { ⌜ i * 16 + 16 ≤ length (now s) ⌝ }
-    ensures { λ r. ⌜ r ≡ entryAt (now (s .entry)) i ⌝ }
-{
-    let at = (i * 16) as usize;
-    Entry {
-        start: wire::u32_at(s, at),
-        len: wire::u32_at(s, at + 4),
-        first: wire::u32_at(s, at + 8),
-        count: wire::u32_at(s, at + 12),
-    }
-}
 
 // The block of the registry's entry that has the name. The names ascend, so half of what is left is ruled out at each turn: a row of a
 // table with a name costs no walk over the registry.
 pub fn lookup(names: &[u8], registry: &[u8], start: u64, len: u64) -> Located
     requires { ⌜ EntriesNamed (now names) (now registry) × (start + len ≤ length (now names)) ⌝ }
-    ensures { λ r. ⌜ r ≡ lookup (now (names .entry)) (now (registry .entry)) (part (now (names .entry)) start len) 0 (records (now (registry .entry))) ⌝ }
+    ensures { λ r. ⌜ r ≡ lookup (now (names .entry)) (now (registry .entry)) (part (now (names .entry)) start len) 0 (entryCount (now (registry .entry))) ⌝ }
 {
     let mut low: u64 = 0;
-    let mut high = (registry.len() / 16) as u64;
+    let mut high = (registry.len() / ENTRY_SIZE) as u64;
     while low < high {
         let middle = low + (high - low) / 2;
         let e = entry_at(registry, middle);
@@ -91,7 +66,7 @@ pub fn table_schema(names: &[u8], references: &[u8], registry: &[u8], t: u64) ->
     requires { ⌜ EntriesNamed (now names) (now registry) × ReferencesNamed (now names) (now references) ⌝ }
     ensures { λ r. ⌜ r ≡ tableSchema (slices [] (now (names .entry)) (now (references .entry)) (now (registry .entry))) t ⌝ }
 {
-    let m = (references.len() / 16) as u64;
+    let m = (references.len() / REFERENCE_SIZE) as u64;
     if m <= t {
         return Located::NoTable;
     }

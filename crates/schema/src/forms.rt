@@ -2,16 +2,19 @@
 ghost use mathlib.Core.Path.{_≡_};
 ghost use mathlib.Core.Bool.{true};
 ghost use mathlib.Core.List.{[]};
-ghost use Prim.Native.Nat.{ℕ, _+_, _*_, _≤_};
+ghost use Prim.Native.Nat.{ℕ, _+_, _≤_};
 ghost use lib.ListN.{length};
 ghost use Rattle.rules.specs.Choice.{all};
 ghost use Rattle.rules.specs.Bytes.{isLess};
-ghost use Rattle.rules.specs.Format.{entryAt, referenceOk, ascending, entryOk, formsOk};
+ghost use Rattle.rules.specs.Format.{EntryIn, entryAt, referenceOk, ascending, entryOk, formsOk};
 ghost use Rattle.schema.specs.Slices.{slices, entriesOk, referencesOk};
-use super::format::entry_at;
-use super::format::reference_at;
 use flat::block::span_ok;
 use flat::table::block_form_ok;
+use record::entry::ENTRY_SIZE;
+use record::entry::entry_at;
+use record::node::NODE_SIZE;
+use record::reference::REFERENCE_SIZE;
+use record::reference::reference_at;
 use rules::Order;
 use rules::Reference;
 
@@ -27,7 +30,7 @@ fn is_less(o: Order) -> bool
 
 // Entry j's name is greater than the one before it.
 fn ascending(names: &[u8], registry: &[u8], j: u64) -> bool
-    requires { ⌜ (j * 16 + 16 ≤ length (now registry)) × ((i : ℕ) → i ≤ j → entryAt (now registry) i .start + entryAt (now registry) i .len ≤ length (now names)) ⌝ }
+    requires { ⌜ EntryIn j (length (now registry)) × ((i : ℕ) → i ≤ j → entryAt (now registry) i .start + entryAt (now registry) i .len ≤ length (now names)) ⌝ }
     ensures { λ r. ⌜ r ≡ ascending (slices [] (now (names .entry)) [] (now (registry .entry))) j ⌝ }
 {
     if j == 0 {
@@ -46,7 +49,7 @@ fn ascending(names: &[u8], registry: &[u8], j: u64) -> bool
 
 // The entries before it have the form: their names can be read.
 fn entry_ok(table: &[u8], names: &[u8], registry: &[u8], j: u64) -> bool
-    requires { ⌜ (j * 16 + 16 ≤ length (now registry)) × (all (entryOk (slices (now table) (now names) [] (now registry))) j ≡ true) ⌝ }
+    requires { ⌜ EntryIn j (length (now registry)) × (all (entryOk (slices (now table) (now names) [] (now registry))) j ≡ true) ⌝ }
     ensures { λ r. ⌜ r ≡ entryOk (slices (now (table .entry)) (now (names .entry)) [] (now (registry .entry))) j ⌝ }
 {
     let store = names.len() as u64;
@@ -63,7 +66,7 @@ fn entry_ok(table: &[u8], names: &[u8], registry: &[u8], j: u64) -> bool
 fn entries_ok(table: &[u8], names: &[u8], registry: &[u8]) -> bool
     ensures { λ r. ⌜ r ≡ entriesOk (now (table .entry)) (now (names .entry)) (now (registry .entry)) ⌝ }
 {
-    let m = (registry.len() / 16) as u64;
+    let m = (registry.len() / ENTRY_SIZE) as u64;
     let mut j = 0;
     while j < m {
         if !entry_ok(table, names, registry, j) {
@@ -99,7 +102,7 @@ fn reference_ok(table: &[u8], names: &[u8], r: Reference) -> bool
 fn references_ok(table: &[u8], names: &[u8], references: &[u8]) -> bool
     ensures { λ r. ⌜ r ≡ referencesOk (now (table .entry)) (now (names .entry)) (now (references .entry)) ⌝ }
 {
-    let m = (references.len() / 16) as u64;
+    let m = (references.len() / REFERENCE_SIZE) as u64;
     let mut t = 0;
     while t < m {
         if !reference_ok(table, names, reference_at(references, t)) {
@@ -113,13 +116,13 @@ fn references_ok(table: &[u8], names: &[u8], references: &[u8]) -> bool
 pub fn forms_ok(table: &[u8], names: &[u8], references: &[u8], registry: &[u8]) -> bool
     ensures { λ r. ⌜ r ≡ formsOk (slices (now (table .entry)) (now (names .entry)) (now (references .entry)) (now (registry .entry))) ⌝ }
 {
-    if table.len() % 16 != 0 {
+    if table.len() % NODE_SIZE != 0 {
         return false;
     }
-    if references.len() % 16 != 0 {
+    if references.len() % REFERENCE_SIZE != 0 {
         return false;
     }
-    if registry.len() % 16 != 0 {
+    if registry.len() % ENTRY_SIZE != 0 {
         return false;
     }
     if entries_ok(table, names, registry) {

@@ -3,15 +3,16 @@ ghost use mathlib.Core.Path.{_≡_};
 ghost use mathlib.Core.List.{[]};
 ghost use Prim.Native.Nat.{ℕ, _<_};
 ghost use Rattle.rules.specs.Refusals.{inOrder};
-ghost use Rattle.rules.specs.Block.{records};
-ghost use Rattle.rules.specs.Format.{inlineRule, rootOf, referenceRule, rulesOrder};
+ghost use Rattle.rules.specs.Format.{referenceCount, inlineRule, rootOf, referenceRule, rulesOrder};
 ghost use Rattle.flat.specs.Sound.{Sound};
 ghost use Rattle.schema.specs.Slices.{slices, entriesRule, EntriesSound, Forms};
-use super::format::entry_at;
-use super::format::reference_at;
 use super::format::resolve;
 use flat::table::block_root;
 use flat::table::block_rule;
+use record::entry::ENTRY_SIZE;
+use record::entry::entry_at;
+use record::reference::REFERENCE_SIZE;
+use record::reference::reference_at;
 use rules::Checked;
 use rules::Located;
 use rules::Purpose;
@@ -23,7 +24,7 @@ fn entries_rule(table: &[u8], registry: &[u8]) -> Checked
     requires { ⌜ EntriesSound (now table) (now registry) ⌝ }
     ensures { λ r. ⌜ r ≡ entriesRule (now (table .entry)) (now (registry .entry)) ⌝ }
 {
-    let m = (registry.len() / 16) as u64;
+    let m = (registry.len() / ENTRY_SIZE) as u64;
     let mut j = 0;
     while j < m {
         let e = entry_at(registry, j);
@@ -68,7 +69,7 @@ fn root_of(table: &[u8], t: u64, found: Located) -> Checked
 
 // Table t: its reference or inline schema, its root, its names.
 fn reference_rule(table: &[u8], names: &[u8], references: &[u8], registry: &[u8], t: u64) -> Checked
-    requires { ⌜ Forms (slices (now table) (now names) (now references) (now registry)) × (t < records (now references)) ⌝ }
+    requires { ⌜ Forms (slices (now table) (now names) (now references) (now registry)) × (t < referenceCount (now references)) ⌝ }
     ensures { λ r. ⌜ r ≡ referenceRule (slices (now (table .entry)) (now (names .entry)) (now (references .entry)) (now (registry .entry))) t ⌝ }
 {
     let r = reference_at(references, t);
@@ -81,9 +82,9 @@ fn reference_rule(table: &[u8], names: &[u8], references: &[u8], registry: &[u8]
 
 fn references_rule(table: &[u8], names: &[u8], references: &[u8], registry: &[u8]) -> Checked
     requires { ⌜ Forms (slices (now table) (now names) (now references) (now registry)) ⌝ }
-    ensures { λ r. ⌜ r ≡ inOrder (referenceRule (slices (now (table .entry)) (now (names .entry)) (now (references .entry)) (now (registry .entry)))) 0 (records (now (references .entry))) ⌝ }
+    ensures { λ r. ⌜ r ≡ inOrder (referenceRule (slices (now (table .entry)) (now (names .entry)) (now (references .entry)) (now (registry .entry)))) 0 (referenceCount (now (references .entry))) ⌝ }
 {
-    let m = (references.len() / 16) as u64;
+    let m = (references.len() / REFERENCE_SIZE) as u64;
     let mut t = 0;
     while t < m {
         let one = reference_rule(table, names, references, registry, t);
@@ -100,7 +101,7 @@ pub fn rules_order(table: &[u8], names: &[u8], references: &[u8], registry: &[u8
     requires { ⌜ Forms (slices (now table) (now names) (now references) (now registry)) ⌝ }
     ensures { λ r. ⌜ r ≡ rulesOrder (slices (now (table .entry)) (now (names .entry)) (now (references .entry)) (now (registry .entry))) ⌝ }
 {
-    if references.len() / 16 == 0 {
+    if references.len() / REFERENCE_SIZE == 0 {
         return Checked::Refused(Refusal::EMPTY_TABLE_SCHEMAS);
     }
     let entries = entries_rule(table, registry);

@@ -1,6 +1,6 @@
 -- A row of a checked format, step by step.
 -- Assumes nothing.
-use Prim.Native.Nat.{ℕ, _+_, _-_, _*_, _≤_, _<_}
+use Prim.Native.Nat.{ℕ, _+_, _-_, _≤_, _<_}
 use mathlib.Core.Path.{_≡_, refl, sym, _∙_, ap}
 use mathlib.Core.Bool.{Bool, true, false}
 use mathlib.Core.List.{List, []}
@@ -11,7 +11,7 @@ use lib.ListN.{length, take, drop}
 use Rattle.rules.specs.Choice.{pick}
 use Rattle.rules.specs.Bytes.{leAt, Bytes}
 use Rattle.rules.specs.Schema.{Schema, TableRoot}
-use Rattle.rules.specs.Block.{nodeAt, records, block, Denotes, denotes}
+use Rattle.rules.specs.Block.{nodeStart, nodeAt, block, Denotes, denotes}
 use Rattle.rules.specs.Format.{Format, tableSchema}
 use Rattle.rules.specs.Value.{Value}
 use Rattle.rules.specs.Walk as rule
@@ -157,10 +157,10 @@ module _ (names references registry inp : List ℕ) (at : ℕ) (x : Place) (is :
       by (number-is.Refused s) w y = let z : r ≡ s = cc in rw z (table-cut inp at (number-is.Refused s) (sym w) (slices table names references registry) lim s refl)
 
 -- ---- the root's value
-pub part-block : (table : List ℕ) (first n : ℕ) → take (first * 16 + n * 16 - first * 16) (drop (first * 16) table) ≡ block table first n
+pub part-block : (table : List ℕ) (first n : ℕ) → take (nodeStart first + nodeStart n - nodeStart first) (drop (nodeStart first) table) ≡ block table first n
 unfolding block
 part-block table first n =
-    let e : first * 16 + n * 16 - first * 16 ≡ n * 16 = omega arith in
+    let e : nodeStart first + nodeStart n - nodeStart first ≡ nodeStart n = omega arith in
     rw e
 
 module _ (table inp : List ℕ) (lim : Limits) (at t first n : ℕ) (s : Skipped) (is : s ≡ skimmed lim (walk (block table first n) inp lim 64 0 (start lim (at + 2)))) where

@@ -10,6 +10,7 @@ use read::fields::Number;
 use read::fields::read_table;
 use read::walk::Skipped;
 use read::walk::skip_root;
+use record::node::NODE_SIZE;
 use rules::Extent;
 use rules::Located;
 use rules::Ran;
@@ -89,8 +90,8 @@ pub fn row_of(
     requires { ⌜ Walkable (now table) (now input) at first count settings ⌝ }
     ensures { λ r. ⌜ r ≡ rowIn (now (table .entry)) (now (input .entry)) (limits settings) at tag first count ⌝ }
 {
-    let start = first as usize * 16;
-    let end = start + count as usize * 16;
+    let start = first as usize * NODE_SIZE;
+    let end = start + count as usize * NODE_SIZE;
     let value = skip_root(&table[start..end], input, at + 2, settings);
     let Skipped::At(q) = value else {
         return no_value(value);

@@ -1,9 +1,9 @@
-use Prim.Native.Nat.{_+_, _*_, _≤_}
+use Prim.Native.Nat.{_+_}
 use native.Mathlib.Omega.{arith}
 use mathlib.Core.Path.{refl}
 use lib.ListN.{length}
 use borrow.Author.Needs.{needs}
-use Rattle.rules.specs.Block.{nodeAt, Closed}
+use Rattle.rules.specs.Block.{NodeIn, Closed}
 use Rattle.fill.specs.Plain.{valueOf, readAt}
 use Rattle.values.proofs.Sizes.{one-record}
 use Rattle.fill.proofs.Leads.{leads-self, leads-on, within, inside, leads-child}
@@ -23,31 +23,22 @@ tag-at-requires c κs =
     let m = c .if2 .left in
     (l, omega (arith, m), within _ _ _ _ _ (s .pre .2) (s .args .s) (s .args .tag) (s .args .records .now) (s .pre .3 .is) l (omega (arith, m)) _ _ refl refl _ refl)
 
-mul-u32-at : tie.Need-mul-u32-at
-mul-u32-at c = search needs
-
-add-u32-at : tie.Need-add-u32-at
-add-u32-at c = search needs
-
-u32-at-requires : tie.Need-u32-at-requires
-u32-at-requires c κs = search needs
+node-first-requires : tie.Need-node-first-requires
+node-first-requires c κs = search needs
 
 -- the child that the tag names lies in the block
-there : (c : tie.After-u32-at) → (c .u32-at .result + c .before .tag-at .result) * 16 + 16 ≤ length (c .before .before .before .before .before .before .before .args .block .now)
+there : (c : tie.After-node-first) → NodeIn (c .node-first .result + c .before .tag-at .result) (length (c .before .before .before .before .before .before .before .args .block .now))
 unfolding Closed
 there c =
     let s = c .before .before .before .before .before .before .before in
-    let i = inside _ _ _ _ _ (s .pre .2) (s .args .s) (s .args .tag) (s .args .records .now) (s .pre .3 .is) (c .before .before .before .if1 .left) (omega (arith, c .before .before .if2 .left)) _ _ (c .before .tag-at .ensures .0) refl _ (c .u32-at .ensures) in
+    let i = inside _ _ _ _ _ (s .pre .2) (s .args .s) (s .args .tag) (s .args .records .now) (s .pre .3 .is) (c .before .before .before .if1 .left) (omega (arith, c .before .before .if2 .left)) _ _ (c .before .tag-at .ensures .0) refl _ (c .node-first .ensures) in
     omega (arith, i, s .pre .0 (s .args .node) (s .pre .1))
 
 add-child : tie.Need-add-child
 add-child c = omega (arith, there c, c .before .before .before .before .before .before .before .good)
 
-mul-below : tie.Need-mul-below
-mul-below c = omega (arith, there c, c .before .before .before .before .before .before .before .good)
-
-shared-slice-read-below : tie.Need-shared-slice-read-below
-shared-slice-read-below c = omega (arith, there (c .before))
+node-code-requires : tie.Need-node-code-requires
+node-code-requires c κs = there c
 
 returns-3 : tie.Need-returns-3
 returns-3 c = leads-on _ _ _ _ _ (c .before .before .before .before .before .before .before .before .before .pre .2) _ _ _ (c .before .before .before .before .before .if1 .left)
@@ -58,14 +49,14 @@ put-record-requires c κs = let s = c .before .before .before .before .before .b
 tag-width-requires : tie.Need-tag-width-requires
 tag-width-requires c κs = search needs
 
-add-t16 : tie.Need-add-t16
-add-t16 c =
+add-t21 : tie.Need-add-t21
+add-t21 c =
     let s = c .before .before .before .before .before .before .before .before .before .before .before .before .before .before in
     let w = within _ _ _ _ _ (s .pre .2) (s .args .s) (s .args .tag) (s .args .records .now) (s .pre .3 .is) (c .before .before .before .before .before .before .before .before .before .before .if1 .left) (omega (arith, c .before .before .before .before .before .before .before .before .before .if2 .left)) _ _ refl (c .tag-width .ensures) _ refl in
     omega (arith, w, s .good)
 
-add-t24 : tie.Need-add-t24
-add-t24 c = search needs
+add-t22 : tie.Need-add-t22
+add-t22 c = search needs
 
 same-length : tie.Need-same-length
 same-length c = search needs
@@ -73,7 +64,7 @@ same-length c = search needs
 returns-4 : tie.Need-returns-4
 returns-4 c =
     let s = c .before .before .before .before .before .before .before .before .before .before .before .before .before .before in
-    leads-child _ _ _ _ _ (s .pre .2) _ _ _ (s .pre .3 .is) (c .before .before .before .before .before .before .before .before .before .before .if1 .left) (omega (arith, c .before .before .before .before .before .before .before .before .before .if2 .left)) _ _ (c .before .before .before .before .before .before .before .before .tag-at .ensures .0) (c .tag-width .ensures) _ (c .before .before .before .before .before .before .before .u32-at .ensures) (omega (arith, c .before .before .before .before .before .if3 .left)) _ (c .before .before .before .put-record .ensures)
+    leads-child _ _ _ _ _ (s .pre .2) _ _ _ (s .pre .3 .is) (c .before .before .before .before .before .before .before .before .before .before .if1 .left) (omega (arith, c .before .before .before .before .before .before .before .before .before .if2 .left)) _ _ (c .before .before .before .before .before .before .before .before .tag-at .ensures .0) (c .tag-width .ensures) _ (c .before .before .before .before .before .before .before .node-first .ensures) _ (c .before .before .before .before .before .before .node-code .ensures) (omega (arith, c .before .before .before .before .before .if3 .left)) _ (c .before .before .before .put-record .ensures)
 
 pub leaf-at-spec : {M : Type 1} → statement M
 leaf-at-spec =
@@ -82,16 +73,13 @@ leaf-at-spec =
     returns
     returns-2
     tag-at-requires
-    mul-u32-at
-    add-u32-at
-    u32-at-requires
+    node-first-requires
     add-child
-    mul-below
-    shared-slice-read-below
+    node-code-requires
     returns-3
     put-record-requires
     tag-width-requires
-    add-t16
-    add-t24
+    add-t21
+    add-t22
     same-length
     returns-4)

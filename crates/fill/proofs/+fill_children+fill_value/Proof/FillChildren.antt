@@ -4,7 +4,7 @@ use Prim.Native.Nat.{ℕ, _-_}
 use mathlib.Core.Path.{_∙_}
 use lib.ListN.{length}
 use Rattle.rules.specs.Wire.{form}
-use Rattle.rules.specs.Block.{nodeAt, Closed}
+use Rattle.rules.specs.Block.{records, nodeAt, Closed}
 use Rattle.fill.specs.Plain.{valueOf, endOf, readAt}
 use Rattle.fill.specs.Filling.{Room}
 use Rattle.fill.proofs.Children.{children, there, Turn, Opened, opened}
@@ -35,41 +35,25 @@ module _ (t : ℕ) where
       let next = c .before .next .given .0 in
       Turn (a .input .now) rec n (form (n .code)) (l .n) (l .inv .enough) (endOf (readAt (a .block .now) (a .input .now) (a .depth) (a .node) (a .s .at))) (l .inv .rest) (next .0) (next .1 .0) (next .1 .1 .0)
       × Room (rec (next .1 .0) (next .1 .1 .0)) (spot (next .1 .1 .0) (l .q .records) (l .q .payload)) (length (l .records)) (length (l .payload))
-  unfolding nodeAt
   turned c =
       let s = c .before .before .before .before .before .before .before .before .before .before .before .before in
       let l = c .before .before .before .before .loop in
       let p = start s .begins .parent in
-      let e = rw (c .before .before .before .before .before .before .u32-at .ensures, c .before .before .before .before .before .u32-at2 .ensures) at (c .before .before .before .next-child .ensures) in
+      let e = rw (c .before .before .before .before .before .before .before .node-code .ensures, c .before .before .before .before .before .before .node-first .ensures, c .before .before .before .before .before .node-children .ensures) at (c .before .before .before .next-child .ensures) in
       let u = next-turn (l .inv) _ _ _ _ e (c .before .next .given .1) in
       (u, child-room (l .inv) _ _ _ u (rw (p .records) at (s .pre .1 .3 .records)) (rw (p .payload) at (s .pre .1 .3 .payload)))
 
-  pub mul-code : lts.Need-mul-code (fill-children-calls t) (fill-children-at t) fill-children.Post Inv-loop μ-loop
-  mul-code c = search needs
+  pub node-code-requires : lts.Need-node-code-requires (fill-children-calls t) (fill-children-at t) fill-children.Post Inv-loop μ-loop
+  node-code-requires c κs = search needs
 
-  pub shared-slice-read-code : lts.Need-shared-slice-read-code (fill-children-calls t) (fill-children-at t) fill-children.Post Inv-loop μ-loop
-  shared-slice-read-code c = search needs
+  pub node-first-requires : lts.Need-node-first-requires (fill-children-calls t) (fill-children-at t) fill-children.Post Inv-loop μ-loop
+  node-first-requires c κs = search needs
 
-  pub mul-u32-at : lts.Need-mul-u32-at (fill-children-calls t) (fill-children-at t) fill-children.Post Inv-loop μ-loop
-  mul-u32-at c = search needs
+  pub node-children-requires : lts.Need-node-children-requires (fill-children-calls t) (fill-children-at t) fill-children.Post Inv-loop μ-loop
+  node-children-requires c κs = search needs
 
-  pub add-u32-at : lts.Need-add-u32-at (fill-children-calls t) (fill-children-at t) fill-children.Post Inv-loop μ-loop
-  add-u32-at c = search needs
-
-  pub u32-at-requires : lts.Need-u32-at-requires (fill-children-calls t) (fill-children-at t) fill-children.Post Inv-loop μ-loop
-  u32-at-requires c κs = search needs
-
-  pub mul-u32-at-2 : lts.Need-mul-u32-at-2 (fill-children-calls t) (fill-children-at t) fill-children.Post Inv-loop μ-loop
-  mul-u32-at-2 c = search needs
-
-  pub add-u32-at-2 : lts.Need-add-u32-at-2 (fill-children-calls t) (fill-children-at t) fill-children.Post Inv-loop μ-loop
-  add-u32-at-2 c = search needs
-
-  pub u32-at-requires-2 : lts.Need-u32-at-requires-2 (fill-children-calls t) (fill-children-at t) fill-children.Post Inv-loop μ-loop
-  u32-at-requires-2 c κs = search needs
-
-  pub add-t26 : lts.Need-add-t26 (fill-children-calls t) (fill-children-at t) fill-children.Post Inv-loop μ-loop
-  add-t26 c =
+  pub add-t23 : lts.Need-add-t23 (fill-children-calls t) (fill-children-at t) fill-children.Post Inv-loop μ-loop
+  add-t23 c =
       let s = c .before .before .before .before .before .before .before in
       omega (arith, start s .begins .parent .records, s .pre .1 .3 .records, s .good)
 
@@ -77,11 +61,11 @@ module _ (t : ℕ) where
   loop-holds c = going-first _ _ _ _ _ _ _ _ _ _ _ (start (c .before .before .before .before .before .before .before) .begins .all)
 
   pub next-child-requires : lts.Need-next-child-requires (fill-children-calls t) (fill-children-at t) fill-children.Post Inv-loop μ-loop
-  unfolding nodeAt Closed
+  unfolding Closed
   next-child-requires c κs =
       let s = c .before .before .before .before .before .before .before .before in
       let k = s .pre .1 .0 (s .args .node) (s .pre .1 .1) in
-      (s .pre .1 .2, start s .known, omega (arith, k, c .before .before .u32-at .ensures, c .before .u32-at2 .ensures, s .good), there _ _ _ _ _ _ _ _ _ (c .loop .inv .reads))
+      rw (c .before .before .before .node-code .ensures) (s .pre .1 .2, start s .known, omega (arith, k, c .before .before .node-first .ensures, c .before .node-children .ensures, s .good), there _ _ _ _ _ _ _ _ _ (c .loop .inv .reads))
 
   pub enum-known-next : lts.Need-enum-known-next (fill-children-calls t) (fill-children-at t) fill-children.Post Inv-loop μ-loop
   enum-known-next c = search needs
@@ -120,8 +104,7 @@ module _ (t : ℕ) where
   enum-known-next-2 c = search needs
 
   pub kind-of-requires : lts.Need-kind-of-requires (fill-children-calls t) (fill-children-at t) fill-children.Post Inv-loop μ-loop
-  unfolding nodeAt
-  kind-of-requires c κs = (c .before .before .before .before .before .before .before .before .before .before .before .before .before .pre .1 .2, start (c .before .before .before .before .before .before .before .before .before .before .before .before .before) .known)
+  kind-of-requires c κs = rw (c .before .before .before .before .before .before .before .before .node-code .ensures) (c .before .before .before .before .before .before .before .before .before .before .before .before .before .pre .1 .2, start (c .before .before .before .before .before .before .before .before .before .before .before .before .before) .known)
 
   pub put-record-requires : lts.Need-put-record-requires (fill-children-calls t) (fill-children-at t) fill-children.Post Inv-loop μ-loop
   put-record-requires c κs =
@@ -138,9 +121,8 @@ module _ (t : ℕ) where
   same-length-2 c = c .before .before .before .before .before .before .before .before .before .before .loop .inv .same-payload
 
   pub returns : lts.Need-returns (fill-children-calls t) (fill-children-at t) fill-children.Post Inv-loop μ-loop
-  unfolding nodeAt
   returns c =
       let l = c .before .before .before .before .before .before .before .before .before .before .loop in
-      let e = rw (c .before .before .before .before .before .before .before .before .before .before .before .before .u32-at .ensures, c .before .before .before .before .before .before .before .before .before .before .before .u32-at2 .ensures) at (c .before .before .before .before .before .before .before .before .before .next-child .ensures) in
+      let e = rw (c .before .before .before .before .before .before .before .before .before .before .before .before .before .node-code .ensures, c .before .before .before .before .before .before .before .before .before .before .before .before .node-first .ensures, c .before .before .before .before .before .before .before .before .before .before .before .node-children .ensures) at (c .before .before .before .before .before .before .before .before .before .next-child .ensures) in
       let k = next-end (l .inv) _ _ e (c .before .before .before .before .before .before .before .next2 .given .1) in
-      rw (c .moved2 .ensures) (finish _ (l .inv) (k .0) _ _ _ _ _ (start (c .before .before .before .before .before .before .before .before .before .before .before .before .before .before .before .before .before .before) .begins .parent) (k .1) (rw (c .before .before .before .before .kind-of .ensures) at (c .before .before .before .put-record .ensures)))
+      rw (c .moved2 .ensures) (finish _ (l .inv) (k .0) _ _ _ _ _ (start (c .before .before .before .before .before .before .before .before .before .before .before .before .before .before .before .before .before .before) .begins .parent) (k .1) (rw (c .before .before .before .before .kind-of .ensures, c .before .before .before .before .before .before .before .before .before .before .before .before .before .node-code .ensures) at (c .before .before .before .put-record .ensures)))

@@ -1,25 +1,20 @@
 use borrow.Author.Needs.{needs}
 use native.Mathlib.Omega.{arith}
 use Prim.Native.Nat.{ℕ}
-use mathlib.Core.Path.{refl, _∙_}
-use Rattle.rules.specs.Block.{nodeAt}
+use mathlib.Core.Path.{_∙_}
 use Rattle.fill.proofs.Leads.{reached-leaf, reached-children}
 use Rattle.fill.proofs.fill_value.Reads as fill-value
 use Rattle.fill.proofs.+fill_children+fill_value.Lts-fill_value as lts
 use Rattle.fill.proofs.+fill_children+fill_value.Proof.Setup.{fill-value-at, fill-value-calls}
 
 module _ (t : ℕ) where
-  pub mul-code : lts.Need-mul-code (fill-value-calls t) (fill-value-at t) fill-value.Post
-  mul-code c = search needs
-
-  pub shared-slice-read-code : lts.Need-shared-slice-read-code (fill-value-calls t) (fill-value-at t) fill-value.Post
-  shared-slice-read-code c = search needs
+  pub node-code-requires : lts.Need-node-code-requires (fill-value-calls t) (fill-value-at t) fill-value.Post
+  node-code-requires c κs = search needs
 
   pub leaf-at-requires : lts.Need-leaf-at-requires (fill-value-calls t) (fill-value-at t) fill-value.Post
-  unfolding nodeAt
   leaf-at-requires c κs =
       let p = c .before .before .before .before .before .before .pre .1 in
-      (p .0, p .1, refl, record { is = p .2 .is; records = p .2 .records })
+      (p .0, p .1, c .before .node-code .ensures, record { is = p .2 .is; records = p .2 .records })
 
   pub enum-known-reached : lts.Need-enum-known-reached (fill-value-calls t) (fill-value-at t) fill-value.Post
   enum-known-reached c = search needs
@@ -44,11 +39,10 @@ module _ (t : ℕ) where
   enum-told c = search needs
 
   pub fill-children-requires : lts.Need-fill-children-requires (fill-value-calls t) (fill-value-at t) fill-value.Post
-  unfolding nodeAt
   fill-children-requires c κs =
       let s = c .before .before .before .before .before .before .before .before .before .before .before .before .before in
       let l = reached-children _ _ _ _ _ _ _ _ (c .before .before .before .before .before .before .leaf-at .ensures) (c .before .before .enum-told .given .1) in
-      (omega (arith, s .pre .0), (s .pre .1 .0, s .pre .1 .1, l .0, rw (c .before .before .before .before .before .before .leaf-at .kept .1 .1 .1 .1 .1 .1 .1 .0) (s .pre .1 .2)))
+      (omega (arith, s .pre .0), (s .pre .1 .0, s .pre .1 .1, rw (← c .before .before .before .before .before .before .before .before .node-code .ensures) (l .0), rw (c .before .before .before .before .before .before .leaf-at .kept .1 .1 .1 .1 .1 .1 .1 .0) (s .pre .1 .2)))
 
   pub same-length-3 : lts.Need-same-length-3 (fill-value-calls t) (fill-value-at t) fill-value.Post
   same-length-3 c = c .before .before .before .before .fill-children .kept .1 .1 .1 .1 .1 .1 .0 ∙ c .before .before .before .before .before .before .before .before .before .before .before .leaf-at .kept .1 .1 .1 .1 .1 .1 .1 .0

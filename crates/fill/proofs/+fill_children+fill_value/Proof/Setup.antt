@@ -13,7 +13,9 @@ use Rattle.fill.proofs.kind_of.Reads as kind-of-reads
 use Rattle.fill.proofs.moved.Reads as moved-reads
 use Rattle.fill.proofs.next_child.Reads as next-child-reads
 use Rattle.record.proofs.value.put_record.Reads as put-record-reads
-use Rattle.wire.proofs.numbers.u32_at.Reads as u32-at-reads
+use Rattle.record.proofs.node.node_children.Reads as node-children-reads
+use Rattle.record.proofs.node.node_code.Reads as node-code-reads
+use Rattle.record.proofs.node.node_first.Reads as node-first-reads
 
 abbrev pub μ-fill-children : Measures 4 fill-children-kinds.ps ℕ
 μ-fill-children κs a = 2 * a .1 .1 .0
@@ -34,7 +36,7 @@ abbrev pub fill-value-below : ℕ → In 4 fill-value-kinds.ps
 fill-value-below t = and 4 fill-value-kinds.ps (falls 4 fill-value-kinds.ps _<_ μ-fill-value t) fill-value.Pre
 
 abbrev pub fill-children-calls : ℕ → fill-children-lts.Claims
-fill-children-calls t = (u32-at-reads.Asked, u32-at-reads.Learnt, next-child-reads.Asked, next-child-reads.Learnt, moved-reads.Asked, moved-reads.Learnt, fill-value-below t, fill-value.Post, kind-of-reads.Asked, kind-of-reads.Learnt, put-record-reads.Asked, put-record-reads.Learnt)
+fill-children-calls t = (node-code-reads.Asked, node-code-reads.Learnt, node-first-reads.Asked, node-first-reads.Learnt, node-children-reads.Asked, node-children-reads.Learnt, next-child-reads.Asked, next-child-reads.Learnt, moved-reads.Asked, moved-reads.Learnt, fill-value-below t, fill-value.Post, kind-of-reads.Asked, kind-of-reads.Learnt, put-record-reads.Asked, put-record-reads.Learnt)
 
 abbrev pub fill-value-calls : ℕ → fill-value-lts.Claims
-fill-value-calls t = (leaf-at-reads.Asked, leaf-at-reads.Learnt, fill-leaf-reads.Asked, fill-leaf-reads.Learnt, fill-children-below t, fill-children.Post)
+fill-value-calls t = (node-code-reads.Asked, node-code-reads.Learnt, leaf-at-reads.Asked, leaf-at-reads.Learnt, fill-leaf-reads.Asked, fill-leaf-reads.Learnt, fill-children-below t, fill-children.Post)

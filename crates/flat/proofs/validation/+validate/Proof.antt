@@ -1,12 +1,12 @@
 use borrow.Author.Needs.{needs}
 use native.Mathlib.Omega.{arith}
-use Prim.Native.Nat.{ℕ, _+_, _-_, _*_, _≤_, _<_}
+use Prim.Native.Nat.{ℕ, _+_, _-_, _≤_, _<_}
 use mathlib.Core.Path.{_≡_, sym, _∙_}
 use lib.ListN.{length}
 use borrow.Fn.Kinds.{In}
 use borrow.Fn.PlainCycle.{Measures, is, falls, and}
 use Rattle.rules.specs.Refusals.{_then_, inOrder}
-use Rattle.rules.specs.Block.{Closed}
+use Rattle.rules.specs.Block.{nodeStart, Closed}
 use Rattle.rules.specs.SchemaRules.{schemaRule}
 use Rattle.rules.proofs.Checks.{in-order-none, in-order-end}
 use Rattle.blocks.proofs.Rules.{schemaRule-suc}
@@ -14,7 +14,7 @@ use Rattle.flat.proofs.Turns.{turn-on, turn-off}
 use Rattle.flat.proofs.validation.validate.Reads as validate
 use Rattle.flat.proofs.validation.validate.Kinds as kinds
 use Rattle.flat.proofs.validation.+validate.Lts-validate as lts
-use Rattle.flat.proofs.block.node_at.Reads as node-at
+use Rattle.record.proofs.node.node_at.Reads as node-at
 use Rattle.flat.proofs.validation.node_rule.Reads as node-rule
 use Rattle.flat.proofs.validation.+validate.{statement}
 use Rattle.flat.proofs.validation.+validate.Tie.{close}
@@ -68,7 +68,7 @@ module _ (t : ℕ) where
   loop-holds c = (omega arith, rw (schemaRule-suc _ _ _ _ (c .before .before .before .before .if1 .left), ← c .before .before .before .node-at .ensures, ← c .before .before .node-rule .ensures, c .enum-told .given .1) (in-order-none _ _ _))
 
   -- the children lie in the block
-  fits : (c : lts.In-loop (calls t) (at t) validate.Post Inv-loop μ-loop) → (c .before .before .before .before .before .node-at .result .first + c .before .before .before .before .before .node-at .result .children) * 16 ≤ length (c .before .before .before .before .before .before .before .before .args .s .now)
+  fits : (c : lts.In-loop (calls t) (at t) validate.Post Inv-loop μ-loop) → nodeStart (c .before .before .before .before .before .node-at .result .first + c .before .before .before .before .before .node-at .result .children) ≤ length (c .before .before .before .before .before .before .before .before .args .s .now)
   unfolding Closed
   fits c =
       let start = c .before .before .before .before .before .before .before .before in

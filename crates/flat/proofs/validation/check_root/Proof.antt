@@ -1,10 +1,10 @@
 use borrow.Author.Needs.{needs}
 use native.Mathlib.Omega.{arith}
 use mathlib.Core.Path.{_≡_, sym, ap, _∙_}
-use Prim.Native.Nat.{_+_, _-_, _*_, _≤_}
+use Prim.Native.Nat.{_+_, _-_, _≤_}
 use lib.ListN.{length}
 use Rattle.rules.specs.Refusals.{_then_, inOrder}
-use Rattle.rules.specs.Block.{Closed}
+use Rattle.rules.specs.Block.{nodeStart, Closed}
 use Rattle.rules.specs.SchemaRules.{childRule, tableRule}
 use Rattle.rules.specs.declared.Node.{Node}
 use Rattle.rules.proofs.Checks.{in-order-none, in-order-end}
@@ -39,7 +39,7 @@ loop-holds : tie.Need-loop-holds Inv-loop μ-loop
 loop-holds c = (omega arith, in-order-none _ _ _)
 
 -- the columns lie in the block
-fits : (c : tie.In-loop Inv-loop μ-loop) → (c .before .before .before .before .before .node-at .result .first + c .before .before .before .before .before .node-at .result .children) * 16 ≤ length (c .before .before .before .before .before .before .before .args .s .now)
+fits : (c : tie.In-loop Inv-loop μ-loop) → nodeStart (c .before .before .before .before .before .node-at .result .first + c .before .before .before .before .before .node-at .result .children) ≤ length (c .before .before .before .before .before .before .before .args .s .now)
 unfolding Closed
 fits c =
     let start = c .before .before .before .before .before .before .before in

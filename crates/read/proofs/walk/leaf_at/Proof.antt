@@ -26,32 +26,20 @@ enum-told c = search needs
 returns-4 : tie.Need-returns-4
 returns-4 c = leads-on _ _ _ _ _ (c .before .before .before .before .before .before .before .before .before .pre .0) _ (c .before .before .before .before .before .before .if1 .left)
 
-mul-k : tie.Need-mul-k
-mul-k c = search needs
+node-first-requires : tie.Need-node-first-requires
+node-first-requires c κs = search needs
 
-add-u32-at : tie.Need-add-u32-at
-add-u32-at c = search needs
-
-u32-at-requires : tie.Need-u32-at-requires
-u32-at-requires c κs = search needs
-
-add-u32-at-2 : tie.Need-add-u32-at-2
-add-u32-at-2 c = search needs
-
-u32-at-requires-2 : tie.Need-u32-at-requires-2
-u32-at-requires-2 c κs = search needs
+node-children-requires : tie.Need-node-children-requires
+node-children-requires c κs = search needs
 
 returns-5 : tie.Need-returns-5
 returns-5 c = leads-on _ _ _ _ _ (c .before .before .before .before .before .before .before .before .before .before .before .before .before .pre .0) _ (c .before .before .before .before .before .before .before .before .before .before .if1 .left)
 
 add-child : tie.Need-add-child
-add-child c = let k = node-children _ _ _ _ _ (c .before .before .before .before .before .before .before .before .before .before .before .before .before .pre .0) (c .before .before .u32-at .ensures) (c .before .u32-at2 .ensures) in omega (arith, k, c .if4 .left)
+add-child c = let k = node-children _ _ _ _ _ (c .before .before .before .before .before .before .before .before .before .before .before .before .before .pre .0) (c .before .before .node-first .ensures) (c .before .node-children .ensures) in omega (arith, k, c .if4 .left)
 
-mul-below : tie.Need-mul-below
-mul-below c = let k = node-children _ _ _ _ _ (c .before .before .before .before .before .before .before .before .before .before .before .before .before .pre .0) (c .before .before .u32-at .ensures) (c .before .u32-at2 .ensures) in omega (arith, k, c .if4 .left)
-
-shared-slice-read-below : tie.Need-shared-slice-read-below
-shared-slice-read-below c = let k = node-children _ _ _ _ _ (c .before .before .before .before .before .before .before .before .before .before .before .before .before .before .pre .0) (c .before .before .before .u32-at .ensures) (c .before .before .u32-at2 .ensures) in omega (arith, k, c .before .if4 .left)
+node-code-requires : tie.Need-node-code-requires
+node-code-requires c κs = let k = node-children _ _ _ _ _ (c .before .before .before .before .before .before .before .before .before .before .before .before .before .pre .0) (c .before .before .node-first .ensures) (c .before .node-children .ensures) in omega (arith, k, c .if4 .left)
 
 returns-6 : tie.Need-returns-6
 returns-6 c = leads-on _ _ _ _ _ (c .before .before .before .before .before .before .before .before .before .before .before .before .before .before .before .pre .0) _ (c .before .before .before .before .before .before .before .before .before .before .before .before .if1 .left)
@@ -68,11 +56,11 @@ enum-told-2 c = search needs
 returns-7 : tie.Need-returns-7
 returns-7 c = leads-on _ _ _ _ _ (c .before .before .before .before .before .before .before .before .before .before .before .before .before .before .before .before .before .before .pre .0) _ (c .before .before .before .before .before .before .before .before .before .before .before .before .before .before .before .if1 .left)
 
-add-t22 : tie.Need-add-t22
-add-t22 c = search needs
+add-t20 : tie.Need-add-t20
+add-t20 c = search needs
 
 returns-8 : tie.Need-returns-8
-returns-8 c = leads-child _ _ _ _ _ _ (c .before .before .before .before .before .before .before .before .before .before .before .before .before .before .before .before .before .before .before .before .pre .0) _ (c .before .before .before .before .before .before .before .before .before .before .before .before .before .before .before .before .before .before .before .before .pre .1) _ _ (c .before .before .before .before .before .before .before .before .before .u32-at .ensures) (c .before .before .before .before .before .before .before .before .u32-at2 .ensures) (c .before .before .before .before .before .before .before .before .before .before .before .before .before .before .before .before .before .if1 .left) (omega (arith, c .before .before .before .before .before .before .before .before .before .before .before .before .before .before .before .before .if2 .left)) (c .before .before .before .before .before .before .before .before .before .before .before .before .before .before .before .if3 .left) _ (c .before .before .before .before .before .before .before .before .before .before .before .before .before .read-tag .ensures) _ _ (c .before .before .before .before .before .before .before .before .before .before .before .t .given .1) (c .before .before .before .before .before .before .before .if4 .left) (omega (arith, c .before .before .before .before .before .if5 .left)) _ (c .before .before .before .before .charge .ensures) _ (c .before .before .paid .given .1)
+returns-8 c = leads-child _ _ _ _ _ _ (c .before .before .before .before .before .before .before .before .before .before .before .before .before .before .before .before .before .before .before .before .pre .0) _ (c .before .before .before .before .before .before .before .before .before .before .before .before .before .before .before .before .before .before .before .before .pre .1) _ _ (c .before .before .before .before .before .before .before .before .before .node-first .ensures) (c .before .before .before .before .before .before .before .before .node-children .ensures) (c .before .before .before .before .before .before .before .before .before .before .before .before .before .before .before .before .before .if1 .left) (omega (arith, c .before .before .before .before .before .before .before .before .before .before .before .before .before .before .before .before .if2 .left)) (c .before .before .before .before .before .before .before .before .before .before .before .before .before .before .before .if3 .left) _ (c .before .before .before .before .before .before .before .before .before .before .before .before .before .read-tag .ensures) _ _ (c .before .before .before .before .before .before .before .before .before .before .before .t .given .1) (c .before .before .before .before .before .before .before .if4 .left) _ (c .before .before .before .before .before .before .node-code .ensures) (omega (arith, c .before .before .before .before .before .if5 .left)) _ (c .before .before .before .before .charge .ensures) _ (c .before .before .paid .given .1)
 
 pub leaf-at-spec : {M : Type 1} → statement M
 leaf-at-spec =
@@ -85,19 +73,15 @@ leaf-at-spec =
     enum-known-t
     enum-told
     returns-4
-    mul-k
-    add-u32-at
-    u32-at-requires
-    add-u32-at-2
-    u32-at-requires-2
+    node-first-requires
+    node-children-requires
     returns-5
     add-child
-    mul-below
-    shared-slice-read-below
+    node-code-requires
     returns-6
     charge-requires
     enum-known-paid
     enum-told-2
     returns-7
-    add-t22
+    add-t20
     returns-8)

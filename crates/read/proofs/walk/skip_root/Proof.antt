@@ -1,5 +1,4 @@
-use mathlib.Core.Path.{refl, sym, _∙_}
-use Rattle.rules.specs.Block.{nodeAt}
+use mathlib.Core.Path.{sym, _∙_}
 use Rattle.read.proofs.Root.{root-dear, root-paid, root-ready}
 use borrow.Author.Needs.{needs}
 use Rattle.read.proofs.walk.skip_root.Statement.{statement}
@@ -23,14 +22,13 @@ dear-requires c κs = search needs
 returns : tie.Need-returns
 returns c = c .dear .ensures _ (c .before .enum-told .given .1) ∙ root-dear _ _ _ _ _ (c .before .before .before .before .new .ensures) _ (c .before .before .before .charge .ensures) _ (c .before .enum-told .given .1)
 
-shared-slice-read-skip-children : tie.Need-shared-slice-read-skip-children
-shared-slice-read-skip-children c = search needs
+node-code-requires : tie.Need-node-code-requires
+node-code-requires c κs = search needs
 
 skip-children-requires : tie.Need-skip-children-requires
-unfolding nodeAt
 skip-children-requires c κs =
     let k = c .before .before .before .before .before .before .before .before .pre in
-    (record { sound = k .sound; inside = k .root; is = refl }, k .compound, root-ready _ _ _ _ _ (c .before .before .before .before .before .new .ensures) _ (c .before .before .before .before .charge .ensures) _ (c .before .before .paid .given .1) k)
+    (record { sound = k .sound; inside = k .root; is = c .node-code .ensures }, rw (c .node-code .ensures) (k .compound), root-ready _ _ _ _ _ (c .before .before .before .before .before .new .ensures) _ (c .before .before .before .before .charge .ensures) _ (c .before .before .paid .given .1) k)
 
 enum-known-s : tie.Need-enum-known-s
 enum-known-s c = search needs
@@ -54,7 +52,7 @@ skip-root-spec =
     enum-told
     dear-requires
     returns
-    shared-slice-read-skip-children
+    node-code-requires
     skip-children-requires
     enum-known-s
     enum-told-2

@@ -4,12 +4,13 @@ use Prim.Native.Nat.{_+_, _-_, _/_, _≤_, _<_}
 use mathlib.Core.Path.{refl}
 use Rattle.rules.specs.Bytes.{part}
 use Rattle.rules.specs.Block.{records}
+use Rattle.rules.specs.Format.{entryCount}
 use Rattle.schema.proofs.Lookups.{Between, between-all, between-none, between-later, between-earlier, lookup-hit}
 use Rattle.schema.proofs.format.lookup.Statement.{statement}
 use Rattle.schema.proofs.format.lookup.Tie as tie
 
 abbrev Inv-loop : tie.InvT-loop
-Inv-loop names registry start len low₀ high₀ low high = (low ≤ high) × ((high ≤ records registry) × Between names registry (part names start len) low high)
+Inv-loop names registry start len low₀ high₀ low high = (low ≤ high) × ((high ≤ entryCount registry) × Between names registry (part names start len) low high)
 
 abbrev μ-loop : tie.MeasureT-loop
 μ-loop names registry start len low₀ high₀ low high = high - low

@@ -8,30 +8,31 @@ use Rattle.read.proofs.Onward.{skim-at}
 use Rattle.read.proofs.Nodes.{node-code, node-children, node-start}
 use borrow.Author.Needs.{needs}
 use native.Mathlib.Omega.{arith}
-use Prim.Native.Nat.{ℕ, suc, _+_, _-_, _*_, _≤_}
+use Prim.Native.Nat.{ℕ, suc, _+_, _-_, _≤_}
 use mathlib.Core.Path.{_≡_}
 use Rattle.read.proofs.walk.skip_children.Reads as skip-children
 use Rattle.read.proofs.walk.+skip_children+skip_value.Lts-skip_children as lts
 use Rattle.read.proofs.walk.+skip_children+skip_value.Proof.Setup.{skip-children-at, skip-children-calls}
+use Rattle.rules.specs.Block.{nodeStart}
 
 -- what is left of the children, from here, comes to the whole
 abbrev pub Inv-loop : lts.InvT-loop
-Inv-loop block code node depth input charge k first count q₀ i₀ q i =
+Inv-loop block code node depth input charge first count q₀ i₀ q i =
     (i ≤ count + q .at) × (Ready input charge q
     × ((enough : ℕ) × (Fuelled (shapeOf code) (length input - q .at) enough
     × (steps input (skim block input charge depth) code first count (shapeOf code) i enough q ≡ nodeOf block input (skim block input charge depth) node q₀))))
 
 abbrev pub μ-loop : lts.MeasureT-loop
-μ-loop block code node depth input charge k first count q₀ i₀ q i = count - i + (length input - q .at)
+μ-loop block code node depth input charge first count q₀ i₀ q i = count - i + (length input - q .at)
 
 module _ (t : ℕ) where
   -- the node's children lie in the block
-  inside : (c : lts.After-u32-at2 (skip-children-calls t) (skip-children-at t) skip-children.Post Inv-loop μ-loop) → (c .before .u32-at .result + c .u32-at2 .result) * 16 ≤ length (c .before .before .before .before .args .block .now)
-  inside c = node-children _ _ _ _ _ (c .before .before .before .before .pre .1 .0) (c .before .u32-at .ensures) (c .u32-at2 .ensures)
+  inside : (c : lts.After-node-children (skip-children-calls t) (skip-children-at t) skip-children.Post Inv-loop μ-loop) → nodeStart (c .before .node-first .result + c .node-children .result) ≤ length (c .before .before .before .before .args .block .now)
+  inside c = node-children _ _ _ _ _ (c .before .before .before .before .pre .1 .0) (c .before .node-first .ensures) (c .node-children .ensures)
 
   -- what the next child tells
   child : (c : lts.After-known-told (skip-children-calls t) (skip-children-at t) skip-children.Post Inv-loop μ-loop) → let s = c .before .before .before .before .before .before .before .before .before .before .args in let l = c .before .before .before .before .before .loop in
-      Moved (shapeOf (s .code)) (length (s .input .now)) (c .before .before .before .before .before .before .before .u32-at .result) (c .before .before .before .before .before .before .u32-at2 .result) (l .i) (l .q .at) (c .before .pick .given .0 .0) (c .before .pick .given .0 .1 .0)
+      Moved (shapeOf (s .code)) (length (s .input .now)) (c .before .before .before .before .before .before .before .node-first .result) (c .before .before .before .before .before .before .node-children .result) (l .i) (l .q .at) (c .before .pick .given .0 .0) (c .before .pick .given .0 .1 .0)
   child c = let l = c .before .before .before .before .before .loop .inv in picked-child _ _ _ _ _ _ (l .1 .0 .stands .within) (l .0) _ (wide-shape _ (c .before .before .before .before .before .before .before .before .before .before .pre .1 .1)) _ _ _ (c .before .before .before .next-child .ensures) (c .before .pick .given .1)
 
   -- where it may start
@@ -47,31 +48,22 @@ module _ (t : ℕ) where
       (c .before .before .before .before .before .before .pick .given .0 .1 .0 ≤ c .before .before .s .given .0 .0 .at) × Ready (s .input .now) (s .charge) (c .before .before .s .given .0 .0)
   leaves c = skim-at _ _ _ _ _ _ _ _ (c .before .before .before .before .skip-value .ensures) (c .before .before .s .given .1) (enters (c .before .before .before .before .before))
 
-  pub mul-k : lts.Need-mul-k (skip-children-calls t) (skip-children-at t) skip-children.Post Inv-loop μ-loop
-  mul-k c = search needs
+  pub node-first-requires : lts.Need-node-first-requires (skip-children-calls t) (skip-children-at t) skip-children.Post Inv-loop μ-loop
+  node-first-requires c κs = search needs
 
-  pub add-u32-at : lts.Need-add-u32-at (skip-children-calls t) (skip-children-at t) skip-children.Post Inv-loop μ-loop
-  add-u32-at c = search needs
-
-  pub u32-at-requires : lts.Need-u32-at-requires (skip-children-calls t) (skip-children-at t) skip-children.Post Inv-loop μ-loop
-  u32-at-requires c κs = search needs
-
-  pub add-u32-at-2 : lts.Need-add-u32-at-2 (skip-children-calls t) (skip-children-at t) skip-children.Post Inv-loop μ-loop
-  add-u32-at-2 c = search needs
-
-  pub u32-at-requires-2 : lts.Need-u32-at-requires-2 (skip-children-calls t) (skip-children-at t) skip-children.Post Inv-loop μ-loop
-  u32-at-requires-2 c κs = search needs
+  pub node-children-requires : lts.Need-node-children-requires (skip-children-calls t) (skip-children-at t) skip-children.Post Inv-loop μ-loop
+  node-children-requires c κs = search needs
 
   pub loop-holds : lts.Need-loop-holds (skip-children-calls t) (skip-children-at t) skip-children.Post Inv-loop μ-loop
   loop-holds c =
       let s = c .before .before .before .before in
       let a = s .args in
-      (omega arith, (s .pre .1 .2, (suc (length (a .input .now) - a .p .at), (fuel-all _ _, node-start _ _ _ _ _ (s .pre .1 .0) (c .before .u32-at .ensures) (c .u32-at2 .ensures) _ _ _ (s .pre .1 .1)))))
+      (omega arith, (s .pre .1 .2, (suc (length (a .input .now) - a .p .at), (fuel-all _ _, node-start _ _ _ _ _ (s .pre .1 .0) (c .before .node-first .ensures) (c .node-children .ensures) _ _ _ (s .pre .1 .1)))))
 
   pub next-child-requires : lts.Need-next-child-requires (skip-children-calls t) (skip-children-at t) skip-children.Post Inv-loop μ-loop
   next-child-requires c κs =
       let k = inside (c .before .before) in
-      (c .before .before .before .before .before .before .pre .1 .1, node-code _ _ _ _ _ (c .before .before .before .before .before .before .pre .1 .0) (c .before .before .before .u32-at .ensures) (c .before .before .u32-at2 .ensures), omega (arith, k), c .before .loop .inv .1 .0 .stands .within)
+      (c .before .before .before .before .before .before .pre .1 .1, node-code _ _ _ _ _ (c .before .before .before .before .before .before .pre .1 .0) (c .before .before .before .node-first .ensures) (c .before .before .node-children .ensures), omega (arith, k), c .before .loop .inv .1 .0 .stands .within)
 
   pub enum-known-pick : lts.Need-enum-known-pick (skip-children-calls t) (skip-children-at t) skip-children.Post Inv-loop μ-loop
   enum-known-pick c = search needs

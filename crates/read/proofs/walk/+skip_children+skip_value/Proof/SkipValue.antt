@@ -1,4 +1,3 @@
-use Rattle.rules.specs.Block.{nodeAt}
 use Rattle.read.specs.Skim.{standing, nodeOf, skim}
 use Rattle.read.proofs.Steps.{ready-paid}
 use Rattle.read.proofs.Nodes.{skim-none, skim-dear, skim-paid}
@@ -6,7 +5,7 @@ use Rattle.read.proofs.Leads.{reached-leaf, reached-children}
 use borrow.Author.Needs.{needs}
 use native.Mathlib.Omega.{arith}
 use Prim.Native.Nat.{ℕ, _+_, _-_}
-use mathlib.Core.Path.{_≡_, refl}
+use mathlib.Core.Path.{_≡_}
 use Rattle.read.proofs.walk.skip_value.Reads as skip-value
 use Rattle.read.proofs.walk.+skip_children+skip_value.Lts-skip_value as lts
 use Rattle.read.proofs.walk.+skip_children+skip_value.Proof.Setup.{skip-value-at, skip-value-calls}
@@ -39,18 +38,14 @@ module _ (t : ℕ) where
   pub add-t26 : lts.Need-add-t26 (skip-value-calls t) (skip-value-at t) skip-value.Post
   add-t26 c = search needs
 
-  pub mul-code : lts.Need-mul-code (skip-value-calls t) (skip-value-at t) skip-value.Post
-  mul-code c = search needs
-
-  pub shared-slice-read-code : lts.Need-shared-slice-read-code (skip-value-calls t) (skip-value-at t) skip-value.Post
-  shared-slice-read-code c = search needs
+  pub node-code-requires : lts.Need-node-code-requires (skip-value-calls t) (skip-value-at t) skip-value.Post
+  node-code-requires c κs = search needs
 
   pub sub-leaf-at : lts.Need-sub-leaf-at (skip-value-calls t) (skip-value-at t) skip-value.Post
   sub-leaf-at c = search needs
 
   pub leaf-at-requires : lts.Need-leaf-at-requires (skip-value-calls t) (skip-value-at t) skip-value.Post
-  unfolding nodeAt
-  leaf-at-requires c κs = (record { sound = c .before .before .before .before .before .before .before .before .before .before .pre .1 .0; inside = c .before .before .before .before .before .before .before .before .before .before .pre .1 .1; is = refl }, ready-paid _ _ _ _ _ (c .before .before .before .before .before .before .before .before .before .before .pre .1 .2) (c .before .before .before .before .before .charge .ensures) (c .before .before .before .paid .given .1))
+  leaf-at-requires c κs = (record { sound = c .before .before .before .before .before .before .before .before .before .before .pre .1 .0; inside = c .before .before .before .before .before .before .before .before .before .before .pre .1 .1; is = c .node-code .ensures }, ready-paid _ _ _ _ _ (c .before .before .before .before .before .before .before .before .before .before .pre .1 .2) (c .before .before .before .before .before .charge .ensures) (c .before .before .before .paid .given .1))
 
   pub enum-known-reached : lts.Need-enum-known-reached (skip-value-calls t) (skip-value-at t) skip-value.Post
   enum-known-reached c = search needs
@@ -74,8 +69,7 @@ module _ (t : ℕ) where
   sub-skip-children c = search needs
 
   pub skip-children-requires : lts.Need-skip-children-requires (skip-value-calls t) (skip-value-at t) skip-value.Post
-  unfolding nodeAt
-  skip-children-requires c κs = (omega (arith, c .before .before .before .before .before .before .before .before .before .before .before .before .before .pre .0, c .before .before .before .before .before .before .before .before .before .before .if1 .left), (record { sound = c .before .before .before .before .before .before .before .before .before .before .before .before .before .pre .1 .0; inside = c .before .before .before .before .before .before .before .before .before .before .before .before .before .pre .1 .1; is = refl }, reached-children _ _ _ _ _ _ (c .before .before .leaf-at .ensures) (c .enum-told3 .given .1), ready-paid _ _ _ _ _ (c .before .before .before .before .before .before .before .before .before .before .before .before .before .pre .1 .2) (c .before .before .before .before .before .before .before .before .charge .ensures) (c .before .before .before .before .before .before .paid .given .1)))
+  skip-children-requires c κs = (omega (arith, c .before .before .before .before .before .before .before .before .before .before .before .before .before .pre .0, c .before .before .before .before .before .before .before .before .before .before .if1 .left), (record { sound = c .before .before .before .before .before .before .before .before .before .before .before .before .before .pre .1 .0; inside = c .before .before .before .before .before .before .before .before .before .before .before .before .before .pre .1 .1; is = c .before .before .before .node-code .ensures }, rw (c .before .before .before .node-code .ensures) (reached-children _ _ _ _ _ _ (c .before .before .leaf-at .ensures) (c .enum-told3 .given .1)), ready-paid _ _ _ _ _ (c .before .before .before .before .before .before .before .before .before .before .before .before .before .pre .1 .2) (c .before .before .before .before .before .before .before .before .charge .ensures) (c .before .before .before .before .before .before .paid .given .1)))
 
   pub enum-known-s-2 : lts.Need-enum-known-s-2 (skip-value-calls t) (skip-value-at t) skip-value.Post
   enum-known-s-2 c = search needs

@@ -1,0 +1,111 @@
+// What the programs for deliveries share: the four tables and the stream are the files that five arguments name. One line goes to
+// standard output: the rows and bytes that were accepted, and the refusal that ended the run, if one did. What is wrong with a file
+// goes to standard error.
+mod outcome;
+mod reading;
+mod telling;
+
+use lines::failures::Failure;
+use outcome::Outcome;
+use outcome::TableRead;
+use outcome::table_read;
+use reading::read_one_more;
+use reading::run_stream;
+use rules::Settings;
+use telling::tell_failure;
+use telling::tell_run;
+use telling::tell_usage;
+use windows::space::Ends;
+ghost use Prim.Native.Nat.{_≤_};
+ghost use mathlib.Core.Path.{_≡_};
+ghost use lib.ListN.{length, take};
+ghost use Rattle.windows.specs.Bounds.{Laid};
+
+// Opens the file that an argument names. Where that fails it tells so, and answers less than 0.
+fn open_file(argument: usize, file: &[u8]) -> i32
+    requires { ⌜ length (now file) ≤ 16 ⌝ }
+{
+    let mut path = io::buffer();
+    let n = os::arg(argument, &mut path);
+    let fd = os::open_read(&path[..n]);
+    if fd < 0 {
+        tell_failure(Failure::CannotOpen, file, argument);
+    }
+    fd
+}
+
+// Reads the file that an argument names into the space, from a place on, and answers where its bytes end: before the space's end, so
+// that there is room for the stream. Where that fails it tells so, and answers a place past the space. Given such a place it does
+// nothing and hands it on, so that a caller with several files tests the last answer alone.
+fn read_table(argument: usize, file: &[u8], space: &mut [u8], from: usize) -> usize
+    requires { ⌜ length (now file) ≤ 16 ⌝ }
+    ensures { λ r. ⌜ from ≤ r ⌝ }
+    ensures { λ _. ⌜ take from (now (space .exit)) ≡ take from (now (space .entry)) ⌝ }
+{
+    if space.len() < from {
+        return from;
+    }
+    let past = space.len() + 1;
+    let fd = open_file(argument, file);
+    if fd < 0 {
+        return past;
+    }
+    let end = from + io::read_full(fd, &mut space[from..]);
+    let last = read_one_more(fd);
+    libc::close(fd);
+    let read = table_read(end, space.len(), last);
+    match read {
+        TableRead::Whole => end,
+        TableRead::TooLong => {
+            tell_failure(Failure::TooLong, file, argument);
+            past
+        }
+        TableRead::Unreadable => {
+            tell_failure(Failure::CannotRead, file, argument);
+            past
+        }
+    }
+}
+
+// Runs over the stream, in the window that the tables leave, and tells how it came out.
+fn deliver_stream(space: &mut [u8], ends: Ends)
+    requires { ⌜ Laid ends (ends .registry) (length (now space)) ⌝ }
+{
+    let fd = open_file(5, b"STREAM");
+    if fd < 0 {
+        return;
+    }
+    let outcome = run_stream(Settings::new(), fd, space, ends);
+    libc::close(fd);
+    match outcome {
+        Outcome::Told(ran) => tell_run(ran),
+        Outcome::NoRoom(place) => {
+            let room = (space.len() - ends.registry) as u64;
+            tell_failure(Failure::NoRoom { place, room }, b"STREAM", 5);
+        }
+        Outcome::Unreadable => tell_failure(Failure::CannotRead, b"STREAM", 5),
+    }
+}
+
+// The tables lie one behind the other in the space, so that only their sum is limited, and the rest of it is the window.
+pub fn deliver(space: &mut [u8]) {
+    if os::arg_count() != 6 {
+        tell_usage();
+        return;
+    }
+    let records = read_table(1, b"RECORDS", space, 0);
+    let names = read_table(2, b"NAMES", space, records);
+    let references = read_table(3, b"REFERENCES", space, names);
+    let registry = read_table(4, b"REGISTRY", space, references);
+    if registry <= space.len() {
+        deliver_stream(
+            space,
+            Ends {
+                records,
+                names,
+                references,
+                registry,
+            },
+        );
+    }
+}

@@ -1,4 +1,0 @@
-pub mod Moves
-pub mod Bringing
-pub mod Steps
-pub mod Streams

@@ -1,0 +1,59 @@
+-- The words for wire codes and contexts.
+-- Assumes nothing.
+use Prim.Native.Nat.{ℕ, zero, suc, _-_, _≤_, _<_}
+use mathlib.Core.Path.{_≡_, refl}
+use mathlib.Core.List.{List, [], _∷_}
+use native.Mathlib.Omega.{arith}
+use borrow.Author.Tests.{lt-ltb, le-ltb, ne-eqb}
+use lib.ListN.{length, List·getD-eq-default}
+use Rattle.rules.specs.Choice.{pick}
+use Rattle.rules.specs.Wire.{wireTypes}
+use Rattle.rules.specs.declared.WireType.{WireType}
+use Rattle.rules.specs.Lines.{codeWords, codeWord, contextWords, contextWord, wordOf, labelTable, labelsOf}
+use Rattle.lines.specs.Puts.{Labelled}
+
+past-codes : (ts : List WireType) (code : ℕ) → length ts ≤ code → codeWords ts code ≡ []
+unfolding codeWords
+past-codes [] code h = refl
+past-codes (t ∷ ts) zero h = absurd (omega arith)
+past-codes (t ∷ ts) (suc code) h = past-codes ts code (omega arith)
+
+pub no-code-word : (code : ℕ) → 20 ≤ code → codeWord code ≡ []
+unfolding codeWord wireTypes
+no-code-word code h = past-codes _ code h
+
+pub fixed-context-word : (c : ℕ) → c < 13 → contextWord c ≡ codeWord c
+unfolding contextWord pick
+fixed-context-word c h = rw (lt-ltb c 13 h)
+
+pub no-context-word : (c : ℕ) → 18 ≤ c → contextWord c ≡ []
+unfolding contextWord contextWords pick
+no-context-word c h = rw (le-ltb c 13 (omega arith)) (List·getD-eq-default {A = List ℕ} contextWords [] {n = c - 13} (omega arith))
+
+-- ---- labels
+
+-- labels that are the table's at one number are so at an equal one
+pub from-arm : (r : List ℕ) (n m : ℕ) → n ≡ m → Labelled r (labelsOf m) → Labelled r (labelsOf n)
+from-arm r n m e l = rw e l
+
+-- past the table's end nothing is carried
+pub past-labels : (n : ℕ) → 22 ≤ n → labelsOf n ≡ labelsOf 22
+unfolding labelsOf labelTable
+past-labels n h = List·getD-eq-default labelTable _ {n = n} h
+
+pub from-past : (r : List ℕ) (n : ℕ) → 22 ≤ n → Labelled r (labelsOf 22) → Labelled r (labelsOf n)
+from-past r n h l = rw (past-labels n h) l
+
+-- ---- a word by its kind
+module _ (kind value : ℕ) where
+  pub word-of-code : kind ≡ 1 → wordOf kind value ≡ codeWord value
+  unfolding wordOf pick
+  word-of-code e = rw e
+
+  pub word-of-context : kind ≡ 2 → wordOf kind value ≡ contextWord value
+  unfolding wordOf pick
+  word-of-context e = rw e
+
+  pub word-of-other : (kind ≡ 1 → ⊥) → (kind ≡ 2 → ⊥) → wordOf kind value ≡ []
+  unfolding wordOf pick
+  word-of-other h k = rw (ne-eqb kind 1 h, ne-eqb kind 2 k)

@@ -1,0 +1,59 @@
+-- The item, by the table's label and the word of its kind.
+-- Assumes nothing.
+use mathlib.Core.Path.{ap, _∙_}
+use borrow.Author.Needs.{needs}
+use Rattle.rules.specs.Names.{ascii}
+use Rattle.rules.specs.Lines.{wordOf}
+use Rattle.lines.proofs.Putting.{put-item-is}
+use Rattle.lines.proofs.put_first.Statement.{statement}
+use Rattle.lines.proofs.put_first.Tie as tie
+
+labels-of-requires : tie.Need-labels-of-requires
+labels-of-requires c κs = search needs
+
+kind-of-requires : tie.Need-kind-of-requires
+kind-of-requires c κs = search needs
+
+word-of-requires : tie.Need-word-of-requires
+word-of-requires c κs = search needs
+
+slice-aggregate-put-item : tie.Need-slice-aggregate-put-item
+slice-aggregate-put-item c = search needs
+
+sub-put-item : tie.Need-sub-put-item
+sub-put-item c = search needs
+
+part-put-item-start : tie.Need-part-put-item-start
+part-put-item-start c = search needs
+
+part-put-item-end : tie.Need-part-put-item-end
+part-put-item-end c = search needs
+
+slice-aggregate-put-item-2 : tie.Need-slice-aggregate-put-item-2
+slice-aggregate-put-item-2 c = search needs
+
+put-item-requires : tie.Need-put-item-requires
+put-item-requires c κs = search needs
+
+same-length : tie.Need-same-length
+same-length c = search needs
+
+returns : tie.Need-returns
+unfolding ascii
+returns c = (put-item-is _ _ _ _ _ _ _ _ _ _ (c .before .before .before .before .before .before .before .before .before .before .labels-of .ensures .first) (c .before .before .before .before .before .before .before .before .word-of .ensures .0 ∙ ap (λ k. wordOf k (c .before .before .before .before .before .before .before .before .before .before .before .before .args .value)) (c .before .before .before .before .before .before .before .before .before .kind-of .ensures)) (c .before .before .put-item .ensures .0), search needs)
+
+pub put-first-spec : {M : Type 1} → statement M
+put-first-spec =
+    tie.close
+    (tie.spec
+    labels-of-requires
+    kind-of-requires
+    word-of-requires
+    slice-aggregate-put-item
+    sub-put-item
+    part-put-item-start
+    part-put-item-end
+    slice-aggregate-put-item-2
+    put-item-requires
+    same-length
+    returns)

@@ -1,0 +1,4 @@
+pub mod Moves
+pub mod MovingBytes
+pub mod Steps
+pub mod Streams
