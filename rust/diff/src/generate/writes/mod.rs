@@ -119,6 +119,58 @@ pub fn random(rng: &mut Rng) -> (Kind, WriteCase) {
             ("damaged tables", case)
         }
         92..=95 => ("bad schemas", bad_schema(rng)),
+        96..=97 => {
+            // Outside the original's domain, inside ours.
+            let (mut schema, mut value) = good(rng);
+            schema.names.fill(0xFF);
+            if rng.one_in(2) {
+                damage::value(rng, &mut value);
+            }
+            ("names not UTF-8", case(schema, &value))
+        }
         _ => ("odd settings", odd_settings(rng)),
+    }
+}
+
+#[cfg(test)]
+mod tests {
+    use super::*;
+    use plain::encoding::written;
+    use plain::value_table::is_formed;
+
+    fn depth(node: &Node) -> usize {
+        match &node.body {
+            draw::Body::Children(children) => 1 + children.iter().map(depth).max().unwrap_or(0),
+            _ => 1,
+        }
+    }
+
+    /// What is drawn can be written, but for variants without children.
+    #[test]
+    fn drawn_values_fit() {
+        let mut accepted = 0;
+        for number in 0..3_000 {
+            let (schema, value) = good(&mut Rng::for_case(3, number));
+            match written(&case(schema, &value).given()) {
+                Ok(_) => accepted += 1,
+                Err(refusal) => assert_eq!((refusal.number, refusal.carried[2]), (17, 0)),
+            }
+        }
+        assert!(accepted > 2_000, "{accepted}");
+    }
+
+    /// A damaged value is still a value, unless it is too deep; most of them no longer fit.
+    #[test]
+    fn damaged_values_have_tables() {
+        let mut refused = 0;
+        for number in 0..3_000 {
+            let rng = &mut Rng::for_case(4, number);
+            let (schema, mut value) = good(rng);
+            damage::value(rng, &mut value);
+            let case = case(schema, &value);
+            assert_eq!(is_formed(&case.value.records, &case.value.payload), depth(&value) <= 64);
+            refused += u64::from(written(&case.given()).is_err());
+        }
+        assert!(refused > 1_000, "{refused}");
     }
 }
