@@ -38,7 +38,7 @@ fn processor_time() -> f64 {
     now.seconds as f64 * 1e9 + now.nanoseconds as f64
 }
 
-fn nanoseconds(work: impl FnOnce()) -> f64 {
+pub fn nanoseconds(work: impl FnOnce()) -> f64 {
     let start = processor_time();
     work();
     processor_time() - start
