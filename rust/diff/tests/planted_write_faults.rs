@@ -1,5 +1,5 @@
-//! write-diff against its test double: a right library passes, and each planted fault is found. Runs with
-//! `--features double,encode`.
+//! write-diff against its test double: a right library passes, and each planted fault is found and made
+//! small. Runs with `--features double,encode`.
 
 #![cfg(all(feature = "double", feature = "encode"))]
 
@@ -42,6 +42,12 @@ fn each_fault_is_found() {
     ] {
         let (code, text) = run(fault, "60000");
         assert_eq!(code, Some(1), "{fault}: {text}");
-        assert!(text.contains("DIFFERENCE: encode") || text.contains("DIFFERENCE: check"), "{fault}: {text}");
+        let (_, rest) = text.split_once("smallest case found: ").expect(&text);
+        let bytes: usize = rest.split(' ').next().unwrap().parse().expect(&text);
+        assert!(bytes <= 600, "{fault}: {text}");
+        assert!(
+            rest.contains("\nencode\n") || rest.contains("\ncheck of a value table\n"),
+            "{fault}: {text}"
+        );
     }
 }

@@ -5,7 +5,8 @@ use std::env;
 use std::process::ExitCode;
 
 use diff::writing::describe;
-use diff::writing::run::{run, Stop};
+use diff::writing::run::{run, Found, Stop};
+use diff::writing::shrink::shrink;
 
 const USAGE: &str = "\
 usage: write-diff [--count N] [--seed N]
@@ -62,9 +63,18 @@ fn main() -> ExitCode {
             ExitCode::from(2)
         }
         Err(Stop::Difference(found)) => {
-            println!("DIFFERENCE: {}", found.why);
-            println!("{}", describe(&found.case));
+            report(&found);
             ExitCode::from(1)
         }
     }
+}
+
+/// Shrinks a differing case and prints it.
+fn report(found: &Found) {
+    println!("DIFFERENCE in a case of {} bytes; looking for a smaller one", found.case.bytes());
+    let smallest = shrink(found.case.clone(), &mut |case| found.why(case).is_some());
+    println!("smallest case found: {} bytes", smallest.bytes());
+    let why = found.why(&smallest);
+    println!("{}", why.as_deref().unwrap_or("it is answered rightly when asked again"));
+    println!("{}", describe(&smallest));
 }

@@ -8,6 +8,7 @@ pub mod huge;
 pub mod library;
 pub mod round_trip;
 pub mod run;
+pub mod shrink;
 
 use plain::answer::Refusal;
 use plain::decoding::ValueTable;

@@ -46,10 +46,17 @@ impl fmt::Display for Tally {
     }
 }
 
-/// A case and what is wrong about it.
+/// A case that differs, and the number of its call, by which answer slices and the like are chosen.
 pub struct Found {
     pub case: WriteCase,
-    pub why: String,
+    pub number: u64,
+}
+
+impl Found {
+    /// What is wrong about another case in its place.
+    pub fn why(&self, case: &WriteCase) -> Option<String> {
+        verdict(case, self.number, &mut Tally::default()).err()
+    }
 }
 
 /// Why a run stopped short.
@@ -89,7 +96,7 @@ fn rest_stayed(case: &WriteCase, done: &Result<Row, Refusal>, output: &[u8]) -> 
 }
 
 /// What is wrong about a call, if anything is.
-pub fn verdict(case: &WriteCase, number: u64, tally: &mut Tally) -> Result<(), String> {
+fn verdict(case: &WriteCase, number: u64, tally: &mut Tally) -> Result<(), String> {
     let (done, output) = plain_encoded(case);
     let answer = done.map_or_else(|refusal| refusal.number, |_| 0);
     if !rest_stayed(case, &done, &output) {
@@ -165,8 +172,8 @@ impl Run {
             self.tally.calls += 1;
             *self.tally.kinds.entry(kind).or_default() += 1;
             let number = self.tally.calls;
-            if let Err(why) = verdict(&case, number, &mut self.tally) {
-                self.found = Some(Found { case, why });
+            if verdict(&case, number, &mut self.tally).is_err() {
+                self.found = Some(Found { case, number });
                 return;
             }
         }
