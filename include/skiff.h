@@ -5,8 +5,9 @@
  * other library. The functions keep nothing between calls, allocate nothing and write to nothing but
  * the answer slice and, in skiff_decode, the two slices for a row, so any number of threads may call them.
  *
- * A slice is a pointer and a length. The pointer leads to so many bytes; where the length is 0 it is
- * not followed, but it may not be null. A slice that is written overlaps none of the others.
+ * A slice is a pointer and a length. The pointer leads to so many bytes and may not be null, not even
+ * where the length is 0 and it is not followed; the length is below 2^63. A slice that is written
+ * overlaps none of the others.
  */
 #ifndef SKIFF_H
 #define SKIFF_H
@@ -18,13 +19,26 @@
 extern "C" {
 #endif
 
+/* The release, as CHANGELOG.md has it. */
+#define SKIFF_VERSION "0.1.0"
+
+/*
+ * The version of all layouts below: records, answers, parameters. It is part of the symbols, so that a
+ * program and an archive that differ in a layout do not link. `check-refusals` compares these names with
+ * the library's.
+ */
+#define SKIFF_LAYOUT 1
+#define skiff_skip skiff1_skip
+#define skiff_decode skiff1_decode
+#define skiff_run skiff1_run
+
 /* Settings. The node charge is 1 to 4,096 and each limit at most 4,294,967,295, else SKIFF_SETTING. */
 #define SKIFF_DEFAULT_NODE_CHARGE UINT64_C(48)
 #define SKIFF_DEFAULT_MAX_BLOB_BYTES UINT64_C(134217728)
 #define SKIFF_DEFAULT_MAX_ROW_BYTES UINT64_C(268435456)
 
-/* Why a call is refused. Some numbers belong to calls that are not in this header. `check-refusals` compares
- * this list with the rules' table. */
+/* Why a call is refused; skiff_words.h has the words. Some numbers belong to calls that are not in this header.
+ * `check-refusals` compares this list with the rules' table. */
 enum skiff_refusal {
     SKIFF_NO_REFUSAL = 0,
     SKIFF_SETTING = 1,                         /* a setting, a slice's length or a position */
@@ -60,24 +74,26 @@ enum skiff_context {
 };
 
 /*
- * The answer slice. Every function writes its first 88 bytes, refused or not, as eleven numbers of eight
- * bytes each, little-endian; what comes after them stays as it was. Where the slice is shorter, nothing
- * is written anywhere and SKIFF_SETTING is returned, before every other refusal. On x86-64 a uint64_t[11]
- * will do for a slice; these are the indexes into it.
+ * The answer slice. Every function writes its first SKIFF_ANSWER_SIZE bytes, refused or not, as
+ * SKIFF_ANSWER_NUMBERS numbers of eight bytes each, little-endian; what comes after them stays as it was.
+ * Where the slice is shorter, nothing is written anywhere and SKIFF_SETTING is returned, before every
+ * other refusal. On x86-64 a uint64_t[SKIFF_ANSWER_NUMBERS] will do for a slice; these are the indexes
+ * into it.
  */
-#define SKIFF_ANSWER_BYTES 88
+#define SKIFF_ANSWER_NUMBERS 11
+#define SKIFF_ANSWER_SIZE 88
 
 enum skiff_answer {
-    SKIFF_ANSWER_WHAT = 0,    /* enum skiff_what */
-    SKIFF_ANSWER_REFUSAL = 1, /* enum skiff_refusal, which is also returned */
-    SKIFF_ANSWER_PLACE = 2,   /* where the refusal was met: an offset from the input's start, a record
-                                 number, or a table; else 0 */
-    SKIFF_ANSWER_CARRIED = 3, /* three numbers that the refusal carries, in the order above; else 0 */
-    SKIFF_ANSWER_ROWS = 6,    /* 1 for an accepted row; the accepted rows of a run */
-    SKIFF_ANSWER_BYTES_READ = 7, /* bytes of the row; of all accepted rows of a run */
-    SKIFF_ANSWER_TABLE = 8,   /* the row's table, and below how much skiff_decode makes of it: */
-    SKIFF_ANSWER_RECORDS = 9, /* value records, of 16 bytes each, */
-    SKIFF_ANSWER_PAYLOAD = 10 /* and payload bytes; all three are 0 for a run */
+    SKIFF_ANSWER_WHAT = 0,      /* enum skiff_what */
+    SKIFF_ANSWER_REFUSAL = 1,   /* enum skiff_refusal, which is also returned */
+    SKIFF_ANSWER_PLACE = 2,     /* where the refusal was met: an offset from the input's start, a record
+                                   number, or a table; else 0 */
+    SKIFF_ANSWER_CARRIED = 3,   /* three numbers that the refusal carries, in the order above; else 0 */
+    SKIFF_ANSWER_ROWS = 6,      /* 1 for an accepted row; the accepted rows of a run */
+    SKIFF_ANSWER_ROW_BYTES = 7, /* bytes of the row; of all accepted rows of a run */
+    SKIFF_ANSWER_TABLE = 8,     /* the row's table, and below how much skiff_decode makes of it: */
+    SKIFF_ANSWER_RECORDS = 9,   /* value records, of SKIFF_VALUE_RECORD_BYTES each, */
+    SKIFF_ANSWER_PAYLOAD = 10   /* and payload bytes; all three are 0 for a run */
 };
 
 enum skiff_what {

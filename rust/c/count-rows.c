@@ -1,11 +1,13 @@
 /* count-rows FOLDER: counts the rows of a delivery (schema.rec, schema.nam, tables.ref, registry.reg,
- * rows.skf) and prints `end ROWS BYTES`, or `refused NUMBER PLACE` after as many rows as were good. */
+ * rows.skf) and prints what the delivery program prints: `end ROWS BYTES`, or the refusal in words and the rows
+ * and bytes before it. */
 
 #include <inttypes.h>
 #include <stdio.h>
 #include <stdlib.h>
 
 #include "skiff.h"
+#include "skiff_words.h"
 
 struct slice {
     uint8_t *bytes;
@@ -49,7 +51,7 @@ int main(int count, char **words)
     struct slice registry = read_file(words[1], "registry.reg");
     struct slice rows = read_file(words[1], "rows.skf");
 
-    uint64_t answer[SKIFF_ANSWER_BYTES / 8];
+    uint64_t answer[SKIFF_ANSWER_NUMBERS];
     uint32_t refusal = skiff_run(SKIFF_DEFAULT_NODE_CHARGE, SKIFF_DEFAULT_MAX_BLOB_BYTES,
                                  SKIFF_DEFAULT_MAX_ROW_BYTES,
                                  records.bytes, records.length, names.bytes, names.length,
@@ -57,12 +59,12 @@ int main(int count, char **words)
                                  rows.bytes, rows.length,
                                  (uint8_t *)answer, sizeof answer);
 
-    uint64_t accepted = answer[SKIFF_ANSWER_ROWS], bytes = answer[SKIFF_ANSWER_BYTES_READ];
+    uint64_t accepted = answer[SKIFF_ANSWER_ROWS], bytes = answer[SKIFF_ANSWER_ROW_BYTES];
     if (refusal == SKIFF_NO_REFUSAL) {
         printf("end %" PRIu64 " %" PRIu64 "\n", accepted, bytes);
         return 0;
     }
-    printf("refused %" PRIu32 " %" PRIu64 " after %" PRIu64 " rows\n",
-           refusal, answer[SKIFF_ANSWER_PLACE], accepted);
+    skiff_print_refusal(stdout, answer);
+    printf(" after %" PRIu64 " rows, %" PRIu64 " bytes\n", accepted, bytes);
     return 1;
 }

@@ -1,25 +1,30 @@
-//! bench: what skiff_run costs beside a driver over the original's skip_row, and skiff_decode beside its
-//! next_row, on the same bytes; and what the check of a format costs by its records.
+//! bench: what skiff_run costs beside a driver over the original's skip_row, skiff_decode beside its
+//! next_row and, with the feature `encode`, skiff_encode beside its write, on the same bytes; and what the
+//! check of a format costs by its records.
 
 mod same;
 mod schemas;
 mod timing;
+#[cfg(feature = "encode")]
+mod writing;
 
 use std::process::ExitCode;
 
 use schemas::ALL;
 use timing::{
-    best_of, check_library, check_original, decode_bare, decode_library, decode_original, original, run_library,
-    run_original,
+    best_of, check_library, check_original, decode_bare, decode_library, decode_original, original,
+    run_library, run_original,
 };
 
 const USAGE: &str = "\
-usage: bench [rows|growth|decode|format] [--runs N] [--rows N]
+usage: bench [rows|growth|decode|encode|format] [--runs N] [--rows N]
   rows    each schema, 1,000,000 rows of A and N (300,000) of the others
   growth  10,000 to 1,000,000 rows of schema A
   decode  1,000,000 rows of schema A decoded one by one
+  encode  1,000,000 rows of schema A encoded one by one, and rows of 1,000 to 1,000,000 records; only with
+          the feature of that name
   format  the check of formats of 1,024 to 131,072 records
-  all four without a word. Times are the best of N (15) runs, in processor time";
+  all of them without a word. Times are the best of N (15) runs, in processor time";
 
 const CLIENT_ROWS: u64 = 1_000_000;
 
@@ -37,6 +42,7 @@ fn options() -> Option<Options> {
             "--runs" => options.runs = given.next()?.parse().ok()?,
             "--rows" => options.rows = given.next()?.parse().ok()?,
             "rows" | "growth" | "decode" | "format" => options.words.push(word),
+            "encode" if cfg!(feature = "encode") => options.words.push(word),
             _ => return None,
         }
     }
@@ -61,6 +67,10 @@ fn main() -> ExitCode {
     }
     if wants("decode") {
         decode(&options);
+    }
+    #[cfg(feature = "encode")]
+    if wants("encode") {
+        encode(&options);
     }
     if wants("format") {
         format(&options);
@@ -116,6 +126,36 @@ fn decode(options: &Options) {
     line("Format::next_row", best_of(options.runs, original, || decode_library(&case, room, CLIENT_ROWS)));
     println!("(the library checks the format for every row, the original once, before its clock starts;");
     println!(" the original allocates a tree for every row, the library writes to slices that it is lent)");
+}
+
+/// Every call of skiff_encode checks the schema and the value table, as part of a row's time. How much of
+/// it the schema's check is, the table of formats says.
+#[cfg(feature = "encode")]
+fn encode(options: &Options) {
+    let case = ALL[0].stream(CLIENT_ROWS);
+    let format = original(&case);
+    let room = same::check(&case, &format, CLIENT_ROWS);
+    let standing = writing::Standing::of(&case, &format, room);
+    let original = || writing::encode_original(&case, &format, &standing);
+    println!(
+        "\n{:46} {:>8} {:>9} {:>9} {:>6}",
+        "schema A encoded, ns/row", "rows", "original", "library", "ratio"
+    );
+    let line = |name: &str, best: timing::Best| {
+        let (original, library) = (best.original / CLIENT_ROWS as f64, best.library / CLIENT_ROWS as f64);
+        println!("{name:46} {CLIENT_ROWS:8} {original:9.1} {library:9.1} {:6.2}", library / original);
+    };
+    line("skiff_encode", best_of(options.runs, original, || writing::encode_bare(&case, &standing)));
+    line("Encoder::append", best_of(options.runs, original, || writing::encode_library(&case, &standing)));
+    println!(
+        "\n{:46} {:>8} {:>12} {:>10}",
+        "one row, by its value records", "records", "encode, us", "ns/record"
+    );
+    for records in [1_000, 10_000, 100_000, 1_000_000] {
+        let mut long = writing::Long::new(records);
+        let best = best_of(options.runs, || 0.0, || long.encode()).library;
+        println!("{:46} {records:8} {:12.1} {:10.2}", "", best / 1_000.0, best / records as f64);
+    }
 }
 
 /// The growth is the time a record takes here, over what it took in the smallest block.

@@ -38,7 +38,7 @@ fn processor_time() -> f64 {
     now.seconds as f64 * 1e9 + now.nanoseconds as f64
 }
 
-fn nanoseconds(work: impl FnOnce()) -> f64 {
+pub fn nanoseconds(work: impl FnOnce()) -> f64 {
     let start = processor_time();
     work();
     processor_time() - start
@@ -107,14 +107,15 @@ pub fn decode_bare(case: &Case, room: Room, rows: u64) -> f64 {
     let format = tables(case);
     let (mut records, mut payload) = room.slices();
     let settings = Settings::default();
-    let mut answer = [0; sys::ANSWER_BYTES];
+    let mut answer = [0; sys::ANSWER_SIZE];
     nanoseconds(|| {
         let (mut met, mut at) = (0, 0);
         loop {
             let (numbers, input, to) = ((&settings).into(), black_box(&case.input), black_box(&mut answer));
             let refused = sys::decode(numbers, black_box(&format), input, at, &mut records, &mut payload, to);
             assert_eq!(refused, 0, "good rows");
-            let number = |index: usize| u64::from_le_bytes(*answer[index * 8..].first_chunk().expect("a word"));
+            let number =
+                |index: usize| u64::from_le_bytes(*answer[index * 8..].first_chunk().expect("a word"));
             if number(0) == 1 {
                 break;
             }

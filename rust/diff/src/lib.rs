@@ -17,3 +17,4 @@ pub mod rng;
 pub mod room;
 pub mod show;
 pub mod shrink;
+pub mod writing;

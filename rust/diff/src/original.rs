@@ -3,6 +3,7 @@
 //! is compared in number and carried values, in what it accepts, and in a run's rows and bytes.
 
 mod rows;
+pub mod writing;
 
 pub use rows::node_charge;
 

@@ -1,18 +1,20 @@
-//! A TEST DOUBLE, not the library: the three C functions with the plain reading behind them, and with a
-//! planted fault where DOUBLE_FAULT names one. The front end and row-diff can be built over it where
-//! there is no archive, and row-diff's own tests show with it that a wrong library is found out.
+//! A TEST DOUBLE, not the library: its C functions, under its symbols, with the plain reading behind them,
+//! and with a planted fault where DOUBLE_FAULT names one. The front end and row-diff can be built over it
+//! where there is no archive, and row-diff's own tests show with it that a wrong library is found out.
 //!
 //! Nothing that is said of the library may rest on a run over this.
 
 mod decoding;
+mod encoding;
 mod fault;
 
 use std::slice;
 
+use plain::encoding::Given;
 use plain::reading::{run, skip};
 use plain::report::Report;
 use plain::settings::Settings;
-use plain::tables::FormatTables;
+use plain::tables::{Block, FormatTables};
 
 /// All that a reading call is given but for its answer slice. A run's position is 0.
 #[derive(Clone, Copy)]
@@ -35,10 +37,10 @@ impl Call<'_> {
 }
 
 macro_rules! reading_call {
-    ($name:ident, $is_run:literal, $position:expr, ($($extra:ident: $type:ty),*), $finish:expr) => {
+    ($symbol:literal, $name:ident, $is_run:literal, $position:expr, ($($extra:ident: $type:ty),*), $finish:expr) => {
         /// # Safety
         /// Each pointer leads to as many bytes as the length after it says.
-        #[no_mangle]
+        #[export_name = $symbol]
         pub unsafe extern "C" fn $name(
             node_charge: u64,
             max_blob_bytes: u64,
@@ -76,9 +78,10 @@ macro_rules! reading_call {
     };
 }
 
-reading_call!(skiff_skip, false, position, (position: u64), fault::answer);
-reading_call!(skiff_run, true, 0, (), fault::answer);
+reading_call!("skiff1_skip", skiff_skip, false, position, (position: u64), fault::answer);
+reading_call!("skiff1_run", skiff_run, true, 0, (), fault::answer);
 reading_call!(
+    "skiff1_decode",
     skiff_decode,
     false,
     position,
@@ -95,3 +98,54 @@ reading_call!(
         decoding::answer(call, decoding::Lent { records, payload, answer })
     }
 );
+
+/// # Safety
+/// Each pointer leads to as many bytes as the length after it says.
+#[export_name = "skiff1_encode"]
+pub unsafe extern "C" fn skiff_encode(
+    node_charge: u64,
+    max_blob_bytes: u64,
+    max_row_bytes: u64,
+    records: *const u8,
+    records_len: usize,
+    names: *const u8,
+    names_len: usize,
+    first: u64,
+    count: u64,
+    value_records: *const u8,
+    value_records_len: usize,
+    payload: *const u8,
+    payload_len: usize,
+    output: *mut u8,
+    output_len: usize,
+    position: u64,
+    answer: *mut u8,
+    answer_len: usize,
+) -> u32 {
+    let given = Given {
+        settings: Settings { node_charge, max_blob_bytes, max_row_bytes },
+        records: slice::from_raw_parts(records, records_len),
+        names: slice::from_raw_parts(names, names_len),
+        block: Block { first, count },
+        value_records: slice::from_raw_parts(value_records, value_records_len),
+        payload: slice::from_raw_parts(payload, payload_len),
+    };
+    let output = slice::from_raw_parts_mut(output, output_len);
+    encoding::encode_answer(given, output, position, slice::from_raw_parts_mut(answer, answer_len))
+}
+
+/// # Safety
+/// Each pointer leads to as many bytes as the length after it says.
+#[export_name = "skiff1_check_value_table"]
+pub unsafe extern "C" fn skiff_check_value_table(
+    value_records: *const u8,
+    value_records_len: usize,
+    payload: *const u8,
+    payload_len: usize,
+    answer: *mut u8,
+    answer_len: usize,
+) -> u32 {
+    let records = slice::from_raw_parts(value_records, value_records_len);
+    let payload = slice::from_raw_parts(payload, payload_len);
+    encoding::check_answer(records, payload, slice::from_raw_parts_mut(answer, answer_len))
+}

@@ -1,6 +1,6 @@
 //! A refusal: its number, its place and the values it carries, in document 01's order.
 
-/// The refusal numbers of the format side and of reading.
+/// The refusal numbers of document 01.
 pub mod number {
     pub const SETTING: u64 = 1;
     pub const BAD_SCHEMA_TABLE: u64 = 2;
@@ -16,9 +16,13 @@ pub mod number {
     pub const TRUNCATED: u64 = 12;
     pub const ROW_TOO_LARGE: u64 = 13;
     pub const BLOB_TOO_LARGE: u64 = 14;
+    pub const VALUE_DOES_NOT_MATCH_SCHEMA: u64 = 15;
+    pub const TUPLE_LENGTH: u64 = 16;
     pub const INVALID_VARIANT_TAG: u64 = 17;
+    pub const BAD_VALUE_TABLE: u64 = 18;
     pub const NO_NODE_ROOM: u64 = 19;
     pub const NO_PAYLOAD_ROOM: u64 = 20;
+    pub const NO_OUTPUT_ROOM: u64 = 21;
 }
 
 /// What a stream was cut in, as 12 carries it. A fixed type's context is its own wire code, 1 to 12.

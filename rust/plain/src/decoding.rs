@@ -5,7 +5,7 @@ use crate::answer::number::{NO_NODE_ROOM, NO_PAYLOAD_ROOM};
 use crate::answer::Refusal;
 use crate::format::table_block;
 use crate::reading::{skip, Row, Skipped};
-use crate::settings::{Settings, MOST};
+use crate::settings::{room, Settings};
 use crate::tables::{schema_record, Block, FormatTables, RECORD_BYTES};
 use crate::wire_type::{
     fixed_width, BOOLEAN, INT128, INT256, REPEATED_VARIANT16, REPEATED_VARIANT8, STRING32, TUPLE, VARIANT16,
@@ -24,11 +24,6 @@ pub mod kind {
 pub struct ValueTable {
     pub records: Vec<u8>,
     pub payload: Vec<u8>,
-}
-
-/// Of a slice to be written only the first 4,294,967,295 bytes count.
-fn room(slice: &[u8]) -> u64 {
-    MOST.min(slice.len() as u64)
 }
 
 /// The row at `position`: what `skip` answers, then room for its records (19), then for its payload

@@ -6,11 +6,13 @@
 //!
 //! The format side: [`wire_type`], [`tables`], [`forms`], [`depth`], [`rules`] and the calls in
 //! [`format`]. Reading: [`settings`], the [`walk`] over a row, the calls in [`reading`] and
-//! [`decoding`], and the [`report`] that the C functions write.
+//! [`decoding`], and the [`report`] that the C functions write. Writing: [`value_table`] and
+//! [`encoding`].
 
 pub mod answer;
 pub mod decoding;
 pub mod depth;
+pub mod encoding;
 pub mod format;
 pub mod forms;
 pub mod reading;
@@ -18,6 +20,7 @@ pub mod report;
 pub mod rules;
 pub mod settings;
 pub mod tables;
+pub mod value_table;
 pub mod walk;
 pub mod wire_type;
 

@@ -1,8 +1,8 @@
 //! The answer slice of the C functions: eleven numbers, little-endian, at its start.
 
 use crate::answer::number::SETTING;
-use crate::answer::Refusal;
-use crate::reading::{Run, Skipped};
+use crate::answer::{Checked, Refusal};
+use crate::reading::{Row, Run, Skipped};
 
 pub const REPORT_BYTES: usize = 88;
 
@@ -45,6 +45,24 @@ impl Report {
                 ..Self::default()
             },
             Ok(Skipped::End) => Self { what: what::END, ..Self::default() },
+            Err(refusal) => Self::of_refusal(refusal),
+        }
+    }
+
+    /// An encoded row is told as one that is read.
+    pub fn of_encoded(encoded: &Result<Row, Refusal>) -> Self {
+        Self::of_skip(&encoded.map(Skipped::Row))
+    }
+
+    /// An accepted value table is told by its records and its payload bytes; it is no row yet.
+    pub fn of_value_table(checked: &Checked, records: &[u8], payload: &[u8]) -> Self {
+        match checked {
+            Ok(()) => Self {
+                what: what::ROW,
+                records: records.len() as u64 / 16,
+                payload: payload.len() as u64,
+                ..Self::default()
+            },
             Err(refusal) => Self::of_refusal(refusal),
         }
     }

@@ -28,7 +28,8 @@ impl Settings {
     }
 }
 
-fn is_short_enough(slice: &[u8]) -> bool {
+/// Every slice that is read, in every call.
+pub fn is_short_enough(slice: &[u8]) -> bool {
     slice.len() as u64 <= MOST
 }
 
@@ -37,4 +38,9 @@ fn is_short_enough(slice: &[u8]) -> bool {
 pub fn numbers_are_good(settings: &Settings, tables: &FormatTables, input: &[u8], position: u64) -> bool {
     let slices = [tables.records, tables.names, tables.references, tables.registry, input];
     settings.are_good() && slices.into_iter().all(is_short_enough) && position <= input.len() as u64
+}
+
+/// Of a slice to be written only the first 4,294,967,295 bytes count, for positions and for room.
+pub fn room(slice: &[u8]) -> u64 {
+    MOST.min(slice.len() as u64)
 }

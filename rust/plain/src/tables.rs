@@ -75,16 +75,16 @@ pub fn record_count(table: &[u8]) -> u64 {
     (table.len() / RECORD_BYTES) as u64
 }
 
-fn record(table: &[u8], index: u64) -> &[u8] {
+pub(crate) fn record(table: &[u8], index: u64) -> &[u8] {
     let start = index as usize * RECORD_BYTES;
     &table[start..start + RECORD_BYTES]
 }
 
-fn u16_at(bytes: &[u8], at: usize) -> u64 {
+pub(crate) fn u16_at(bytes: &[u8], at: usize) -> u64 {
     u64::from(u16::from_le_bytes([bytes[at], bytes[at + 1]]))
 }
 
-fn u32_at(bytes: &[u8], at: usize) -> u64 {
+pub(crate) fn u32_at(bytes: &[u8], at: usize) -> u64 {
     u64::from(u32::from_le_bytes([bytes[at], bytes[at + 1], bytes[at + 2], bytes[at + 3]]))
 }
 

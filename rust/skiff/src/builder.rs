@@ -42,6 +42,33 @@ impl Schema {
     }
 }
 
+#[cfg(feature = "encode")]
+impl Schema {
+    /// This schema alone as flat tables, for an [`crate::Encoder`].
+    pub fn tables(&self) -> Result<SchemaTables, NameTooLong> {
+        let mut made = FormatTables::default();
+        made.add_block(self)?;
+        Ok(SchemaTables { records: made.records, names: made.names })
+    }
+}
+
+/// One schema's two tables.
+#[cfg(feature = "encode")]
+#[derive(Debug, Clone, PartialEq, Eq)]
+pub struct SchemaTables {
+    pub records: Vec<u8>,
+    pub names: Vec<u8>,
+}
+
+#[cfg(feature = "encode")]
+impl SchemaTables {
+    /// All records of the table.
+    pub fn block(&self) -> crate::SchemaBlock<'_> {
+        let count = (self.records.len() / RECORD_BYTES) as u64;
+        crate::SchemaBlock { records: &self.records, names: &self.names, first: 0, count }
+    }
+}
+
 /// A node's name has more than 65,535 bytes, or all names together more than 4,294,967,295: the
 /// records have no room for such numbers.
 #[derive(Debug, Clone, Copy, PartialEq, Eq)]

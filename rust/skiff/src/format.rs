@@ -33,7 +33,7 @@ pub struct Row {
 
 impl Row {
     #[inline]
-    fn of(report: &Report) -> Self {
+    pub(crate) fn of(report: &Report) -> Self {
         Self {
             table: u16::try_from(report.table).expect("a table's tag has two bytes"),
             bytes: offset(report.bytes),

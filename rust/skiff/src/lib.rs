@@ -25,17 +25,27 @@
 //! ```
 
 mod builder;
+#[cfg(feature = "encode")]
+mod encoder;
 mod format;
 mod refusal;
 mod report;
+#[cfg(feature = "encode")]
+mod row_builder;
 mod settings;
 pub mod sys;
 mod value;
 mod wire_type;
 
+#[cfg(feature = "encode")]
+pub use builder::SchemaTables;
 pub use builder::{FormatBuilder, FormatTables, NameTooLong, Schema};
+#[cfg(feature = "encode")]
+pub use encoder::{Encoder, SchemaBlock, ValueTable, WriteError};
 pub use format::{Decoded, Format, Row, Run, Skipped, Stop};
 pub use refusal::{Context, Refusal};
+#[cfg(feature = "encode")]
+pub use row_builder::{Misuse, RowBuilder, ToValue};
 pub use settings::Settings;
 pub use value::{DecodedRow, Value, Values, Variant, Variants};
 pub use wire_type::WireType;

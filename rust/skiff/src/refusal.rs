@@ -44,16 +44,17 @@ impl Context {
     }
 }
 
+/// The word that refusals are told with: of a fixed type its name.
 impl fmt::Display for Context {
     fn fmt(&self, formatter: &mut fmt::Formatter<'_>) -> fmt::Result {
-        match self {
-            Self::Fixed(wire_type) => write!(formatter, "the bytes of a value of type {wire_type}"),
-            Self::BlobLength => formatter.write_str("a blob's length"),
-            Self::BlobPayload => formatter.write_str("a blob's bytes"),
-            Self::Variant8Tag => formatter.write_str("a tag of one byte"),
-            Self::Variant16Tag => formatter.write_str("a tag of two bytes"),
-            Self::TableTag => formatter.write_str("a row's table tag"),
-        }
+        formatter.write_str(match self {
+            Self::Fixed(wire_type) => wire_type.name(),
+            Self::BlobLength => "blob-length",
+            Self::BlobPayload => "blob-payload",
+            Self::Variant8Tag => "variant8-tag",
+            Self::Variant16Tag => "variant16-tag",
+            Self::TableTag => "table-tag",
+        })
     }
 }
 
@@ -62,28 +63,75 @@ impl fmt::Display for Context {
 /// numbers belong to calls that this crate does not have; the list is one for all calls.
 #[derive(Debug, Clone, Copy, PartialEq, Eq)]
 pub enum Refusal {
+    /// A setting, a slice's length or a position is outside its bounds.
     Setting,
+    /// The flat tables of schemas are not in form.
     BadSchemaTable,
+    /// A schema has more than 64 levels.
     TooDeep,
+    /// A type that has no children has some, in the schema record at `place`.
     UnexpectedChildren { wire_type: WireType, count: u64, place: u64 },
+    /// The schema record at `place` has more children than its type's tags can choose.
     TooManyChildren { wire_type: WireType, count: u64, maximum: u64, place: u64 },
+    /// The format has no tables.
     EmptyTableSchemas,
+    /// A table names a schema that is not in the registry.
     UnknownRegistryReference { table: u64, place: u64 },
+    /// A table's root, the schema record at `place`, is no tuple.
     TableSchemaRootMustBeTuple { found: WireType, place: u64 },
+    /// The same of what is written by.
     TableSchemaMustBeTuple { found: WireType, place: u64 },
+    /// A table's column, the schema record at `place`, has no name.
     TableSchemaChildMissingName { index: u64, place: u64 },
+    /// The row at `place` is of a table that the format does not have.
     MissingTableSchema { index: u64, place: u64 },
+    /// The stream ends inside what begins at `place`.
     Truncated { context: Context, place: u64 },
+    /// The row costs more than its limit when the node at `place` is charged.
     RowTooLarge { limit: u64, place: u64 },
+    /// The blob whose length stands at `place`, or that is the value record there, is over the limit.
     BlobTooLarge { wire_type: WireType, length: u64, limit: u64, place: u64 },
+    /// The value record at `place` is of a kind that can't be written as the schema's type.
     ValueDoesNotMatchSchema { wire_type: WireType, kind: u64, place: u64 },
+    /// The tuple at value record `place` has more or fewer values than the schema's has children.
     TupleLength { expected: u64, actual: u64, place: u64 },
+    /// The tag at `place`, or of the value record there, chooses none of the schema's children.
     InvalidVariantTag { wire_type: WireType, tag: u64, children: u64, place: u64 },
+    /// The value table is not in form.
     BadValueTable,
+    /// The row at `place` has more value records than the slice lent for them holds.
     NoNodeRoom { needed: u64, place: u64 },
+    /// The row at `place` has more payload bytes than the slice lent for them.
     NoPayloadRoom { needed: u64, place: u64 },
+    /// The output has fewer bytes from position `place` on than the row.
     NoOutputRoom { needed: u64, place: u64 },
 }
+
+/// The words of the refusals 1 to 21: the name, and what each carried value is. include/check-refusals
+/// compares them with the rules' and with the header's.
+const WORDS: [(&str, &[&str]); 21] = [
+    ("Setting", &[]),
+    ("BadSchemaTable", &[]),
+    ("TooDeep", &[]),
+    ("UnexpectedChildren", &["type", "count"]),
+    ("TooManyChildren", &["type", "count", "maximum"]),
+    ("EmptyTableSchemas", &[]),
+    ("UnknownRegistryReference", &["table"]),
+    ("TableSchemaRootMustBeTuple", &["type"]),
+    ("TableSchemaMustBeTuple", &["type"]),
+    ("TableSchemaChildMissingName", &["index"]),
+    ("MissingTableSchema", &["table"]),
+    ("Truncated", &["context"]),
+    ("RowTooLarge", &["limit"]),
+    ("BlobTooLarge", &["type", "length", "limit"]),
+    ("ValueDoesNotMatchSchema", &["type", "kind"]),
+    ("TupleLength", &["expected", "actual"]),
+    ("InvalidVariantTag", &["type", "tag", "children"]),
+    ("BadValueTable", &[]),
+    ("NoNodeRoom", &["needed"]),
+    ("NoPayloadRoom", &["needed"]),
+    ("NoOutputRoom", &["needed"]),
+];
 
 impl Refusal {
     /// The refusal of a number with its place and carried values; none where there is no such one.
@@ -157,70 +205,37 @@ impl Refusal {
         self.numbers().0
     }
 
+    /// The name that document 01 has for the number.
+    pub fn name(&self) -> &'static str {
+        self.words().0
+    }
+
     /// Where it was met; 0 for refusals that have no place.
     pub fn place(&self) -> u64 {
         self.numbers().1
     }
+
+    fn words(&self) -> (&'static str, &'static [&'static str]) {
+        WORDS[self.number() as usize - 1]
+    }
 }
 
+/// `refused NUMBER NAME (what it carries) at PLACE`, as the delivery program and include/skiff_words.h
+/// have it.
 impl fmt::Display for Refusal {
     fn fmt(&self, out: &mut fmt::Formatter<'_>) -> fmt::Result {
-        match self {
-            Self::Setting => out.write_str("a setting, a slice's length or a position is outside its bounds"),
-            Self::BadSchemaTable => out.write_str("the format's flat tables are not in form"),
-            Self::TooDeep => out.write_str("a schema has more than 64 levels"),
-            Self::UnexpectedChildren { wire_type, count, place } => {
-                write!(out, "schema record {place}: a {wire_type} can't have its {count} children")
-            }
-            Self::TooManyChildren { wire_type, count, maximum, place } => {
-                write!(
-                    out,
-                    "schema record {place}: a {wire_type} has {count} children, and may have {maximum}"
-                )
-            }
-            Self::EmptyTableSchemas => out.write_str("the format has no tables"),
-            Self::UnknownRegistryReference { table, .. } => {
-                write!(out, "table {table} names a schema that is not in the registry")
-            }
-            Self::TableSchemaRootMustBeTuple { found, place } => {
-                write!(out, "schema record {place}: a table's root has to be a tuple and is a {found}")
-            }
-            Self::TableSchemaMustBeTuple { found, place } => {
-                write!(out, "schema record {place}: what is written by has to be a tuple and is a {found}")
-            }
-            Self::TableSchemaChildMissingName { index, place } => {
-                write!(out, "schema record {place}: column {index} has no name")
-            }
-            Self::MissingTableSchema { index, place } => {
-                write!(out, "byte {place}: the row is of table {index}, which the format does not have")
-            }
-            Self::Truncated { context, place } => {
-                write!(out, "byte {place}: the stream ends inside {context}")
-            }
-            Self::RowTooLarge { limit, place } => {
-                write!(out, "byte {place}: the row costs more than its limit of {limit}")
-            }
-            Self::BlobTooLarge { wire_type, length, limit, place } => {
-                write!(out, "byte {place}: a {wire_type} of {length} bytes is over the limit of {limit}")
-            }
-            Self::ValueDoesNotMatchSchema { wire_type, kind, place } => {
-                write!(out, "value record {place}: kind {kind} can't be written as {wire_type}")
-            }
-            Self::TupleLength { expected, actual, place } => {
-                write!(out, "value record {place}: the tuple has {actual} values for {expected} columns")
-            }
-            Self::InvalidVariantTag { wire_type, tag, children, place } => {
-                write!(out, "at {place}: tag {tag} chooses none of the {children} children of a {wire_type}")
-            }
-            Self::BadValueTable => out.write_str("the value table is not in form"),
-            Self::NoNodeRoom { needed, .. } => write!(out, "the row needs room for {needed} value records"),
-            Self::NoPayloadRoom { needed, .. } => {
-                write!(out, "the row needs room for {needed} payload bytes")
-            }
-            Self::NoOutputRoom { needed, place } => {
-                write!(out, "output byte {place}: the row needs room for {needed} bytes")
+        let (number, place, carried) = self.numbers();
+        let (name, labels) = self.words();
+        write!(out, "refused {number} {name}")?;
+        for (index, (label, value)) in labels.iter().zip(carried).enumerate() {
+            write!(out, "{}{label} {value}", if index == 0 { " (" } else { ", " })?;
+            match (*label, WireType::from_code(value), Context::from_number(value)) {
+                ("type", Some(wire_type), _) => write!(out, " {wire_type}")?,
+                ("context", _, Some(context)) => write!(out, " {context}")?,
+                _ => {}
             }
         }
+        write!(out, "{} at {place}", if labels.is_empty() { "" } else { ")" })
     }
 }
 
@@ -241,6 +256,7 @@ mod tests {
             assert_eq!(Refusal::from_numbers(number, place, carried), Some(refusal));
             assert_eq!(place, if [1, 2, 3, 6, 18].contains(&number) { 0 } else { 70 });
             assert!(messages.insert(refusal.to_string()));
+            assert!(format!("{refusal:?}").starts_with(refusal.name()));
         }
         for number in [0, 22, 255, 1 << 32, u64::MAX] {
             assert_eq!(Refusal::from_numbers(number, 0, [0; 3]), None);
@@ -248,6 +264,21 @@ mod tests {
         assert_eq!(Refusal::from_numbers(4, 0, [20, 0, 0]), None);
         assert_eq!(Refusal::from_numbers(12, 0, [0, 0, 0]), None);
         assert_eq!(Refusal::from_numbers(12, 0, [18, 0, 0]), None);
+    }
+
+    #[test]
+    fn words_are_those_of_the_delivery_program() {
+        let words = |number, carried| {
+            Refusal::from_numbers(number, 7, carried).expect("there is such a number").to_string()
+        };
+        assert_eq!(words(1, [0; 3]), "refused 1 Setting at 0");
+        assert_eq!(
+            words(5, [15, 257, 256]),
+            "refused 5 TooManyChildren (type 15 variant8, count 257, maximum 256) at 7"
+        );
+        assert_eq!(words(12, [15, 0, 0]), "refused 12 Truncated (context 15 variant8-tag) at 7");
+        assert_eq!(words(12, [8, 0, 0]), "refused 12 Truncated (context 8 uint8) at 7");
+        assert_eq!(words(16, [2, 3, 0]), "refused 16 TupleLength (expected 2, actual 3) at 7");
     }
 
     #[test]

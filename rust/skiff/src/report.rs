@@ -1,6 +1,6 @@
 //! The answer slice, taken apart: eleven little-endian numbers.
 
-use crate::sys::ANSWER_BYTES;
+use crate::sys::ANSWER_SIZE;
 use crate::Refusal;
 
 /// What the first number says.
@@ -22,7 +22,7 @@ impl Report {
     /// Makes a call into an answer slice of its own and reads what it wrote.
     #[inline]
     pub fn of(call: impl FnOnce(&mut [u8]) -> u32) -> Self {
-        let mut answer = [0; ANSWER_BYTES];
+        let mut answer = [0; ANSWER_SIZE];
         let returned = call(&mut answer);
         let number = |index: usize| {
             u64::from_le_bytes(answer[index * 8..index * 8 + 8].try_into().expect("eight bytes"))

@@ -5,22 +5,28 @@
 //! each pointer leads to as many bytes as its length says, which a slice guarantees.
 
 use crate::{Format, Settings};
+#[cfg(feature = "encode")]
+use crate::{SchemaBlock, ValueTable};
 
 #[cfg(feature = "double")]
 extern crate double as _;
 
 /// A shorter answer slice is left as it is, and so are all others; the call returns 1.
-pub const ANSWER_BYTES: usize = 88;
+pub const ANSWER_SIZE: usize = 88;
 
 /// What one value record takes of the slice that it is written to.
 pub const VALUE_RECORD_BYTES: usize = 16;
 
+/// What one schema record takes of a record table.
+pub const SCHEMA_RECORD_BYTES: usize = 16;
+
 /// The C functions: all of them are given settings, format and input first and the answer slice last, so
-/// that only what stands between is written for each.
+/// that only what stands between is written for each. The version of the layouts is part of the symbol, as
+/// in the header, so that an archive of another version does not link.
 macro_rules! reading_calls {
-    ($(fn $name:ident($($own:ident: $type:ty),*);)+) => {
+    ($($symbol:literal fn $name:ident($($own:ident: $type:ty),*);)+) => {
         extern "C" {
-            $(fn $name(
+            $(#[link_name = $symbol] fn $name(
                 node_charge: u64,
                 max_blob_bytes: u64,
                 max_row_bytes: u64,
@@ -43,15 +49,49 @@ macro_rules! reading_calls {
 }
 
 reading_calls! {
-    fn skiff_skip(position: u64);
-    fn skiff_decode(
+    "skiff1_skip" fn skiff_skip(position: u64);
+    "skiff1_decode" fn skiff_decode(
         position: u64,
         value_records: *mut u8,
         value_records_len: usize,
         payload: *mut u8,
         payload_len: usize
     );
-    fn skiff_run();
+    "skiff1_run" fn skiff_run();
+}
+
+#[cfg(feature = "encode")]
+extern "C" {
+    #[link_name = "skiff1_encode"]
+    fn skiff_encode(
+        node_charge: u64,
+        max_blob_bytes: u64,
+        max_row_bytes: u64,
+        records: *const u8,
+        records_len: usize,
+        names: *const u8,
+        names_len: usize,
+        first: u64,
+        count: u64,
+        value_records: *const u8,
+        value_records_len: usize,
+        payload: *const u8,
+        payload_len: usize,
+        output: *mut u8,
+        output_len: usize,
+        position: u64,
+        answer: *mut u8,
+        answer_len: usize,
+    ) -> u32;
+    #[link_name = "skiff1_check_value_table"]
+    fn skiff_check_value_table(
+        value_records: *const u8,
+        value_records_len: usize,
+        payload: *const u8,
+        payload_len: usize,
+        answer: *mut u8,
+        answer_len: usize,
+    ) -> u32;
 }
 
 /// The three settings as numbers, unchecked: the library checks them.
@@ -128,4 +168,58 @@ pub fn decode(
 pub fn run(numbers: Numbers, format: &Format, input: &[u8], answer: &mut [u8]) -> u32 {
     // SAFETY: as in `skip`.
     unsafe { lend!(skiff_run, numbers, format, input;; answer) }
+}
+
+/// `skiff_encode`: the refusal's number, 0 where the row was written.
+#[cfg(feature = "encode")]
+#[inline]
+pub fn encode(
+    numbers: Numbers,
+    block: &SchemaBlock,
+    value: &ValueTable,
+    output: &mut [u8],
+    position: u64,
+    answer: &mut [u8],
+) -> u32 {
+    // SAFETY: each pointer and length are those of a slice that is borrowed for the call; the two that are
+    // written are each borrowed by nobody else.
+    unsafe {
+        skiff_encode(
+            numbers.node_charge,
+            numbers.max_blob_bytes,
+            numbers.max_row_bytes,
+            block.records.as_ptr(),
+            block.records.len(),
+            block.names.as_ptr(),
+            block.names.len(),
+            block.first,
+            block.count,
+            value.records.as_ptr(),
+            value.records.len(),
+            value.payload.as_ptr(),
+            value.payload.len(),
+            output.as_mut_ptr(),
+            output.len(),
+            position,
+            answer.as_mut_ptr(),
+            answer.len(),
+        )
+    }
+}
+
+/// `skiff_check_value_table`: the refusal's number, 0 where it is a table.
+#[cfg(feature = "encode")]
+#[inline]
+pub fn check_value_table(value: &ValueTable, answer: &mut [u8]) -> u32 {
+    // SAFETY: as in `encode`; only the answer slice is written.
+    unsafe {
+        skiff_check_value_table(
+            value.records.as_ptr(),
+            value.records.len(),
+            value.payload.as_ptr(),
+            value.payload.len(),
+            answer.as_mut_ptr(),
+            answer.len(),
+        )
+    }
 }

@@ -7,7 +7,8 @@ use crate::sys::VALUE_RECORD_BYTES;
 use crate::Row;
 
 /// A row's value records and payload bytes, as the library wrote them: exactly one tree. That is why
-/// the views below index without a way to fail, and why only a decoded row can begin one.
+/// the views below index without a way to fail, and why only a decoded row, or one that was refused for what
+/// it holds, can begin one.
 #[derive(Clone, Copy, PartialEq, Eq)]
 pub(crate) struct Table<'a> {
     records: &'a [u8],
@@ -16,16 +17,16 @@ pub(crate) struct Table<'a> {
 
 /// A record's fields.
 #[derive(Clone, Copy)]
-struct Record {
-    kind: u8,
-    tag: u16,
+pub(crate) struct Record {
+    pub(crate) kind: u8,
+    pub(crate) tag: u16,
     size: u32,
     data: [u8; 8],
 }
 
-const VARIANT: u8 = 15;
-const REPEATED: u8 = 16;
-const TUPLE: u8 = 17;
+pub(crate) const VARIANT: u8 = 15;
+pub(crate) const REPEATED: u8 = 16;
+pub(crate) const TUPLE: u8 = 17;
 
 impl Record {
     fn children(&self) -> usize {
@@ -46,7 +47,7 @@ impl<'a> Table<'a> {
         Self { records, payload }
     }
 
-    fn record(&self, at: usize) -> Record {
+    pub(crate) fn record(&self, at: usize) -> Record {
         let start = at * VALUE_RECORD_BYTES;
         let bytes: &[u8; VALUE_RECORD_BYTES] =
             self.records[start..start + VALUE_RECORD_BYTES].try_into().expect("sixteen bytes");
@@ -60,7 +61,7 @@ impl<'a> Table<'a> {
     }
 
     /// The record after the one at `at` and all below it.
-    fn after(&self, mut at: usize) -> usize {
+    pub(crate) fn after(&self, mut at: usize) -> usize {
         let mut left = 1;
         while left > 0 {
             left = left - 1 + self.record(at).children();

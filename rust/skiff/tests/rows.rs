@@ -139,7 +139,7 @@ fn a_name_has_at_most_65535_bytes() {
 #[test]
 fn a_refusal_is_an_error_with_a_message() {
     let error: Box<dyn std::error::Error> = Box::new(Refusal::RowTooLarge { limit: 193, place: 4 });
-    assert_eq!(error.to_string(), "byte 4: the row costs more than its limit of 193");
+    assert_eq!(error.to_string(), "refused 13 RowTooLarge (limit 193) at 4");
 }
 
 /// The delivery that stands in examples/, and that the builder writes the same format.

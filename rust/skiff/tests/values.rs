@@ -339,13 +339,13 @@ fn a_short_answer_slice_is_refused_before_all_else() {
         let format = tables.format();
         let returned = sys::decode(numbers, &format, &FULL, 0, &mut records, &mut payload, &mut answer);
         let stale = |bytes: &[u8]| bytes.iter().all(|byte| *byte == STALE);
-        if length < sys::ANSWER_BYTES {
+        if length < sys::ANSWER_SIZE {
             assert_eq!(returned, 1);
             assert!(stale(&records) && stale(&payload) && stale(&answer));
         } else {
             assert_eq!(returned, 0);
             assert_eq!(payload, [0xD1, 0xC5]);
-            assert!(stale(&answer[sys::ANSWER_BYTES..]));
+            assert!(stale(&answer[sys::ANSWER_SIZE..]));
         }
     }
 }

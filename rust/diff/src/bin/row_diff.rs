@@ -78,7 +78,7 @@ fn report(options: &Options, asked: Asked) -> Result<(), String> {
     }
     let smallest = shrink(asked.case.clone(), &mut |cases| cases.iter().map(differs).collect());
     let asked = asked.about(smallest);
-    println!("smallest case found: {} bytes, answer slice of {}", asked.case.bytes(), asked.answer_bytes);
+    println!("smallest case found: {} bytes, answer slice of {}", asked.case.bytes(), asked.answer_size);
     let verdict = Verdict::of(&asked);
     println!("{}", describe(&asked.case));
     println!("  library:  {}", verdict.got.in_words());

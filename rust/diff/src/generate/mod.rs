@@ -8,6 +8,7 @@ pub mod rows;
 pub mod small_formats;
 pub mod trees;
 pub mod words;
+pub mod writes;
 
 use crate::case::Case;
 use crate::rng::Rng;

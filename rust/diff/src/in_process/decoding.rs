@@ -16,10 +16,10 @@ fn filled(lent: [usize; 2]) -> [Vec<u8>; 2] {
 }
 
 impl Reply {
-    fn decoded(case: &Case, answer_bytes: usize, mut lent: [Vec<u8>; 2]) -> Self {
+    fn decoded(case: &Case, answer_size: usize, mut lent: [Vec<u8>; 2]) -> Self {
         let (numbers, format) = given(case);
         let [records, payload] = &mut lent;
-        let reply = Self::of(answer_bytes, |answer| {
+        let reply = Self::of(answer_size, |answer| {
             sys::decode(numbers, &format, &case.input, case.a, records, payload, answer)
         });
         Self { lent: Some(lent), ..reply }
@@ -28,18 +28,18 @@ impl Reply {
 
 /// What the plain reading, the original, the library and the library's own skip do with a decoding case.
 pub fn verdict(asked: &Asked) -> Verdict {
-    let Asked { case, answer_bytes, .. } = asked;
+    let Asked { case, answer_size, .. } = asked;
     let before = filled(case.lent());
     let (report, after) = plain_decoded(case, before.clone());
-    let got = Reply::decoded(case, *answer_bytes, before.clone());
+    let got = Reply::decoded(case, *answer_size, before.clone());
     // Without room for its answer a call leaves all slices as they are.
-    let left = if *answer_bytes < REPORT_BYTES { before } else { after.clone() };
-    let wanted = Reply { lent: Some(left), ..Reply::expected(&report, *answer_bytes) };
+    let left = if *answer_size < REPORT_BYTES { before } else { after.clone() };
+    let wanted = Reply { lent: Some(left), ..Reply::expected(&report, *answer_size) };
 
-    let skipped = Reply::of_library(op::SKIP, case, *answer_bytes);
+    let skipped = Reply::of_library(op::SKIP, case, *answer_size);
     // Skipping has the same answer, but where there is no room: then it accepts a row of just that need.
     let as_skipped = match report.number {
-        NO_NODE_ROOM | NO_PAYLOAD_ROOM => skipped == Reply::expected(&plain_report(case), *answer_bytes),
+        NO_NODE_ROOM | NO_PAYLOAD_ROOM => skipped == Reply::expected(&plain_report(case), *answer_size),
         _ => skipped.returned == got.returned && skipped.answer == got.answer,
     };
     let expected = Expected::with(case, decoded_line(&report, after));

@@ -17,26 +17,26 @@ use super::{filling, numbers, Reply, LENT_FILLING};
 use crate::generate::rows::usual;
 use crate::plan::{inline, lay_out, over, table_of, Plan};
 
-const BOUND: usize = MOST as usize;
+pub(crate) const BOUND: usize = MOST as usize;
 
 /// Of a lent slice only so many bytes are filled before a call and looked at after it.
 const NEAR: usize = 256;
 
 /// One byte more than a slice may have, all zero.
-struct Zeros {
+pub(crate) struct Zeros {
     start: *mut u8,
     layout: Layout,
 }
 
 impl Zeros {
-    fn new() -> Option<Self> {
+    pub(crate) fn new() -> Option<Self> {
         let layout = Layout::from_size_align(BOUND + 1, 16).ok()?;
         // SAFETY: the layout has a size that is not 0.
         let start = unsafe { alloc_zeroed(layout) };
         (!start.is_null()).then_some(Self { start, layout })
     }
 
-    fn bytes(&mut self) -> &mut [u8] {
+    pub(crate) fn bytes(&mut self) -> &mut [u8] {
         // SAFETY: so many bytes were allocated, all of them zero at first, and the borrow is the only one.
         unsafe { slice::from_raw_parts_mut(self.start, self.layout.size()) }
     }

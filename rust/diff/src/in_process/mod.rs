@@ -20,7 +20,7 @@ use crate::rng::Rng;
 use crate::room::Room;
 
 /// Answer slices come in these lengths, in turn: too short ones, just long enough, and longer ones.
-const ANSWER_BYTES: [usize; 16] = [88, 89, 200, 88, 96, 88, 200, 89, 87, 88, 88, 200, 0, 89, 88, 120];
+const ANSWER_SIZES: [usize; 16] = [88, 89, 200, 88, 96, 88, 200, 89, 87, 88, 88, 200, 0, 89, 88, 120];
 
 /// Of a lent slice no more bytes are printed.
 const MOST_SHOWN: usize = 160;
@@ -56,22 +56,22 @@ fn given(case: &Case) -> (Numbers, Format<'_>) {
 
 impl Reply {
     /// A call into a filled slice of so many bytes.
-    fn of(answer_bytes: usize, call: impl FnOnce(&mut [u8]) -> u32) -> Self {
-        let mut answer: Vec<u8> = (0..answer_bytes).map(filling).collect();
+    fn of(answer_size: usize, call: impl FnOnce(&mut [u8]) -> u32) -> Self {
+        let mut answer: Vec<u8> = (0..answer_size).map(filling).collect();
         let returned = call(&mut answer);
         Self { returned, answer, lent: None }
     }
 
     /// What the plain reading would have left.
-    pub fn expected(report: &Report, answer_bytes: usize) -> Self {
-        Self::of(answer_bytes, |answer| report.write_to(answer))
+    pub fn expected(report: &Report, answer_size: usize) -> Self {
+        Self::of(answer_size, |answer| report.write_to(answer))
     }
 
     /// What the library's skip or run leaves of a case.
-    fn of_library(op: u32, case: &Case, answer_bytes: usize) -> Self {
+    fn of_library(op: u32, case: &Case, answer_size: usize) -> Self {
         let (numbers, format) = given(case);
         let input = &case.input;
-        Self::of(answer_bytes, |answer| match op {
+        Self::of(answer_size, |answer| match op {
             op::SKIP => sys::skip(numbers, &format, input, case.a, answer),
             op::RUN => sys::run(numbers, &format, input, answer),
             other => panic!("neither skip nor run: {other}"),
@@ -117,18 +117,18 @@ impl Reply {
 #[derive(Debug, Clone)]
 pub struct Asked {
     pub case: Case,
-    pub answer_bytes: usize,
+    pub answer_size: usize,
     room: Room,
 }
 
 impl Asked {
-    fn new(case: Case, answer_bytes: usize, room: Room) -> Self {
-        Self { case: room.lend(case), answer_bytes, room }
+    fn new(case: Case, answer_size: usize, room: Room) -> Self {
+        Self { case: room.lend(case), answer_size, room }
     }
 
     /// The same with another case.
     pub fn about(&self, case: Case) -> Self {
-        Self::new(case, self.answer_bytes, self.room)
+        Self::new(case, self.answer_size, self.room)
     }
 }
 
@@ -143,14 +143,14 @@ pub struct Verdict {
 
 impl Verdict {
     pub fn of(asked: &Asked) -> Self {
-        let Asked { case, answer_bytes, .. } = asked;
+        let Asked { case, answer_size, .. } = asked;
         if case.op == op::DECODE {
             return decoding::verdict(asked);
         }
         let report = plain_report(case);
         let expected = Expected::with(case, line(case.op, &report));
-        let wanted = Reply::expected(&report, *answer_bytes);
-        let got = Reply::of_library(case.op, case, *answer_bytes);
+        let wanted = Reply::expected(&report, *answer_size);
+        let got = Reply::of_library(case.op, case, *answer_size);
         Self { expected, as_skipped: true, wanted, got }
     }
 
@@ -213,8 +213,8 @@ impl Run {
             op::DECODE => &mut self.tallies.decoding,
             _ => &mut self.tallies.reading,
         };
-        let answer_bytes = ANSWER_BYTES[tally.cases as usize % ANSWER_BYTES.len()];
-        let asked = Asked::new(case, answer_bytes, room);
+        let answer_size = ANSWER_SIZES[tally.cases as usize % ANSWER_SIZES.len()];
+        let asked = Asked::new(case, answer_size, room);
         let verdict = Verdict::of(&asked);
         if verdict.is_good() {
             tally.add(kind, &verdict.expected);

@@ -161,7 +161,7 @@ fn put_payload(flat: &mut ValueTable, kind: u8, tag: u16, bytes: &[u8]) {
 }
 
 /// The original's value as value records in preorder and payload bytes; doubles by their bits.
-fn flatten(value: &Value, tag: u16, flat: &mut ValueTable) {
+pub fn flatten(value: &Value, tag: u16, flat: &mut ValueTable) {
     match value {
         Value::Nothing => put(flat, 0, tag, 0, &[]),
         Value::Boolean(truth) => put(flat, 1, tag, 0, &[if *truth { 1 } else { 0 }]),

@@ -1,6 +1,7 @@
 //! Hand-made cases, each with the sentence of document 01 that it stands for.
 
 mod decoding;
+mod encoding;
 mod format;
 mod reading;
 

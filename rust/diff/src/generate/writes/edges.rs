@@ -1,0 +1,277 @@
+//! The fixed cases: each kind under each type, edges of every scalar, tags, counts, limits, depths and
+//! widths, and a small table with every byte changed.
+
+use plain::decoding::kind;
+use plain::settings::Settings;
+use plain::wire_type::fixed_width;
+
+use super::draw::{lay_out, leaf, Body, Node};
+use super::{schema_of, Emit};
+use crate::generate::rows::usual;
+use crate::generate::rows::values::DOUBLES;
+use crate::generate::Kind;
+use crate::plan::{chain, fan, over, table_of, Plan};
+use crate::rng::Rng;
+use crate::writing::WriteCase;
+
+pub fn fixed(emit: &mut Emit) {
+    kinds(emit);
+    scalars(emit);
+    tags(emit);
+    counts(emit);
+    limits(emit);
+    depths(emit);
+    widths(emit);
+    every_byte(emit);
+}
+
+fn tuple(children: Vec<Node>) -> Node {
+    Node::new(kind::TUPLE, Body::Children(children))
+}
+
+/// One column of a table, and its value.
+fn one(emit: &mut Emit, what: Kind, column: &[Plan], value: Node) {
+    one_with(emit, what, column, value, usual());
+}
+
+fn one_with(emit: &mut Emit, what: Kind, column: &[Plan], value: Node, settings: Settings) {
+    let schema = schema_of(&table_of(column)).with_settings(settings);
+    let value = lay_out(&tuple(vec![value]));
+    emit(what, WriteCase { schema, value, output: 0, position: 0 });
+}
+
+/// A value of each kind; compound ones have one child.
+fn of_kind(rng: &mut Rng, of: u8) -> Node {
+    if of < kind::VARIANT {
+        return leaf(rng, of);
+    }
+    Node::new(of, Body::Children(vec![Node::nothing()]))
+}
+
+/// Each of the eighteen kinds under each of the twenty types.
+fn kinds(emit: &mut Emit) {
+    let rng = &mut Rng::new(18);
+    for code in 0..20 {
+        let column = if code < 15 { vec![Plan::new(code, 0)] } else { over(code, &[0]) };
+        for of in 0..18 {
+            let value = of_kind(rng, of);
+            one(emit, "kinds", &column, value.clone());
+            // At the root, and below a list.
+            let schema = schema_of(&table_of(&column));
+            emit("kinds", WriteCase { schema, value: lay_out(&value), output: 0, position: 0 });
+            let list = Node::new(kind::REPEATED, Body::Children(vec![value]));
+            let mut plans = vec![Plan::new(18, 1)];
+            plans.extend(column.clone());
+            one(emit, "kinds", &plans, list);
+        }
+    }
+}
+
+/// The lowest, the highest, zero, one and minus one of every width, and every double of note.
+fn scalars(emit: &mut Emit) {
+    for code in 0..13_u8 {
+        let width = fixed_width(u64::from(code)).expect("fixed") as usize;
+        let mut edges: Vec<Vec<u8>> = vec![vec![0; width]];
+        if code == 1 {
+            edges.push(vec![1]);
+        } else if width > 0 {
+            let with = |fill: u8, first: u8, last: u8| {
+                let mut bytes = vec![fill; width];
+                bytes[0] = first;
+                bytes[width - 1] = last;
+                bytes
+            };
+            edges.extend([with(255, 255, 255), with(0, 0, 0x80), with(255, 255, 0x7F), with(0, 1, 0)]);
+            edges.push((0..width as u8).map(|byte| byte * 7 + 3).collect());
+        }
+        if code == 12 {
+            edges.extend(DOUBLES.iter().map(|bits| bits.to_le_bytes().to_vec()));
+        }
+        for bytes in edges {
+            let body = if width > 8 {
+                Body::Payload(bytes)
+            } else {
+                let mut data = [0; 8];
+                data[..width].copy_from_slice(&bytes);
+                Body::Data(data)
+            };
+            one(emit, "scalars", &[Plan::new(code, 0)], Node::new(code, body));
+        }
+    }
+}
+
+/// Tags at and past the edge of the choices, and at those of one and two bytes; the end tags too. The
+/// most children that each type may have, and one more.
+fn tags(emit: &mut Emit) {
+    for (code, all) in [
+        (15, &[0, 1, 2, 255, 256, 257][..]),
+        (16, &[0, 1, 2, 256, 257, 65_536, 65_537]),
+        (17, &[0, 1, 2, 254, 255, 256]),
+        (18, &[0, 1, 2, 255, 256, 65_535, 65_536]),
+    ] {
+        for count in all {
+            let column = fan(code, *count, 0);
+            let edges =
+                [0, 1, *count as i64 - 1, *count as i64, *count as i64 + 1, 254, 255, 256, 65_534, 65_535];
+            for tag in edges.into_iter().filter(|tag| (0..65_536).contains(tag)) {
+                if *count > 300 && tag < 65_533 && tag != 0 {
+                    continue;
+                }
+                let chosen = Node::nothing().chosen(tag as u16, *count as u32);
+                let of = if code < 17 { kind::VARIANT } else { kind::REPEATED };
+                one(emit, "tags", &column, Node::new(of, Body::Children(vec![chosen.clone()])));
+                if code >= 17 && *count > 0 {
+                    // The tag is judged before its child, and after the elements before it.
+                    let wrong = Node::new(1, Body::Data([1, 0, 0, 0, 0, 0, 0, 0])).chosen(tag as u16, 0);
+                    let items = vec![Node::nothing(), Node::nothing(), wrong];
+                    one(emit, "tags", &column, Node::new(of, Body::Children(items)));
+                }
+            }
+        }
+    }
+}
+
+/// Tuples, at the root and below, with fewer and more values than columns.
+fn counts(emit: &mut Emit) {
+    for columns in 0..4_u32 {
+        for values in 0..5 {
+            let mut plans = vec![Plan::new(19, columns)];
+            plans.extend((0..columns).map(|_| Plan::named(0, 0, b"c")));
+            let value = tuple(vec![Node::nothing(); values]);
+            let schema = schema_of(&plans);
+            emit("counts", WriteCase { schema, value: lay_out(&value), output: 0, position: 0 });
+            one(emit, "counts", &fan(19, columns as usize, 0), value.clone());
+            // The length comes before the children's own faults.
+            let mut wrong = value;
+            if let Some(first) = wrong.children().and_then(|children| children.first_mut()) {
+                *first = Node::new(1, Body::Data([0; 8]));
+                one(emit, "counts", &fan(19, columns as usize, 0), wrong);
+            }
+        }
+    }
+}
+
+/// Blobs around the limit; int128 and int256 have none.
+fn limits(emit: &mut Emit) {
+    for length in [0_usize, 1, 2, 31, 32, 255, 256, 65_535, 65_536] {
+        for limit in [0, 1, length as u64, length as u64 + 1, (length as u64).saturating_sub(1)] {
+            let settings = Settings { max_blob_bytes: limit, ..usual() };
+            for code in [13, 14] {
+                let blob = Node::new(code, Body::Payload(vec![0x61; length]));
+                one_with(emit, "limits", &[Plan::new(code, 0)], blob.clone(), settings);
+                one_with(emit, "limits", &[Plan::new(27 - code, 0)], blob, settings);
+            }
+        }
+    }
+    for (code, width) in [(6, 16), (7, 32)] {
+        let settings = Settings { max_blob_bytes: 0, max_row_bytes: 0, ..usual() };
+        let wide = Node::new(code, Body::Payload(vec![0x80; width]));
+        one_with(emit, "limits", &[Plan::new(code, 0)], wide, settings);
+    }
+}
+
+/// Chains of each compound type up to the bound and over it, in the schema and in the value.
+fn depths(emit: &mut Emit) {
+    for code in 15..20 {
+        let of = [kind::VARIANT, kind::REPEATED, kind::TUPLE][usize::from(code - 15) / 2];
+        for (schema_levels, value_levels) in
+            [(62, 62), (63, 63), (64, 64), (63, 62), (62, 63), (63, 64), (63, 65), (2, 64), (2, 65)]
+        {
+            let mut value = Node::nothing();
+            for _ in 1..value_levels {
+                value = Node::new(of, Body::Children(vec![value]));
+            }
+            one(emit, "depths", &chain(schema_levels, code, 0), value);
+        }
+    }
+}
+
+/// Many columns, many elements, elements of several records.
+fn widths(emit: &mut Emit) {
+    for columns in [255, 256, 300, 1_000] {
+        let value = tuple(vec![Node::new(8, Body::Data([7, 0, 0, 0, 0, 0, 0, 0])); columns]);
+        one(emit, "widths", &fan(19, columns, 8), value);
+    }
+    for items in [254, 255, 256, 257, 5_000, 70_000] {
+        for code in [17, 18] {
+            let item = Node::nothing();
+            one(
+                emit,
+                "widths",
+                &fan(code, 2, 0),
+                Node::new(kind::REPEATED, Body::Children(vec![item; items])),
+            );
+        }
+    }
+    let item = tuple(vec![
+        Node::new(13, Body::Payload(b"element".to_vec())),
+        Node::new(7, Body::Payload((0..32).collect())),
+        Node::new(1, Body::Data([1, 0, 0, 0, 0, 0, 0, 0])),
+    ]);
+    let column = [Plan::new(17, 1), Plan::new(19, 3), Plan::new(13, 0), Plan::new(7, 0), Plan::new(1, 0)];
+    one(emit, "widths", &column, Node::new(kind::REPEATED, Body::Children(vec![item; 500])));
+}
+
+/// A table of every kind, of which each byte takes each of some values; cut at every byte; and its store.
+fn every_byte(emit: &mut Emit) {
+    let column = [
+        Plan::new(19, 5),
+        Plan::new(15, 2),
+        Plan::new(17, 2),
+        Plan::new(1, 0),
+        Plan::new(6, 0),
+        Plan::new(14, 0),
+        Plan::new(0, 0),
+        Plan::new(13, 0),
+        Plan::new(1, 0),
+        Plan::new(3, 0),
+    ];
+    let number = |code: u8, byte: u8| Node::new(code, Body::Data([byte, 0, 0, 0, 0, 0, 0, 0]));
+    let value = tuple(vec![tuple(vec![
+        Node::new(
+            kind::VARIANT,
+            Body::Children(vec![Node::new(13, Body::Payload(b"ab".to_vec())).chosen(1, 2)]),
+        ),
+        Node::new(kind::REPEATED, Body::Children(vec![number(1, 1), number(3, 9).chosen(1, 2)])),
+        number(1, 0),
+        Node::new(6, Body::Payload((0..16).collect())),
+        Node::new(14, Body::Payload(b"c".to_vec())),
+    ])]);
+    let right =
+        WriteCase { schema: schema_of(&table_of(&column)), value: lay_out(&value), output: 0, position: 0 };
+    emit("every byte", right.clone());
+    for at in 0..right.value.records.len() {
+        let was = right.value.records[at];
+        let mut bytes = vec![0, 1, 2, 3, 15, 16, 17, 18, 31, 33, 0x7F, 0x80, 0xFE, 0xFF];
+        bytes.extend([was.wrapping_add(1), was.wrapping_sub(1), was ^ 0x40]);
+        for byte in bytes {
+            let mut case = right.clone();
+            case.value.records[at] = byte;
+            emit("every byte", case);
+        }
+        let mut case = right.clone();
+        case.value.records.truncate(at);
+        emit("every byte", case);
+    }
+    for bytes in 0..right.value.payload.len() + 3 {
+        let mut case = right.clone();
+        case.value.payload.resize(bytes, 0x77);
+        emit("every byte", case);
+    }
+    // A second tree, a copy of each record at each place, and each record gone.
+    let count = right.value.records.len() / 16;
+    for from in 0..count {
+        for to in 0..=count {
+            let mut case = right.clone();
+            let record = case.value.records[from * 16..from * 16 + 16].to_vec();
+            case.value.records.splice(to * 16..to * 16, record);
+            emit("every byte", case);
+        }
+        let mut case = right.clone();
+        case.value.records.drain(from * 16..from * 16 + 16);
+        emit("every byte", case);
+    }
+    let mut case = right.clone();
+    case.value.records.extend_from_slice(&right.value.records);
+    emit("every byte", case);
+}

@@ -1,0 +1,53 @@
+//! write-diff against its test double: a right library passes, and each planted fault is found and made
+//! small. Runs with `--features double,encode`.
+
+#![cfg(all(feature = "double", feature = "encode"))]
+
+use std::process::Command;
+
+/// The exit code and what was printed.
+fn run(fault: &str, count: &str) -> (Option<i32>, String) {
+    let output = Command::new(env!("CARGO_BIN_EXE_write-diff"))
+        .args(["--count", count, "--seed", "7"])
+        .env("DOUBLE_FAULT", fault)
+        .output()
+        .expect("write-diff runs");
+    (output.status.code(), String::from_utf8_lossy(&output.stdout).into_owned())
+}
+
+#[test]
+fn a_right_library_passes_and_all_is_met() {
+    let (code, text) = run("", "60000");
+    assert_eq!(code, Some(0), "{text}");
+    assert!(text.trim_end().ends_with("0 differences"), "{text}");
+}
+
+#[test]
+fn each_fault_is_found() {
+    for fault in [
+        "writes_table_tag_1",
+        "boolean_is_its_opposite",
+        "leaves_out_an_end_tag",
+        "writes_a_constant_row",
+        "writes_past_the_row",
+        "writes_a_tag_before_it_is_judged",
+        "encoder_blob_limit_excludes_equality",
+        "output_room_excludes_equality",
+        "room_comes_before_the_blob_limit",
+        "mismatch_comes_before_the_table",
+        "tag_is_placed_at_its_parent",
+        "encodes_with_a_short_answer",
+        "accepts_a_second_tree",
+        "accepts_a_start_off_by_one",
+    ] {
+        let (code, text) = run(fault, "60000");
+        assert_eq!(code, Some(1), "{fault}: {text}");
+        let (_, rest) = text.split_once("smallest case found: ").expect(&text);
+        let bytes: usize = rest.split(' ').next().unwrap().parse().expect(&text);
+        assert!(bytes <= 600, "{fault}: {text}");
+        assert!(
+            rest.contains("\nencode\n") || rest.contains("\ncheck of a value table\n"),
+            "{fault}: {text}"
+        );
+    }
+}
