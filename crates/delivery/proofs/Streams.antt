@@ -6,12 +6,13 @@ use mathlib.Core.Bool.{Bool, true, false}
 use mathlib.Core.List.{List, [], _∷_, _++_}
 use native.Mathlib.Omega.{arith}
 use borrow.Author.Tests.{lt-leb}
+use lib.Dec.{leb}
 use lib.ListN.{length, getD, take, drop, length-append, length-drop, drop-of-length-le}
 use lib.Seq.{length-take-le, take-append-le, take-take, take-add, drop-drop, getD-drop}
 use Rattle.rules.specs.Choice.{pick, _and_}
 use Rattle.rules.specs.Bytes.{Bytes, part, over}
 use Rattle.rules.specs.Format.{Format, sizesOk, shortOk}
-use Rattle.rules.specs.Reading.{settingsOk, defaults, refusedRun, runRule, rowCount, byteCount, ranOf}
+use Rattle.rules.specs.Reading.{settingsOk, defaults, door, through, refusedRun, runRule, rowCount, byteCount, ranOf}
 use Rattle.rules.specs.Windows.{goesOn, movedStop, added}
 use Rattle.rules.specs.Refusals.{Setting}
 use Rattle.rules.specs.declared.Stop.{Stop}
@@ -143,8 +144,10 @@ module _ (f : Format) {x y z w end n : ℕ} (s ys : List ℕ) (ran : Ran) (got :
 
   -- or they are too many
   pub stream-long : 4294967295 < n + got → (r : Ran) → r ≡ record { rows = 0; bytes = 0; stop = Stop.Refused Setting } → Answers f (Told r)
-  unfolding Tells ranOf runRule refusedRun rowCount byteCount pick
-  stream-long h r q = record { stream = t .read ++ more; tells = q ∙ rw (lt-leb (length (t .read ++ more)) 4294967295 (rw longer h), and-false (settingsOk defaults and sizesOk f)) }
+  unfolding Tells ranOf runRule door through refusedRun rowCount byteCount pick
+  stream-long h r q =
+      let none : (false and leb 0 (length (t .read ++ more))) ≡ false = unfold _and_ in refl in
+      record { stream = t .read ++ more; tells = q ∙ rw (lt-leb (length (t .read ++ more)) 4294967295 (rw longer h), and-false (settingsOk defaults and sizesOk f), none) }
 
 -- the end of the reading
 pub stream-told : (f : Format) {x y z w end n : ℕ} {s : List ℕ} (ran : Ran) (o : Outcome) → Stream f x y z w s end ran n → Tells ran o → Answers f o
