@@ -91,7 +91,7 @@ module _ (f : Format) where
   unfoldable pub schemaOf : ℕ → Schema
   schemaOf t = schemaIn (tableSchema f t)
 
-  -- at a place stands a row of v of table t, within the limits, and q is where it leaves off
+  -- at a position stands a row of v of table t, within the limits, and q is where it leaves off
   pub record Accepts (inp : List ℕ) (lim : Limits) (at t : ℕ) (v : Value) (q : Pos) : Type 0 where
     pub bytes : List ℕ
     pub is : TableRow (tables f) schemaOf t v bytes
@@ -116,7 +116,7 @@ skipFrom f inp lim at = pick (eqb at (length inp)) End (skipped at (rowAt f inp 
 unfoldable pub skipRule : Format → Settings → List ℕ → ℕ → Read
 skipRule f s inp at = through (door f s inp at) Read.Refused End (skipped at (rowAt f inp (limits s) at))
 
--- ---- the run: the rows that are accepted one after another from a place on, and why it stops
+-- ---- the run: the rows that are accepted one after another from a position on, and why it stops
 pub record RowSpan : Type 0 where
   pub offset : ℕ
   pub size : ℕ
@@ -139,7 +139,7 @@ unfoldable pub runFrom : Format → List ℕ → Limits → ℕ → ℕ → Run
 runFrom f inp lim zero at = record { rows = []; stop = Stop.End }
 runFrom f inp lim (suc enough) at = goOn (runFrom f inp lim enough) at (skipFrom f inp lim at)
 
--- From a place on, skip accepts just these rows one after another, and then stops so.
+-- From a position on, skip accepts just these rows one after another, and then stops so.
 pub data Iterated (f : Format) (s : Settings) (inp : List ℕ) : ℕ → List RowSpan → Stop → Type 0 where
   at-end : {at : ℕ} →
       skipRule f s inp at ≡ End →
