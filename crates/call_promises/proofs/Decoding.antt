@@ -21,4 +21,4 @@ pub leaves-the-row : (κs : Lfts 7) (settings : Settings) (table names reference
     Leaves (slices (table .now) (names .now) (references .now) (registry .now)) (input .now) (limits settings) position (records .now) (payload .now)
     (record { answer = answer; records = s .1 .1 .1 .1 .1 .1 .1 .0 .now; payload = s .1 .1 .1 .1 .1 .1 .1 .1 .0 .now })
 leaves-the-row κs settings table names references registry input position records payload bs answer s p =
-    rw (p .0, p .1 .0, p .1 .1) (decode-leaves (slices (table .now) (names .now) (references .now) (registry .now)) settings (input .now) position (records .now) (payload .now) bs)
+    rw p (decode-leaves (slices (table .now) (names .now) (references .now) (registry .now)) settings (input .now) position (records .now) (payload .now) bs)

@@ -3,7 +3,7 @@
 -- on some arguments is the same as any other that does, refusals included. So a weaker `ensures` fails here.
 -- Assumes nothing.
 use Prim.Native.Nat.{ℕ}
-use mathlib.Core.Path.{_≡_, sym, _∙_}
+use mathlib.Core.Path.{_≡_, sym, _∙_, ap}
 use mathlib.Core.List.{List, [], _∷_}
 use contract.Lifetimes.{Lfts}
 use borrow.Fn.Kinds.{PK, RK, Dens, Out, resT, endedOf}
@@ -21,13 +21,12 @@ use Rattle.schema.proofs.check_schema as check-schema
 use Rattle.schema.proofs.check_encoder_schema as check-encoder-schema
 use Rattle.schema.proofs.check_format as check-format
 use Rattle.value.proofs.check_value_table as check-value-table
-use Rattle.stream.proofs.within_bounds as within-bounds
-use Rattle.stream.proofs.skip_row as skip-row
-use Rattle.stream.proofs.run as run
+use Rattle.row.proofs.skip_row as skip-row
+use Rattle.run.proofs.run as run
 use Rattle.decode.proofs.next_row as next-row
-use Rattle.skiff.proofs.skiff_skip as skiff-skip
-use Rattle.skiff.proofs.skiff_run as skiff-run
-use Rattle.skiff.proofs.skiff_decode as skiff-decode
+use Rattle.skiff.proofs.reading.skiff_skip as skiff-skip
+use Rattle.skiff.proofs.reading.skiff_run as skiff-run
+use Rattle.skiff.proofs.reading.skiff_decode as skiff-decode
 
 -- one result
 abbrev pub OneAnswer : {n : ℕ} (ps : List (PK n)) (r : RK n) → Out n ps r → Type 0
@@ -81,9 +80,6 @@ pub check-value-table-one-answer : OneAnswer check-value-table.Kinds.ps check-va
 check-value-table-one-answer κs a x y s t p q = p ∙ sym q
 
 -- ---- reading
-pub within-bounds-one-answer : OneAnswer within-bounds.Kinds.ps within-bounds.Kinds.r within-bounds.Reads.Post
-within-bounds-one-answer κs a x y s t p q = p ∙ sym q
-
 pub skip-row-one-answer : OneAnswer skip-row.Kinds.ps skip-row.Kinds.r skip-row.Reads.Post
 skip-row-one-answer κs a x y s t p q = p ∙ sym q
 
@@ -92,13 +88,13 @@ run-one-answer κs a x y s t p q = p ∙ sym q
 
 -- ---- the calls that write
 pub next-row-one-answer : OneOutcome next-row.Kinds.ps next-row.Kinds.r (λ κs (settings, (table, (names, (references, (registry, (input, (position, (records, (payload, _))))))))). records .now ∷ payload .now ∷ []) next-row.Reads.Post
-next-row-one-answer κs a x y s t p q = (p .0 ∙ sym (q .0), rw (p .1 .0, p .1 .1, q .1 .0, q .1 .1))
+next-row-one-answer κs a x y s t p q = (ap (λ d. d .answer) (p ∙ sym q), ap (λ d. d .records ∷ d .payload ∷ []) (p ∙ sym q))
 
 pub skiff-skip-one-answer : OneOutcome skiff-skip.Kinds.ps skiff-skip.Kinds.r (λ κs (charge, (blob, (row, (table, (names, (references, (registry, (input, (position, (answer, _)))))))))). answer .now ∷ []) skiff-skip.Reads.Post
-skiff-skip-one-answer κs a x y s t p q = (p .0 ∙ sym (q .0), rw (p .1, q .1))
+skiff-skip-one-answer κs a x y s t p q = (ap (λ g. g .number) (p ∙ sym q), ap (λ g. g .answer ∷ []) (p ∙ sym q))
 
 pub skiff-run-one-answer : OneOutcome skiff-run.Kinds.ps skiff-run.Kinds.r (λ κs (charge, (blob, (row, (table, (names, (references, (registry, (input, (answer, _))))))))). answer .now ∷ []) skiff-run.Reads.Post
-skiff-run-one-answer κs a x y s t p q = (p .0 ∙ sym (q .0), rw (p .1, q .1))
+skiff-run-one-answer κs a x y s t p q = (ap (λ g. g .number) (p ∙ sym q), ap (λ g. g .answer ∷ []) (p ∙ sym q))
 
 pub skiff-decode-one-answer : OneOutcome skiff-decode.Kinds.ps skiff-decode.Kinds.r (λ κs (charge, (blob, (row, (table, (names, (references, (registry, (input, (position, (records, (payload, (answer, _)))))))))))). answer .now ∷ records .now ∷ payload .now ∷ []) skiff-decode.Reads.Post
-skiff-decode-one-answer κs a x y s t p q = (p .0 ∙ sym (q .0), rw (p .1 .0, p .1 .1 .0, p .1 .1 .1, q .1 .0, q .1 .1 .0, q .1 .1 .1))
+skiff-decode-one-answer κs a x y s t p q = (ap (λ g. g .number) (p ∙ sym q), ap (λ g. g .answer ∷ g .records ∷ g .payload ∷ []) (p ∙ sym q))

@@ -4,6 +4,9 @@
 use Prim.Native.Nat.{ℕ}
 use mathlib.Core.Path.{_≡_, refl, sym, _∙_, ap}
 use mathlib.Core.List.{List, [], _∷_}
+use contract.Lifetimes.{Lfts}
+use borrow.Fn.Kinds.{Dens, resT, endedOf}
+use denote.Triple.Clauses.{AtExit}
 use Rattle.call_promises.proofs.OneAnswer.{OneAnswer, OneOutcome}
 use Rattle.wire.proofs.numbers.wide as wide
 use Rattle.wire.proofs.numbers.u16_at as u16-at
@@ -22,6 +25,7 @@ use Rattle.record.proofs.value.records_in as records-in
 use Rattle.flat.proofs.block.span_ok as span-ok
 use Rattle.flat.proofs.block.block_ok as block-ok
 use Rattle.flat.proofs.block.depth_of as depth-of
+use Rattle.flat.proofs.table.block_of as block-of
 use Rattle.flat.proofs.table.block_form_ok as block-form-ok
 use Rattle.flat.proofs.table.block_depth_ok as block-depth-ok
 use Rattle.flat.proofs.table.block_rule as block-rule
@@ -46,15 +50,19 @@ use Rattle.read.proofs.fields.read_tag as read-tag
 use Rattle.read.proofs.fields.read_table as read-table
 use Rattle.read.proofs.fields.read_length as read-length
 use Rattle.wire.proofs.codes.fixed_width as width-of-code
-use Rattle.read.proofs.fields.kept as kept
+use Rattle.read.proofs.fields.payload_of_fixed as payload-of-fixed
 use Rattle.read.proofs.fields.ends as ends
 use Rattle.read.proofs.walk.skip_root as skip-root
-use Rattle.stream.proofs.bad_format as bad-format
-use Rattle.stream.proofs.row.block_at as block-at
-use Rattle.stream.proofs.row.row_of as row-of
-use Rattle.stream.proofs.row.row_at as row-at
-use Rattle.stream.proofs.row.run_rows as run-rows
-use Rattle.decode.proofs.row.room_for as room-for
+use Rattle.row.proofs.door.within_bounds as within-bounds
+use Rattle.row.proofs.door.door as door
+use Rattle.row.proofs.steps.block_at as block-at
+use Rattle.row.proofs.steps.row_of as row-of
+use Rattle.row.proofs.steps.row_at as row-at
+use Rattle.run.proofs.run_rows as run-rows
+use Rattle.decode.proofs.steps.room_for as room-for
+use Rattle.skiff.proofs.answer.answer_of_read as answer-of-read
+use Rattle.skiff.proofs.answer.answer_of_ran as answer-of-ran
+use Rattle.skiff.proofs.answer.give as give
 use Rattle.wire.proofs.store.put16 as put16
 use Rattle.wire.proofs.store.put32 as put32
 use Rattle.wire.proofs.store.put64 as put64
@@ -63,8 +71,8 @@ use Rattle.payload.proofs.copy as copy
 use Rattle.record.proofs.value.whole_records as whole-records
 use Rattle.value.proofs.table_form as table-form
 use Rattle.fill.proofs.fill_row as fill-row
-use Rattle.decode.proofs.row.fill_at as fill-at
-use Rattle.decode.proofs.row.decode_row as decode-row
+use Rattle.decode.proofs.steps.fill_at as fill-at
+use Rattle.decode.proofs.steps.decode_row as decode-row
 
 -- ---- numbers and byte strings
 pub wide-one-answer : OneAnswer wide.Kinds.ps wide.Kinds.r wide.Reads.Post
@@ -118,6 +126,10 @@ block-ok-one-answer κs a x y s t p q = p ∙ sym q
 
 pub depth-of-one-answer : OneAnswer depth-of.Kinds.ps depth-of.Kinds.r depth-of.Reads.Post
 depth-of-one-answer κs a x y s t p q = p ∙ sym q
+
+-- the part of the table that is handed back has one contents
+pub block-of-one-answer : (κs : Lfts 1) (a : Dens κs block-of.Kinds.ps) (x y : resT block-of.Kinds.r κs .Denot) (s t : AtExit (endedOf 1 block-of.Kinds.ps block-of.Kinds.r) κs) → block-of.Reads.Post κs a x s → block-of.Reads.Post κs a y t → x .now ≡ y .now
+block-of-one-answer κs a x y s t p q = p ∙ sym q
 
 pub block-form-ok-one-answer : OneAnswer block-form-ok.Kinds.ps block-form-ok.Kinds.r block-form-ok.Reads.Post
 block-form-ok-one-answer κs a x y s t p q = p ∙ sym q
@@ -193,8 +205,8 @@ read-length-one-answer κs a x y s t p q = p ∙ sym q
 pub width-of-code-one-answer : OneAnswer width-of-code.Kinds.ps width-of-code.Kinds.r width-of-code.Reads.Post
 width-of-code-one-answer κs a x y s t p q = p .0 ∙ sym (q .0)
 
-pub kept-one-answer : OneAnswer kept.Kinds.ps kept.Kinds.r kept.Reads.Post
-kept-one-answer κs a x y s t p q = p .0 ∙ sym (q .0)
+pub payload-of-fixed-one-answer : OneAnswer payload-of-fixed.Kinds.ps payload-of-fixed.Kinds.r payload-of-fixed.Reads.Post
+payload-of-fixed-one-answer κs a x y s t p q = p .0 ∙ sym (q .0)
 
 pub ends-one-answer : OneAnswer ends.Kinds.ps ends.Kinds.r ends.Reads.Post
 ends-one-answer κs a x y s t p q = p ∙ sym q
@@ -203,8 +215,11 @@ pub skip-root-one-answer : OneAnswer skip-root.Kinds.ps skip-root.Kinds.r skip-r
 skip-root-one-answer κs a x y s t p q = p ∙ sym q
 
 -- ---- rows
-pub bad-format-one-answer : OneAnswer bad-format.Kinds.ps bad-format.Kinds.r bad-format.Reads.Post
-bad-format-one-answer κs a x y s t p q = p ∙ sym q
+pub within-bounds-one-answer : OneAnswer within-bounds.Kinds.ps within-bounds.Kinds.r within-bounds.Reads.Post
+within-bounds-one-answer κs a x y s t p q = p ∙ sym q
+
+pub door-one-answer : OneAnswer door.Kinds.ps door.Kinds.r door.Reads.Post
+door-one-answer κs a x y s t p q = p ∙ sym q
 
 pub block-at-one-answer : OneAnswer block-at.Kinds.ps block-at.Kinds.r block-at.Reads.Post
 block-at-one-answer κs a x y s t p q = p ∙ sym q
@@ -227,6 +242,13 @@ whole-records-one-answer κs a x y s t p q = p ∙ sym q
 
 pub table-form-one-answer : OneAnswer table-form.Kinds.ps table-form.Kinds.r table-form.Reads.Post
 table-form-one-answer κs a x y s t p q = p ∙ sym q
+
+-- ---- answers for C
+pub answer-of-read-one-answer : OneAnswer answer-of-read.Kinds.ps answer-of-read.Kinds.r answer-of-read.Reads.Post
+answer-of-read-one-answer κs a x y s t p q = p ∙ sym q
+
+pub answer-of-ran-one-answer : OneAnswer answer-of-ran.Kinds.ps answer-of-ran.Kinds.r answer-of-ran.Reads.Post
+answer-of-ran-one-answer κs a x y s t p q = p ∙ sym q
 
 -- ---- steps that write
 pub put16-one-answer : OneOutcome put16.Kinds.ps put16.Kinds.r (λ κs (s, _). s .now ∷ []) put16.Reads.Post
@@ -252,3 +274,6 @@ fill-at-one-answer κs a x y s t p q = (refl, rw (p .0, p .1, q .0, q .1))
 
 pub decode-row-one-answer : OneOutcome decode-row.Kinds.ps decode-row.Kinds.r (λ κs (table, (names, (references, (registry, (input, (at, (settings, (records, (payload, _))))))))). records .now ∷ payload .now ∷ []) decode-row.Reads.Post
 decode-row-one-answer κs a x y s t p q = (ap (λ d. d .answer) (p ∙ sym q), ap (λ d. d .records ∷ d .payload ∷ []) (p ∙ sym q))
+
+pub give-one-answer : OneOutcome give.Kinds.ps give.Kinds.r (λ κs (s, _). s .now ∷ []) give.Reads.Post
+give-one-answer κs a x y s t p q = (p .0 ∙ sym (q .0), rw (p .1, q .1))

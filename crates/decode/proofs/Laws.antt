@@ -17,7 +17,7 @@ use Rattle.rules.specs.Value.{Value, recordsOf, payloadOf}
 use Rattle.rules.specs.ValueRecord.{valueRecordsIn}
 use Rattle.rules.specs.ValueTable.{flat, pays}
 use Rattle.rules.specs.Walk.{Limits, Pos, Answer, Got, Refused, walk, _>>=_}
-use Rattle.rules.specs.Reading.{start, extent, skipped, Decoded, room, untouched, filled}
+use Rattle.rules.specs.Reading.{start, extent, skipped, room, roomFor, roomTest, untouched, fillWith, filled}
 use Rattle.rules.specs.declared.Refusal.{Refusal}
 use Rattle.rules.specs.Refusals.{NoNodeRoom, NoPayloadRoom}
 use Rattle.rules.specs.declared.Located.the-variants.{Block}
@@ -28,22 +28,18 @@ use Rattle.rules.specs.declared.Read.the-variants.{Row}
 use Rattle.blocks.proofs.Tables.{table-schema}
 use Rattle.rows.proofs.TableRows.{located}
 use Rattle.schema.specs.Slices.{slices}
-use Rattle.stream.specs.Rows.{rowIn}
-use Rattle.stream.proofs.Laws.{schema-any, root-code}
+use Rattle.row.specs.Steps.{rowIn}
+use Rattle.row.proofs.Laws.{schema-any, root-code}
 use Rattle.fill.specs.Plain as plain
 use Rattle.fill.specs.Plain.{IsGot, valueOf, readAt}
 use Rattle.fill.specs.Filling.{rowValue}
 use Rattle.fill.proofs.Agrees.{reads, counts}
-use Rattle.decode.specs.Steps.{Granted, roomFor}
+use Rattle.decode.specs.Steps.{Granted}
 
 -- of three variants it is not the first
 pub not-first : (_≡_ {A = ℕ} 0 1) ⊎ (_≡_ {A = ℕ} 0 2) → ⊥
 not-first (inl e) = omega arith
 not-first (inr e) = omega arith
-
--- the parts of what decode leaves
-pub three : {r : Read} {rs ps : List ℕ} (d : Decoded) → untouched r rs ps ≡ d → (r ≡ d .answer) × ((rs ≡ d .records) × (ps ≡ d .payload))
-three d e = (ap (λ (x : Decoded). x .answer) e, (ap (λ (x : Decoded). x .records) e, ap (λ (x : Decoded). x .payload) e))
 
 -- a row that is refused leaves both slices
 pub none-filled : (at : ℕ) (a : Answer (ℕ × Value)) (rs ps : List ℕ) (read : Read) → read ≡ skipped at a → ((e : Extent) → read ≡ Row e → ⊥) → untouched read rs ps ≡ filled at a rs ps
@@ -54,8 +50,8 @@ none-filled at (Refused r) rs ps read is not-row = rw is
 refused-no-row : (r : Refusal) (read : Read) → read ≡ Read.Refused r → (e : Extent) → read ≡ Row e → ⊥
 refused-no-row r read is e row = let z : _≡_ {A = ℕ} 0 1 = cc in omega arith
 
-pub place-filled : (at : ℕ) (a : Answer (ℕ × Value)) (rs ps : List ℕ) (r : Refusal) (read : Read) → read ≡ Read.Refused r → Read.Refused r ≡ skipped at a → untouched read rs ps ≡ filled at a rs ps
-place-filled at a rs ps r read is e = none-filled at a rs ps read (is ∙ e) (refused-no-row r read is)
+pub refused-filled : (at : ℕ) (a : Answer (ℕ × Value)) (rs ps : List ℕ) (r : Refusal) (read : Read) → read ≡ Read.Refused r → Read.Refused r ≡ skipped at a → untouched read rs ps ≡ filled at a rs ps
+refused-filled at a rs ps r read is e = none-filled at a rs ps read (is ∙ e) (refused-no-row r read is)
 
 -- ---- the block of a row's table
 module _ (table names references registry : List ℕ) (ok : formatRules (slices table names references registry) ≡ Accepted) (t first count : ℕ) (found : Block first count ≡ tableSchema (slices [] names references registry) t) where
@@ -96,7 +92,7 @@ module _ (table inp : List ℕ) (lim : Limits) (bs : Bytes inp) (at t first coun
       walks : walk (block table first count) inp lim 64 0 (start lim (at + 2)) ≡ Got v q
       records : e .records ≡ q .records
       payload : e .payload ≡ q .payload
-      whole : Row e ≡ Row (extent at t q)
+      whole : e ≡ extent at t q
 
     judged : Judged
     unfolding rowIn skipped extent _>>=_
@@ -105,7 +101,7 @@ module _ (table inp : List ℕ) (lim : Limits) (bs : Bytes inp) (at t first coun
         by : (w : Answer Value) → walk (block table first count) inp lim 64 0 (start lim (at + 2)) ≡ w → skipped at (w >>= λ z. Got (t, z .0) (z .1)) ≡ Row e → Judged
         by (Got v q) x y =
             let z : e ≡ extent at t q = cc in
-            record { v = v; q = q; walks = x; records = rw z; payload = rw z; whole = rw z }
+            record { v = v; q = q; walks = x; records = rw z; payload = rw z; whole = z }
         by (Refused s) x y = absurd (omega (arith, differ y))
           where
             differ : Read.Refused s ≡ Row e → _≡_ {A = ℕ} 0 1
@@ -130,19 +126,22 @@ module _ (table inp : List ℕ) (lim : Limits) (bs : Bytes inp) (at t first coun
       abbrev Tested : Bool → Bool → Read
       Tested b c = pick b (pick c (Row e) (Read.Refused (NoPayloadRoom (e .payload) at))) (Read.Refused (NoNodeRoom (e .records) at))
 
+      -- what decode leaves goes by the test
+      tested : filled at a rs ps ≡ fillWith (judged .v) rs ps fits
+      unfolding filled roomTest room
+      tested =
+          ap (λ (z : Answer (ℕ × Value)). filled at z rs ps) row-is
+          ∙ ap (λ (z : Extent). fillWith (judged .v) rs ps (roomTest at rs ps (Row z))) (sym (judged .whole))
+          ∙ ap (fillWith (judged .v) rs ps) (sym so)
+
       -- a test that fails is the rule's answer, and nothing is written
       pub no-room : ((e′ : Extent) → fits ≡ Row e′ → ⊥) → untouched fits rs ps ≡ filled at a rs ps
-      unfolding filled roomFor room pick
-      no-room short = rw (row-is, ← judged .records, ← judged .payload) (by (leb (e .records) (valueRecordsIn (min (length rs) 4294967295))) (leb (e .payload) (min (length ps) 4294967295)) so)
+      no-room short = by fits short ∙ sym tested
         where
-          by : (b c : Bool) → fits ≡ Tested b c →
-              untouched fits rs ps ≡ pick b
-              (pick c (record { answer = Row (extent at t (judged .q)); records = over rs 0 (flat (judged .v) 0 0); payload = over ps 0 (pays (judged .v)) })
-              (untouched (Read.Refused (NoPayloadRoom (e .payload) at)) rs ps))
-              (untouched (Read.Refused (NoNodeRoom (e .records) at)) rs ps)
-          by true true y = absurd (short e y)
-          by true false y = rw y
-          by false c y = rw y
+          by : (x : Read) → ((e′ : Extent) → x ≡ Row e′ → ⊥) → untouched x rs ps ≡ fillWith (judged .v) rs ps x
+          by (Row e′) none = absurd (none e′ refl)
+          by Read.End none = unfold fillWith in refl
+          by (Read.Refused r) none = unfold fillWith in refl
 
       -- both pass
       roomy : (e′ : Extent) → fits ≡ Row e′ → (leb (e .records) (valueRecordsIn (min (length rs) 4294967295)) ≡ true) × (leb (e .payload) (min (length ps) 4294967295) ≡ true)
@@ -187,9 +186,10 @@ module _ (table inp : List ℕ) (lim : Limits) (bs : Bytes inp) (at t first coun
           rs′ ≡ over rs 0 (flat (rowValue (block table first count) inp (at + 2)) 0 0) →
           ps′ ≡ over ps 0 (pays (rowValue (block table first count) inp (at + 2))) →
           untouched (Row e) rs′ ps′ ≡ filled at a rs ps
-      unfolding filled room pick valueOf
+      unfolding fillWith roomFor pick valueOf
       row-filled e′ x rs′ ps′ b c =
           let k = roomy e′ x in
           let b′ : rs′ ≡ over rs 0 (flat (judged .v) 0 0) = rw stands at b in
           let c′ : ps′ ≡ over ps 0 (pays (judged .v)) = rw stands at c in
-          rw (row-is, ← judged .records, ← judged .payload, k .0, k .1, b′, c′, judged .whole)
+          let y : fits ≡ Row e = so ∙ rw (k .0, k .1) in
+          rw (b′, c′) (sym (tested ∙ ap (fillWith (judged .v) rs ps) y))

@@ -3,14 +3,7 @@
 use Prim.Native.Nat.{ℕ, _+_, _≤_}
 use mathlib.Core.List.{List}
 use lib.ListN.{length}
-use lib.Dec.{leb}
-use Rattle.rules.specs.Choice.{pick}
 use Rattle.rules.specs.Block.{records, block}
-use Rattle.rules.specs.ValueRecord.{valueRecordsIn}
-use Rattle.rules.specs.Refusals.{NoNodeRoom, NoPayloadRoom}
-use Rattle.rules.specs.declared.Extent.{Extent}
-use Rattle.rules.specs.declared.Read.{Read}
-use Rattle.rules.specs.declared.Read.the-variants.{Row, Refused}
 use Rattle.fill.specs.Filling.{Fillable}
 
 -- what was tested before a row is filled in: that its table's block lies in the record table; that a row stands there; that slices of n and m
@@ -19,10 +12,3 @@ pub record Granted (table inp : List ℕ) (at first count n m : ℕ) : Type 0 wh
   pub within : first + count ≤ records table
   pub tag : at + 2 ≤ length inp
   pub fills : Fillable (block table first count) inp (at + 2) n m
-
--- room for a row's records (19), then for its payload bytes (20), where n and m bytes count
-unfoldable pub roomFor : ℕ → ℕ → ℕ → Extent → Read
-roomFor at n m e =
-    pick (leb (e .records) (valueRecordsIn n))
-    (pick (leb (e .payload) m) (Row e) (Refused (NoPayloadRoom (e .payload) at)))
-    (Refused (NoNodeRoom (e .records) at))

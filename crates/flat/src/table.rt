@@ -16,7 +16,8 @@ use rules::Checked;
 use rules::Purpose;
 use rules::Refusal;
 
-fn block_of(table: &[u8], first: u64, count: u64) -> &[u8]
+// The block: the one place that cuts it out of the record table.
+pub fn block_of(table: &[u8], first: u64, count: u64) -> &[u8]
     requires { ⌜ first + count ≤ records (now table) ⌝ }
     ensures { λ r. ⌜ now r ≡ block (now (table .entry)) first count ⌝ }
 {

@@ -35,7 +35,8 @@ use Rattle.rules.proofs.Answers.{refusal-number, one-row}
 use Rattle.rules.proofs.Stands.{stands-seam, stands-part}
 use Rattle.rules.proofs.Over.{over-is}
 use Rattle.rows.proofs.Conform.{encoded-row}
-use Rattle.rows.proofs.Decoding.{Asked, decode-accepts, decodedRow}
+use Rattle.rows.proofs.Door.{Asked}
+use Rattle.rows.proofs.Decoding.{decode-accepts, decodedRow}
 use Rattle.values.proofs.Parse.{is-table}
 use Rattle.values.proofs.Flat.{accepted, no-table}
 use Rattle.values.proofs.Written.{writes-row}

@@ -2,12 +2,11 @@
 -- Assumes nothing.
 use Prim.Native.Nat.{ℕ, _+_, _-_, _*_, _≤_, _<_}
 use mathlib.Core.Path.{_≡_, refl, sym, ap, _∙_}
-use mathlib.Core.Bool.{Bool, true, false}
+use mathlib.Core.Bool.{true}
 use mathlib.Core.List.{List, _++_}
 use native.Mathlib.Omega.{arith}
 use lib.ListN.{length, take, drop}
 use lib.Seq.{take-append-seam, drop-append-seam}
-use Rattle.rules.specs.Choice.{pick}
 use Rattle.rules.specs.Bytes.{Bytes, over}
 use Rattle.rules.specs.Schema.{Schema, deep, Valid}
 use Rattle.rules.specs.Block.{block, Denotes}
@@ -17,16 +16,17 @@ use Rattle.rules.specs.ValueTable.{TableOf, flat, pays}
 use Rattle.rules.specs.Grammar.{TableRow, table-row}
 use Rattle.rules.specs.Walk.{Limits, Pos, Answer, Got, after}
 use Rattle.rules.specs.ValueRecord.{valueRecordStart}
-use Rattle.rules.specs.Reading.{limits, start, rowAt, schemaOf, Accepts, extent, whenAccepted, Decoded, room, recordRoom, untouched, filled, decodeFrom, decodeRule, NoRow, LeavesRow}
+use Rattle.rules.specs.Reading.{limits, start, rowAt, schemaOf, Accepts, door, through, extent, Decoded, room, recordRoom, untouched, fillWith, filled, decodeRule, NoRow, LeavesRow}
 use Rattle.rules.specs.Answers.{rowSaid, readSaid}
 use Rattle.rules.specs.Good.{GoodTable}
 use Rattle.rules.specs.declared.Settings.{Settings}
 use Rattle.rules.specs.declared.Located.the-variants.{Block}
-use Rattle.rules.specs.declared.Checked.{Checked}
+use Rattle.rules.specs.declared.Door.{Door}
+use Rattle.rules.specs.declared.Door.the-variants as door-is
 use Rattle.rules.specs.declared.Checked.the-variants.{Accepted}
 use Rattle.rules.specs.declared.Extent.{Extent}
 use Rattle.rules.specs.declared.Read.{Read}
-use Rattle.rules.specs.declared.Read.the-variants.{Row}
+use Rattle.rules.specs.declared.Read.the-variants.{Row, End}
 use Rattle.rules.proofs.Checks.{pick-accepted}
 use Rattle.rules.proofs.Answers.{read-row}
 use Rattle.rules.proofs.Over.{over-is}
@@ -140,23 +140,25 @@ module _ (f : Format) (s : Settings) (inp : List ℕ) (at : ℕ) (rs ps : List �
   abbrev Still : Decoded → Type 0
   Still d = NoRow (d .answer) → d ≡ untouched (d .answer) rs ps
 
-  either : (b : Bool) (x y : Decoded) → Still x → Still y → Still (pick b x y)
-  unfolding pick
-  either true x y h k = h
-  either false x y h k = k
-
   as-before : (a : Read) → Still (untouched a rs ps)
   as-before a h = refl
 
+  with-still : (v : Value) (a : Read) → Still (fillWith v rs ps a)
+  unfolding fillWith NoRow
+  with-still v (Row e) = λ h. absurd h
+  with-still v End = as-before _
+  with-still v (Read.Refused r) = as-before _
+
   filled-still : (a : Answer (ℕ × Value)) → Still (filled at a rs ps)
-  unfolding filled NoRow
-  filled-still (Got (t, v) q) = either _ _ _ (either _ _ _ (λ h. absurd h) (as-before _)) (as-before _)
+  unfolding filled
+  filled-still (Got (t, v) q) = with-still v _
   filled-still (Answer.Refused r) = as-before _
 
   pub decoded-none : NoRow (decodeRule f s inp at rs ps .answer) → decodeRule f s inp at rs ps ≡ untouched (decodeRule f s inp at rs ps .answer) rs ps
   unfolding decodeRule
-  decoded-none = either _ _ _ (format (formatRules f)) (as-before _)
+  decoded-none = by (door f s inp at)
     where
-      format : (c : Checked) → Still (whenAccepted (λ r. untouched (Read.Refused r) rs ps) c (decodeFrom f inp (limits s) at rs ps))
-      format Checked.Accepted = unfold whenAccepted decodeFrom in either _ _ _ (as-before _) (filled-still (rowAt f inp (limits s) at))
-      format (Checked.Refused r) = unfold whenAccepted in as-before _
+      by : (d : Door) → Still (through d (λ r. untouched (Read.Refused r) rs ps) (untouched End rs ps) (filled at (rowAt f inp (limits s) at) rs ps))
+      by door-is.Open = unfold through in filled-still (rowAt f inp (limits s) at)
+      by door-is.End = unfold through in as-before _
+      by (door-is.Refused r) = unfold through in as-before _

@@ -17,7 +17,7 @@ use Rattle.rules.specs.Refusals.{TooDeep, Truncated}
 use Rattle.rules.proofs.Tests.{all-each}
 use Rattle.blocks.proofs.Form as blocks
 use Rattle.read.specs.Budget.{spent}
-use Rattle.read.specs.Fields.{keptOf}
+use Rattle.read.specs.Fields.{payloadOfFixed}
 use Rattle.read.specs.Children.{shapeOf}
 use Rattle.read.specs.Skim.{standing, _>>=_, passed, stored, having, charged, counted, bytesOf, fixedOf, leafOf, Skimmer, valueOf, nodeOf, skim}
 use Rattle.read.specs.Ready.{Sound, Coded}
@@ -60,8 +60,8 @@ unfolding passed pick
 none-passed inp context p = rw (le-leb 0 (length inp - p .at) (omega arith), add-zero (p .at))
 
 module _ (inp : List ℕ) (rec : Skimmer) (code first count : ℕ) (p : Pos) where
-  plain-value : (f : Form) → plain f ≡ true → valueOf inp rec code first count f p ≡ bytesOf inp (widthOf f) code (keptOf (widthOf f)) p
-  unfolding plain valueOf widthOf keptOf pick
+  plain-value : (f : Form) → plain f ≡ true → valueOf inp rec code first count f p ≡ bytesOf inp (widthOf f) code (payloadOfFixed (widthOf f)) p
+  unfolding plain valueOf widthOf payloadOfFixed pick
   plain-value empty e = none-passed inp code p ∙ unstored inp 0 code p
   plain-value truth e = unstored inp 1 code p
   plain-value (fixed w) e = rw e (unstored inp w code p)

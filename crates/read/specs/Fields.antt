@@ -15,5 +15,5 @@ unfoldable pub numberAt : List ℕ → ℕ → ℕ → ℕ → Number
 numberAt inp w context at = pick (leb w (length inp - at)) (Is (leAt inp at w) (at + w)) (Refused (Truncated context at))
 
 -- of a value's bytes, how many are payload: all, where they are more than the eight of a record
-unfoldable pub keptOf : ℕ → ℕ
-keptOf w = pick (leb w 8) 0 w
+unfoldable pub payloadOfFixed : ℕ → ℕ
+payloadOfFixed w = pick (leb w 8) 0 w

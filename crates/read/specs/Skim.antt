@@ -11,7 +11,7 @@ use Rattle.rules.specs.Block.{nodeAt}
 use Rattle.rules.specs.Walk as rule
 use Rattle.rules.specs.Refusals.{Setting, BadSchemaTable, TooDeep, Truncated, BlobTooLarge, InvalidVariantTag}
 use Rattle.read.specs.Budget.{spent, longest}
-use Rattle.read.specs.Fields.{numberAt, keptOf}
+use Rattle.read.specs.Fields.{numberAt, payloadOfFixed}
 use Rattle.read.specs.declared.budget.RowBudget.{RowBudget}
 use Rattle.read.specs.declared.budget.Charged.{Charged}
 use Rattle.read.specs.declared.budget.Charged.the-variants.{Left}
@@ -89,7 +89,7 @@ blobOf inp code p = reading (numberAt inp 4 13 (p .at)) p (λ n q.
 
 -- a code below 13, and one below 15
 unfoldable pub fixedOf : List ℕ → ℕ → Pos → Skipped
-fixedOf inp code p = bytesOf inp (widthOf (form code)) code (keptOf (widthOf (form code))) p
+fixedOf inp code p = bytesOf inp (widthOf (form code)) code (payloadOfFixed (widthOf (form code))) p
 
 unfoldable pub leafOf : List ℕ → ℕ → Pos → Skipped
 leafOf inp code p = pick (ltb code 13) (fixedOf inp code p) (blobOf inp code p)

@@ -4,7 +4,7 @@ ghost use Prim.Native.Nat.{_+_, _≤_, _<_};
 ghost use lib.ListN.{length};
 ghost use Rattle.rules.specs.Refusals.{Truncated};
 ghost use Rattle.rules.specs.Wire.{form, widthOf};
-ghost use Rattle.read.specs.Fields.{numberAt, keptOf};
+ghost use Rattle.read.specs.Fields.{numberAt, payloadOfFixed};
 ghost use Rattle.read.specs.Children.{shapeOf, endsAt};
 use rules::Refusal;
 use rules::Why;
@@ -70,8 +70,8 @@ pub fn read_length(input: &[u8], at: usize) -> Number
 }
 
 // How many bytes of a fixed width lie in the payload store: those of a value that a record's eight bytes do not hold.
-pub fn kept(width: usize) -> u64
-    ensures { λ r. ⌜ (r ≡ keptOf width) × (r ≤ width) ⌝ }
+pub fn payload_of_fixed(width: usize) -> u64
+    ensures { λ r. ⌜ (r ≡ payloadOfFixed width) × (r ≤ width) ⌝ }
 {
     if width <= 8 { 0 } else { width as u64 }
 }

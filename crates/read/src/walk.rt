@@ -14,7 +14,7 @@ use super::budget::RowBudget;
 use super::budget::blob_limit;
 use super::fields::Number;
 use super::fields::ends;
-use super::fields::kept;
+use super::fields::payload_of_fixed;
 use super::fields::read_length;
 use super::fields::read_tag;
 use record::node::node_children;
@@ -49,7 +49,7 @@ pub enum Pick {
 // ---- a refusal, taken out of one answer and handed up in another. Each is called where the answer is known to be one, so
 // that its other arm is never met.
 
-fn dear(charged: Charged) -> Skipped
+fn skipped_refused_by_charge(charged: Charged) -> Skipped
     ensures { λ r. ⌜ ((why : Refusal) → charged ≡ Charged.Refused why → r ≡ Skipped.Refused why) ⌝ }
 {
     match charged {
@@ -58,7 +58,7 @@ fn dear(charged: Charged) -> Skipped
     }
 }
 
-fn cut(length: Number) -> Skipped
+fn skipped_refused_by_length(length: Number) -> Skipped
     ensures { λ r. ⌜ ((why : Refusal) → length ≡ Number.Refused why → r ≡ Skipped.Refused why) ⌝ }
 {
     match length {
@@ -67,7 +67,7 @@ fn cut(length: Number) -> Skipped
     }
 }
 
-fn no_child(tag: Number) -> Pick
+fn pick_refused_by_tag(tag: Number) -> Pick
     ensures { λ r. ⌜ ((why : Refusal) → tag ≡ Number.Refused why → r ≡ Pick.Refused why) ⌝ }
 {
     match tag {
@@ -77,7 +77,7 @@ fn no_child(tag: Number) -> Pick
 }
 
 // A child's refusal alone: handed up whole, an answer would have the loop carry what the answers before it left in its parts.
-fn refused(value: Skipped) -> Skipped
+fn skipped_refused_by_child(value: Skipped) -> Skipped
     ensures { λ r. ⌜ ((why : Refusal) → value ≡ Skipped.Refused why → r ≡ Skipped.Refused why) ⌝ }
 {
     match value {
@@ -105,7 +105,7 @@ fn skip_fixed(code: u8, input: &[u8], p: Pos) -> Skipped
         at: at + width,
         budget,
         records: p.records,
-        payload: p.payload + kept(width),
+        payload: p.payload + payload_of_fixed(width),
     })
 }
 
@@ -119,7 +119,7 @@ fn skip_blob(code: u8, input: &[u8], p: Pos) -> Skipped
     let budget = p.budget;
     let length = read_length(input, at);
     let Number::Is(n, next) = length else {
-        return cut(length);
+        return skipped_refused_by_length(length);
     };
     let left = (input.len() - next) as u64;
     let limit = blob_limit(budget, code);
@@ -135,7 +135,7 @@ fn skip_blob(code: u8, input: &[u8], p: Pos) -> Skipped
     }
     let paid = budget.charge(n, at as u64);
     let Charged::Left(rest) = paid else {
-        return dear(paid);
+        return skipped_refused_by_charge(paid);
     };
     if left < n {
         return Skipped::Refused(Refusal {
@@ -185,7 +185,7 @@ fn next_child(code: u8, first: u64, count: u64, i: u64, input: &[u8], at: usize)
     }
     let t = read_tag(code, input, at);
     let Number::Is(tag, next) = t else {
-        return no_child(t);
+        return pick_refused_by_tag(t);
     };
     if ends(code, tag) {
         return Pick::End(next);
@@ -276,7 +276,7 @@ fn skip_value(block: &[u8], node: usize, depth: usize, input: &[u8], p: Pos, cha
     let budget = p.budget;
     let paid = budget.charge(charge, at as u64);
     let Charged::Left(rest) = paid else {
-        return dear(paid);
+        return skipped_refused_by_charge(paid);
     };
     let q = Pos {
         at,
@@ -340,7 +340,7 @@ fn skip_children(
                 };
                 let s = skip_value(block, child, depth, input, from, charge);
                 let Skipped::At(r) = s else {
-                    return refused(s);
+                    return skipped_refused_by_child(s);
                 };
                 if code < 17 {
                     return Skipped::At(r);
@@ -373,7 +373,7 @@ pub fn skip_root(block: &[u8], input: &[u8], at: usize, settings: Settings) -> S
     let budget = RowBudget::new(settings.max_blob_bytes, settings.max_row_bytes);
     let paid = budget.charge(charge, at as u64);
     let Charged::Left(rest) = paid else {
-        return dear(paid);
+        return skipped_refused_by_charge(paid);
     };
     let p = Pos {
         at,

@@ -1,4 +1,5 @@
 // What each op answers, in numbers.
+use row::skip_row;
 use rules::Checked;
 use rules::Known;
 use rules::Located;
@@ -13,7 +14,6 @@ use schema::check_encoder_schema;
 use schema::check_format;
 use schema::check_schema;
 use schema::format::table_schema;
-use stream::skip_row;
 use wire::code_of;
 use wire::fixed_width;
 use wire::from_code;

@@ -17,7 +17,7 @@ use decoding::write_row;
 use lines::write_line;
 use lines::write_ran;
 use rules::Settings;
-use stream::run;
+use run::run;
 use wire::field;
 ghost use Prim.Native.Nat.{_+_, _≤_};
 ghost use lib.ListN.{length};

@@ -7,6 +7,7 @@ pub mod Agree
 pub mod Refused
 pub mod TableRows
 pub mod RowReasons
+pub mod Door
 pub mod Decoding
 pub mod Running
 pub mod Parts

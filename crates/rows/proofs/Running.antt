@@ -5,25 +5,25 @@ use mathlib.Core.Path.{_≡_, refl, ap, _∙_}
 use mathlib.Core.Bool.{Bool, true, false}
 use mathlib.Core.List.{List, [], _∷_}
 use native.Mathlib.Omega.{arith}
-use borrow.Author.Tests.{le-leb}
 use lib.Dec.{eqb}
 use lib.ListN.{length}
-use Rattle.rules.specs.Choice.{pick, _and_}
+use Rattle.rules.specs.Choice.{pick}
 use Rattle.rules.specs.Bytes.{Bytes}
-use Rattle.rules.specs.Format.{Format, sizesOk, shortOk, formatRules}
+use Rattle.rules.specs.Format.{Format}
 use Rattle.rules.specs.Value.{Value}
 use Rattle.rules.specs.Walk.{Limits, Pos, Answer, Got, after}
-use Rattle.rules.specs.Reading.{settingsOk, limits, start, rowAt, extent, skipped, skipFrom, whenAccepted, skipRule, RowSpan, goOn, runFrom, byteCount, Iterated, at-end, at-refusal, one-row, refusedRun, runRule}
+use Rattle.rules.specs.Reading.{limits, door, through, start, rowAt, extent, skipped, skipFrom, skipRule, RowSpan, Run, goOn, runFrom, byteCount, Iterated, at-end, at-refusal, one-row, refusedRun, endedRun, runRule}
 use Rattle.rules.specs.Answers.{readSaid, stopSaid}
 use Rattle.rules.specs.declared.Settings.{Settings}
 use Rattle.rules.specs.declared.Refusal.{Refusal}
-use Rattle.rules.specs.Refusals.{Setting}
-use Rattle.rules.specs.declared.Checked.{Checked}
+use Rattle.rules.specs.declared.Door.{Door}
+use Rattle.rules.specs.declared.Door.the-variants as door-is
 use Rattle.rules.specs.declared.Extent.{Extent}
 use Rattle.rules.specs.declared.Read.{Read}
 use Rattle.rules.specs.declared.Read.the-variants.{Row, End, Refused}
 use Rattle.rules.specs.declared.Stop.{Stop}
 use Rattle.rows.proofs.TableRows.{row-agrees}
+use Rattle.rows.proofs.Door.{Asked, through-end, door-asked, behind-open}
 use Rattle.rows.proofs.Decoding.{accepts-inside}
 
 -- from a place on, skip accepts just these rows one after another, and then stops so
@@ -78,30 +78,28 @@ module _ (f : Format) (inp : List ℕ) (lim : Limits) (bs : Bytes inp) where
 -- ---- the whole call
 
 module _ (f : Format) (s : Settings) (inp : List ℕ) where
-  module _ (ok : settingsOk s and sizesOk f and shortOk inp ≡ true) (format : formatRules f ≡ Checked.Accepted) where
+  module _ (ok : Asked f s inp) where
     skip-is : (at : ℕ) → at ≤ length inp → skipRule f s inp at ≡ skipFrom f inp (limits s) at
-    unfolding skipRule _and_ pick whenAccepted
-    skip-is at h = rw (ok, le-leb at (length inp) h, format)
+    unfolding skipRule skipFrom
+    skip-is at h = rw (door-asked f s inp ok at h) (through-end _ _ _ _)
 
     iterated : Bytes inp → {at : ℕ} {rows : List RowSpan} {stop : Stop} → at ≤ length inp → Iterates f inp (limits s) at rows stop → Iterated f s inp at rows stop
     iterated bs {at} h (ended q) = at-end (skip-is at h ∙ q)
     iterated bs {at} h (refused q) = at-refusal (skip-is at h ∙ q)
     iterated bs {at} h (accepted {e = e} q rest) = one-row (skip-is at h ∙ q) (iterated bs (skip-goes f inp (limits s) bs at e h q .1) rest)
 
+  abbrev behind : Door → Run
+  behind d = through d refusedRun endedRun (runFrom f inp (limits s) (suc (length inp)) 0)
+
   -- the run is skip iterated from the start on, whatever is asked
   pub run-iterated : Bytes inp → Iterated f s inp 0 (runRule f s inp .rows) (runRule f s inp .stop)
   unfolding runRule
-  run-iterated bs = settings (settingsOk s and sizesOk f and shortOk inp) refl
+  run-iterated bs = by (door f s inp 0) refl
     where
-      format : settingsOk s and sizesOk f and shortOk inp ≡ true → (c : Checked) → formatRules f ≡ c →
-          Iterated f s inp 0 (whenAccepted refusedRun c (runFrom f inp (limits s) (suc (length inp)) 0) .rows) (whenAccepted refusedRun c (runFrom f inp (limits s) (suc (length inp)) 0) .stop)
-      format ok Checked.Accepted e = unfold whenAccepted in iterated ok e bs (omega arith) (run-iterates f inp (limits s) bs (suc (length inp)) 0 (omega arith) (omega arith))
-      format ok (Checked.Refused r) e = unfold whenAccepted refusedRun in at-refusal {at = 0} {r = r} (unfold skipRule _and_ pick whenAccepted in rw (ok, le-leb 0 (length inp) (omega arith), e))
-
-      settings : (b : Bool) → settingsOk s and sizesOk f and shortOk inp ≡ b →
-          Iterated f s inp 0 (pick b (whenAccepted refusedRun (formatRules f) (runFrom f inp (limits s) (suc (length inp)) 0)) (refusedRun Setting) .rows) (pick b (whenAccepted refusedRun (formatRules f) (runFrom f inp (limits s) (suc (length inp)) 0)) (refusedRun Setting) .stop)
-      settings true ok = unfold pick in format ok (formatRules f) refl
-      settings false bad = unfold pick refusedRun in at-refusal {at = 0} {r = Setting} (unfold skipRule _and_ pick in rw bad)
+      by : (d : Door) → door f s inp 0 ≡ d → Iterated f s inp 0 (behind d .rows) (behind d .stop)
+      by door-is.Open e = unfold through in iterated (behind-open f s inp 0 e .0) bs (omega arith) (run-iterates f inp (limits s) bs (suc (length inp)) 0 (omega arith) (omega arith))
+      by door-is.End e = unfold through endedRun in at-end {at = 0} (unfold skipRule in rw e)
+      by (door-is.Refused r) e = unfold through refusedRun in at-refusal {at = 0} {r = r} (unfold skipRule in rw e)
 
   -- where it stops it says what skip says after its rows
   pub run-stops : Bytes inp → stopSaid (runRule f s inp .stop) ≡ readSaid (skipRule f s inp (byteCount (runRule f s inp .rows)))

@@ -3,6 +3,7 @@
 use Prim.Native.Nat.{ℕ, zero, suc, _+_, _-_, _≤_, _<_}
 use mathlib.Core.Path.{_≡_, refl, sym, ap, _∙_}
 use mathlib.Core.Bool.{Bool, true, false}
+use mathlib.Core.Logic.{_⊎_, inl, inr}
 use mathlib.Core.List.{List, [], _∷_, _++_, map}
 use native.Mathlib.Omega.{arith}
 use native.Mathlib.Nat.{add-zero}
@@ -13,14 +14,16 @@ use lib.Seq.{getD-drop}
 use Rattle.rules.specs.Choice.{pick, _and_}
 use Rattle.rules.specs.Bytes.{Bytes}
 use Rattle.rules.specs.Refusals.{lineOf, refusalNumber, Setting}
-use Rattle.rules.specs.Format.{Format, sizesOk, shortOk, formatRules, formatRule}
+use Rattle.rules.specs.Format.{Format, sizesOk, formatRules, formatRule}
 use Rattle.rules.specs.Value.{Value}
 use Rattle.rules.specs.Walk.{Limits, Pos, Answer, Got, onward}
-use Rattle.rules.specs.Reading.{settingsOk, limits, rowAt, extent, skipped, whenAccepted, refusedRun, runRule, ranOf, skipFrom, RowSpan, Run, goOn, runFrom, rowCount, byteCount}
+use Rattle.rules.specs.Reading.{settingsOk, limits, whenAccepted, door, through, rowAt, extent, skipped, refusedRun, endedRun, runRule, ranOf, skipFrom, RowSpan, Run, goOn, runFrom, rowCount, byteCount}
 use Rattle.rules.specs.Windows.{moved, Inside, movedAnswer, WasCut, movedStop, movedRow, goesOn, continued, added, runAfter}
 use Rattle.rules.specs.declared.Settings.{Settings}
 use Rattle.rules.specs.declared.Refusal.{Refusal}
 use Rattle.rules.specs.declared.Checked.{Checked}
+use Rattle.rules.specs.declared.Door.{Door}
+use Rattle.rules.specs.declared.Door.the-variants as door-is
 use Rattle.rules.specs.declared.Extent.{Extent}
 use Rattle.rules.specs.declared.Read.{Read}
 use Rattle.rules.specs.declared.Read.the-variants.{Row, End, Refused}
@@ -28,6 +31,7 @@ use Rattle.rules.specs.declared.Stop.{Stop}
 use Rattle.rules.specs.declared.Ran.{Ran}
 use Rattle.rules.proofs.Tests.{and-both, and-false}
 use Rattle.blocks.proofs.FormatReasons.{format-stays}
+use Rattle.rows.proofs.Door.{refused-at-door}
 use Rattle.rows.proofs.Running.{Iterates, ended, refused, accepted, skip-goes, run-iterates}
 use Rattle.rows.proofs.Parts.{moved-none, row-stays, row-moves, row-inside}
 
@@ -169,7 +173,17 @@ module _ (f : Format) (s : Settings) where
 
   run-begun : (inp : List ℕ) → length inp ≤ 4294967295 → runRule f s inp ≡ begun (settingsOk s and sizesOk f) (formatRules f) (runOver f (limits s) inp)
   unfolding runRule
-  run-begun inp h = rw (le-leb (length inp) 4294967295 h, and-short (settingsOk s and sizesOk f))
+  run-begun inp h =
+      unfold door in
+      rw (le-leb (length inp) 4294967295 h, le-leb 0 (length inp) (omega arith), and-short (settingsOk s and sizesOk f), and-short (settingsOk s and sizesOk f))
+      (by (settingsOk s and sizesOk f) (formatRules f) (eqb 0 (length inp)) refl)
+    where
+      by : (b : Bool) (c : Checked) (last : Bool) → eqb 0 (length inp) ≡ last →
+          through (pick b (whenAccepted door-is.Refused c (pick last door-is.End door-is.Open)) (door-is.Refused Setting)) refusedRun endedRun (runOver f (limits s) inp) ≡ begun b c (runOver f (limits s) inp)
+      by true Checked.Accepted true e = unfold pick whenAccepted through endedRun runFrom goOn skipFrom in rw e
+      by true Checked.Accepted false e = unfold pick whenAccepted through in refl
+      by true (Checked.Refused r) last e = unfold pick whenAccepted through in refl
+      by false c last e = unfold pick through in refl
 
   module _ (inp more : List ℕ) (bs : Bytes (inp ++ more)) (short : length (inp ++ more) ≤ 4294967295) where
     first : runRule f s inp ≡ begun (settingsOk s and sizesOk f) (formatRules f) (runOver f (limits s) inp)
@@ -247,23 +261,20 @@ module _ (f : Format) (s : Settings) (inp : List ℕ) (bs : Bytes inp) where
 
   -- a run's rows and its place lie in the stream
   pub ran-inside : RanInside (length inp) (ranOf (runRule f s inp))
-  unfolding runRule ranOf pick whenAccepted
-  ran-inside = by (settingsOk s and sizesOk f and shortOk inp) refl (formatRules f) refl
+  unfolding runRule ranOf rowCount byteCount through endedRun refusedRun
+  ran-inside = by (door f s inp 0) refl
     where
-      outside : (r : Refusal) → Inside (length inp) r → RanInside (length inp) (ranOf (refusedRun r))
-      outside r i = unfold refusedRun rowCount byteCount in record { few = omega arith; within = omega arith; placed = λ why e. let z : r ≡ why = cc in rw (← z) i }
+      none : (why : Refusal) → (why ≡ Setting) ⊎ (formatRule f ≡ Checked.Refused why) → Inside (length inp) why
+      none why (inl e) = unfold lineOf in rw e (λ l. omega arith)
+      none why (inr e) = λ l. let w : false ≡ true = sym (format-stays f why e) ∙ l in let n : _≡_ {A = ℕ} 0 1 = cc in absurd (omega arith)
 
-      by : (b : Bool) → (settingsOk s and sizesOk f and shortOk inp) ≡ b → (c : Checked) → formatRules f ≡ c → RanInside (length inp) (ranOf (begun b c (runOver f (limits s) inp)))
-      by true e Checked.Accepted k =
+      by : (d : Door) → door f s inp 0 ≡ d → RanInside (length inp) (ranOf (through d refusedRun endedRun (runOver f (limits s) inp)))
+      by door-is.Open e =
           let i = run-iterates f inp (limits s) bs (suc (length inp)) 0 (omega arith) (omega arith) in
           let r = rows-inside f (limits s) inp bs (omega arith) i in
           record { few = r .0; within = omega (arith, r .1); placed = stop-inside (omega arith) i }
-      by true e (Checked.Refused r) k = outside r (λ l.
-          let z : formatRule f ≡ Checked.Refused r = unfold formatRule in rw (and-both _ _ (and-both _ _ e .0) .1, k) in
-          let w : false ≡ true = sym (format-stays f r z) ∙ l in
-          let n : _≡_ {A = ℕ} 0 1 = cc in
-          absurd (omega arith))
-      by false e c k = unfold lineOf in outside Setting (λ l. omega arith)
+      by door-is.End e = record { few = omega arith; within = omega arith; placed = λ why k. let z : _≡_ {A = ℕ} 0 1 = cc in absurd (omega arith) }
+      by (door-is.Refused r) e = record { few = omega arith; within = omega arith; placed = λ why k. let z : r ≡ why = cc in rw (← z) (none r (refused-at-door f s inp 0 r e)) }
 
 -- ---- the run after some rows
 
@@ -287,4 +298,4 @@ module _ (f : Format) (s : Settings) (inp more : List ℕ) (bs : Bytes (inp ++ m
 
       by : (b : Bool) → leb (length (inp ++ more)) 4294967295 ≡ b → pick b (added (record { rows = so-far .rows; bytes = so-far .bytes; stop = Stop.End }) (ranOf (runRule f s left))) (ranOf (refusedRun Setting)) ≡ ranOf (runRule f s (inp ++ more))
       by true e = unfold added in sym (ran-in-windows f s inp more bs (leb-true _ _ e) g)
-      by false e = unfold runRule in rw (e, and-false (settingsOk s and sizesOk f))
+      by false e = unfold runRule door through in rw (e, and-false (settingsOk s and sizesOk f))

@@ -22,6 +22,8 @@ use Rattle.rules.specs.declared.Located.the-variants.{Block, NoTable, No
 use Rattle.rules.specs.declared.Refusal.{Refusal}
 use Rattle.rules.specs.Refusals.{Setting, UnknownRegistryReference, MissingTableSchema, NoNodeRoom, NoPayloadRoom}
 use Rattle.rules.specs.declared.Checked.{Checked}
+use Rattle.rules.specs.declared.Door.{Door}
+use Rattle.rules.specs.declared.Door.the-variants.{Open}
 use Rattle.rules.specs.declared.Extent.{Extent}
 use Rattle.rules.specs.declared.Read.{Read}
 use Rattle.rules.specs.declared.Read.the-variants.{Row, End}
@@ -38,6 +40,28 @@ limits s = record { charge = s .«node_charge»; blob = s .«max_blob_bytes»; r
 -- the settings of a document that names none
 unfoldable pub defaults : Settings
 defaults = record { «node_charge» = 48; «max_blob_bytes» = 134217728; «max_row_bytes» = 268435456 }
+
+-- ---- the door: what is judged before a row is read
+
+-- what is answered once a format is checked
+unfoldable pub whenAccepted : {A : Type 0} → (Refusal → A) → Checked → A → A
+whenAccepted refuse Checked.Accepted a = a
+whenAccepted refuse (Checked.Refused r) a = refuse r
+
+-- settings, slices and the position (1); the format; the end of the stream; else the row may be read
+unfoldable pub door : Format → Settings → List ℕ → ℕ → Door
+door f s inp at =
+    pick (settingsOk s and sizesOk f and shortOk inp and leb at (length inp))
+    (whenAccepted Door.Refused (formatRules f) (pick (eqb at (length inp)) Door.End Open))
+    (Door.Refused Setting)
+
+-- what a call answers that goes through the door: that it is refused, that the stream ends, or what it finds
+unfoldable pub through : {A : Type 0} → Door → (Refusal → A) → A → A → A
+through Open refuse end found = found
+through Door.End refuse end found = end
+through (Door.Refused r) refuse end found = refuse r
+
+-- ---- a row
 
 -- where a row starts: nothing passed, and the whole allowance left
 unfoldable pub start : Limits → ℕ → Pos
@@ -67,7 +91,7 @@ module _ (f : Format) where
   unfoldable pub schemaOf : ℕ → Schema
   schemaOf t = schemaIn (tableSchema f t)
 
-  -- at a place stands a row of v of table t, within the limits, and q is where it leaves off
+  -- at a position stands a row of v of table t, within the limits, and q is where it leaves off
   pub record Accepts (inp : List ℕ) (lim : Limits) (at t : ℕ) (v : Value) (q : Pos) : Type 0 where
     pub bytes : List ℕ
     pub is : TableRow (tables f) schemaOf t v bytes
@@ -84,23 +108,15 @@ unfoldable pub skipped : ℕ → Answer (ℕ × Value) → Read
 skipped at (Got (t, v) q) = Row (extent at t q)
 skipped at (Refused r) = Read.Refused r
 
--- at the slice's end the reader says end of stream
+-- from a position that lies in the slice, of a format that is accepted: at the slice's end the reader says end of stream
 unfoldable pub skipFrom : Format → List ℕ → Limits → ℕ → Read
 skipFrom f inp lim at = pick (eqb at (length inp)) End (skipped at (rowAt f inp lim at))
 
--- what is answered once a format is checked
-unfoldable pub whenAccepted : {A : Type 0} → (Refusal → A) → Checked → A → A
-whenAccepted refuse Checked.Accepted a = a
-whenAccepted refuse (Checked.Refused r) a = refuse r
-
--- settings, slices and the position (1); the format; the row
+-- through the door, the row
 unfoldable pub skipRule : Format → Settings → List ℕ → ℕ → Read
-skipRule f s inp at =
-    pick (settingsOk s and sizesOk f and shortOk inp and leb at (length inp))
-    (whenAccepted Read.Refused (formatRules f) (skipFrom f inp (limits s) at))
-    (Read.Refused Setting)
+skipRule f s inp at = through (door f s inp at) Read.Refused End (skipped at (rowAt f inp (limits s) at))
 
--- ---- the run: the rows that are accepted one after another from a place on, and why it stops
+-- ---- the run: the rows that are accepted one after another from a position on, and why it stops
 pub record RowSpan : Type 0 where
   pub offset : ℕ
   pub size : ℕ
@@ -123,7 +139,7 @@ unfoldable pub runFrom : Format → List ℕ → Limits → ℕ → ℕ → Run
 runFrom f inp lim zero at = record { rows = []; stop = Stop.End }
 runFrom f inp lim (suc enough) at = goOn (runFrom f inp lim enough) at (skipFrom f inp lim at)
 
--- From a place on, skip accepts just these rows one after another, and then stops so.
+-- From a position on, skip accepts just these rows one after another, and then stops so.
 pub data Iterated (f : Format) (s : Settings) (inp : List ℕ) : ℕ → List RowSpan → Stop → Type 0 where
   at-end : {at : ℕ} →
       skipRule f s inp at ≡ End →
@@ -145,14 +161,16 @@ byteCount (r ∷ rs) = r .size + byteCount rs
 unfoldable pub ranOf : Run → Ran
 ranOf r = record { rows = rowCount (r .rows); bytes = byteCount (r .rows); stop = r .stop }
 
+-- no row
 unfoldable pub refusedRun : Refusal → Run
 refusedRun r = record { rows = []; stop = Stop.Refused r }
 
+unfoldable pub endedRun : Run
+endedRun = record { rows = []; stop = Stop.End }
+
+-- through the door at the stream's start, all rows
 unfoldable pub runRule : Format → Settings → List ℕ → Run
-runRule f s inp =
-    pick (settingsOk s and sizesOk f and shortOk inp)
-    (whenAccepted refusedRun (formatRules f) (runFrom f inp (limits s) (suc (length inp)) 0))
-    (refusedRun Setting)
+runRule f s inp = through (door f s inp 0) refusedRun endedRun (runFrom f inp (limits s) (suc (length inp)) 0)
 
 -- ---- decode: the answer and the two slices afterwards
 pub record Decoded : Type 0 where
@@ -168,36 +186,36 @@ room s = min (length s) 4294967295
 abbrev pub recordRoom : List ℕ → ℕ
 recordRoom s = valueRecordsIn (room s)
 
--- room for a row's records (19), then for its payload bytes (20), each with the whole row's need; every other answer stays
-unfoldable pub roomTest : ℕ → List ℕ → List ℕ → Read → Read
-roomTest at rs ps (Row e) =
-    pick (leb (e .records) (recordRoom rs))
-    (pick (leb (e .payload) (room ps)) (Row e) (Read.Refused (NoPayloadRoom (e .payload) at)))
+-- room for a row's records (19), then for its payload bytes (20), each with the whole row's need, where n and m bytes count
+unfoldable pub roomFor : ℕ → ℕ → ℕ → Extent → Read
+roomFor at n m e =
+    pick (leb (e .records) (valueRecordsIn n))
+    (pick (leb (e .payload) m) (Row e) (Read.Refused (NoPayloadRoom (e .payload) at)))
     (Read.Refused (NoNodeRoom (e .records) at))
+
+-- the same for two slices; every other answer stays
+unfoldable pub roomTest : ℕ → List ℕ → List ℕ → Read → Read
+roomTest at rs ps (Row e) = roomFor at (room rs) (room ps) e
 roomTest at rs ps End = End
 roomTest at rs ps (Read.Refused r) = Read.Refused r
 
 abbrev pub untouched : Read → List ℕ → List ℕ → Decoded
 untouched answer rs ps = record { answer = answer; records = rs; payload = ps }
 
--- room for the records (19), then for the payload bytes (20), each with the whole row's need; then both slices are filled from their starts
+-- a row that has room fills both slices from their starts with its value's table; no other answer does
+unfoldable pub fillWith : Value → List ℕ → List ℕ → Read → Decoded
+fillWith v rs ps (Row e) = record { answer = Row e; records = over rs 0 (flat v 0 0); payload = over ps 0 (pays v) }
+fillWith v rs ps End = untouched End rs ps
+fillWith v rs ps (Read.Refused r) = untouched (Read.Refused r) rs ps
+
 unfoldable pub filled : ℕ → Answer (ℕ × Value) → List ℕ → List ℕ → Decoded
-filled at (Got (t, v) q) rs ps =
-    pick (leb (q .records) (recordRoom rs))
-    (pick (leb (q .payload) (room ps))
-    (record { answer = Row (extent at t q); records = over rs 0 (flat v 0 0); payload = over ps 0 (pays v) })
-    (untouched (Read.Refused (NoPayloadRoom (q .payload) at)) rs ps))
-    (untouched (Read.Refused (NoNodeRoom (q .records) at)) rs ps)
+filled at (Got (t, v) q) rs ps = fillWith v rs ps (roomTest at rs ps (Row (extent at t q)))
 filled at (Refused r) rs ps = untouched (Read.Refused r) rs ps
 
-unfoldable pub decodeFrom : Format → List ℕ → Limits → ℕ → List ℕ → List ℕ → Decoded
-decodeFrom f inp lim at rs ps = pick (eqb at (length inp)) (untouched End rs ps) (filled at (rowAt f inp lim at) rs ps)
-
+-- through the door, the row and its value's table
 unfoldable pub decodeRule : Format → Settings → List ℕ → ℕ → List ℕ → List ℕ → Decoded
 decodeRule f s inp at rs ps =
-    pick (settingsOk s and sizesOk f and shortOk inp and leb at (length inp))
-    (whenAccepted (λ r. untouched (Read.Refused r) rs ps) (formatRules f) (decodeFrom f inp (limits s) at rs ps))
-    (untouched (Read.Refused Setting) rs ps)
+    through (door f s inp at) (λ r. untouched (Read.Refused r) rs ps) (untouched End rs ps) (filled at (rowAt f inp (limits s) at) rs ps)
 
 -- the answer is no row
 unfoldable pub NoRow : Read → Type 0

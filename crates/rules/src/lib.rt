@@ -215,6 +215,13 @@ pub enum Checked {
     Refused(Refusal),
 }
 
+// What settings, slices, position and format come to, before a row is read: it may be read, the stream ends there, or why not.
+pub enum Door {
+    Open,
+    End,
+    Refused(Refusal),
+}
+
 // What an accepted row takes: its table, its bytes in the stream, and the records and payload bytes of its value table.
 pub struct Extent {
     pub table: u64,

@@ -8,12 +8,13 @@ use borrow.Author.Tests.{le-leb, lt-leb}
 use lib.ListN.{length, length-append}
 use Rattle.rules.specs.Choice.{pick}
 use Rattle.rules.specs.Bytes.{le, over}
-use Rattle.rules.specs.Reading.{Decoded}
+use Rattle.rules.specs.Reading.{Decoded, untouched}
 use Rattle.rules.specs.declared.Read.{Read}
 use Rattle.rules.proofs.Over.{over-at}
 use Rattle.rules.proofs.Stands.{length-le}
-use Rattle.skiff.specs.declared.Answer.{Answer}
-use Rattle.skiff.specs.Answers.{words, layout, ofRead, leaves, returned, kept}
+use Rattle.skiff.specs.declared.answer.Answer.{Answer}
+use Rattle.skiff.specs.Answers.{words, layout, answerOfRead}
+use Rattle.skiff.specs.Calls.{given, givenRow}
 
 -- ---- numbers, one after another
 
@@ -55,46 +56,23 @@ eleven s s₁ s₂ s₃ x xs ys l p₁ p₂ p₃ =
     let m : length (words xs) ≡ length xs * 8 = length-words xs in
     rw (p₃, p₂, over-at (words xs) (words ys) s₁ 8 48 (omega arith), ← words-append xs ys) (first-word s s₁ 0 8 x (xs ++ ys) refl p₁)
 
--- ---- a slice by its length
-
-pub leaves-room : (s : List ℕ) (a : Answer) → 88 ≤ length s → leaves s a ≡ over s 0 (layout a)
-unfolding leaves pick
-leaves-room s a h = rw (le-leb 88 (length s) h)
-
-pub leaves-short : (s : List ℕ) (a : Answer) → length s < 88 → leaves s a ≡ s
-unfolding leaves pick
-leaves-short s a h = rw (lt-leb 88 (length s) h)
-
-pub returned-room : (s : List ℕ) (a : Answer) → 88 ≤ length s → returned s a ≡ a .why .number
-unfolding returned pick
-returned-room s a h = rw (le-leb 88 (length s) h)
-
-pub returned-short : (s : List ℕ) (a : Answer) → length s < 88 → returned s a ≡ 1
-unfolding returned pick
-returned-short s a h = rw (lt-leb 88 (length s) h)
-
 -- ---- what a call gives
 
-pub short-given : (s : List ℕ) (a : Answer) → length s < 88 → (1 ≡ returned s a) × (s ≡ leaves s a)
-short-given s a h = (sym (returned-short s a h), sym (leaves-short s a h))
+pub short-given : (s : List ℕ) (a : Answer) → length s < 88 → record { number = 1; answer = s } ≡ given s a
+unfolding given pick
+short-given s a h = rw (lt-leb 88 (length s) h)
 
-pub room-given : {A : Type 0} (f : A → Answer) (x y : A) (a : Answer) (s s′ : List ℕ) (n : ℕ) → 88 ≤ length s → a ≡ f x → x ≡ y → (n ≡ a .why .number) × (s′ ≡ over s 0 (layout a)) → (n ≡ returned s (f y)) × (s′ ≡ leaves s (f y))
-room-given f x y a s s′ n h p q g = rw (← q, ← p) (g .0 ∙ sym (returned-room s a h), g .1 ∙ sym (leaves-room s a h))
+pub room-given : {A : Type 0} (f : A → Answer) (x y : A) (a : Answer) (s s′ : List ℕ) (n : ℕ) → 88 ≤ length s → a ≡ f x → x ≡ y → (n ≡ a .why .number) × (s′ ≡ over s 0 (layout a)) → record { number = n; answer = s′ } ≡ given s (f y)
+unfolding given pick
+room-given f x y a s s′ n h p q g = rw (← q, ← p, le-leb 88 (length s) h, g .0, g .1)
 
 -- ---- what decode gives: the two slices too
 
-kept-room : (s made was : List ℕ) → 88 ≤ length s → kept s made was ≡ made
-unfolding kept pick
-kept-room s made was h = rw (le-leb 88 (length s) h)
+pub short-row : (s : List ℕ) (d : Decoded) (rs ps : List ℕ) → length s < 88 → record { number = 1; answer = s; records = rs; payload = ps } ≡ givenRow s d rs ps
+unfolding givenRow pick
+short-row s d rs ps h = rw (lt-leb 88 (length s) h)
 
-kept-short : (s made was : List ℕ) → length s < 88 → kept s made was ≡ was
-unfolding kept pick
-kept-short s made was h = rw (lt-leb 88 (length s) h)
-
-pub short-kept : (s : List ℕ) (a : Answer) (rs rs′ ps ps′ : List ℕ) → length s < 88 → (1 ≡ returned s a) × ((s ≡ leaves s a) × ((rs ≡ kept s rs′ rs) × (ps ≡ kept s ps′ ps)))
-short-kept s a rs rs′ ps ps′ h = (sym (returned-short s a h), (sym (leaves-short s a h), (sym (kept-short s rs′ rs h), sym (kept-short s ps′ ps h))))
-
-pub room-kept : (x : Read) (d : Decoded) (a : Answer) (s s′ rs rs′ ps ps′ : List ℕ) (n : ℕ) → 88 ≤ length s → a ≡ ofRead x → (x ≡ d .answer) × ((rs′ ≡ d .records) × (ps′ ≡ d .payload)) → (n ≡ a .why .number) × (s′ ≡ over s 0 (layout a)) → (n ≡ returned s (ofRead (d .answer))) × ((s′ ≡ leaves s (ofRead (d .answer))) × ((rs′ ≡ kept s (d .records) rs) × (ps′ ≡ kept s (d .payload) ps)))
-room-kept x d a s s′ rs rs′ ps ps′ n h p q g =
-    let o = room-given ofRead x (d .answer) a s s′ n h p (q .0) g in
-    (o .0, (o .1, (q .1 .0 ∙ sym (kept-room s (d .records) rs h), q .1 .1 ∙ sym (kept-room s (d .payload) ps h))))
+pub room-row : (x : Read) (d : Decoded) (a : Answer) (s s′ rs rs′ ps ps′ : List ℕ) (n : ℕ) → 88 ≤ length s → a ≡ answerOfRead x → untouched x rs′ ps′ ≡ d → (n ≡ a .why .number) × (s′ ≡ over s 0 (layout a)) →
+    record { number = n; answer = s′; records = rs′; payload = ps′ } ≡ givenRow s d rs ps
+unfolding givenRow pick
+room-row x d a s s′ rs rs′ ps ps′ n h p q g = rw (← q, ← p, le-leb 88 (length s) h, g .0, g .1)

@@ -10,25 +10,25 @@ use Rattle.rules.specs.declared.Read.{Read}
 use Rattle.rules.specs.declared.Read.the-variants as read
 use Rattle.rules.specs.declared.Stop.{Stop}
 use Rattle.rules.specs.declared.Stop.the-variants as stop
-use Rattle.skiff.specs.Answers.{fine, none, ofRead, ofRan, whatOf, whyOf}
+use Rattle.skiff.specs.Answers.{noRefusal, extentOfBytes, answerOfRead, answerOfRan, whatOf, whyOf}
 
-pub told-row : (w : Report) (x : Read) (e : Extent) → x ≡ read.Row e → w ≡ fine → record { what = 0; why = w; rows = 1; row = e } ≡ ofRead x
-unfolding ofRead
+pub told-row : (w : Report) (x : Read) (e : Extent) → x ≡ read.Row e → w ≡ noRefusal → record { what = 0; why = w; rows = 1; row = e } ≡ answerOfRead x
+unfolding answerOfRead
 told-row w x e p q = rw (p, q)
 
 module _ (w : Report) (n : Extent) where
-  pub told-end : (x : Read) → x ≡ read.End → w ≡ fine → n ≡ none 0 → record { what = 1; why = w; rows = 0; row = n } ≡ ofRead x
-  unfolding ofRead
+  pub told-end : (x : Read) → x ≡ read.End → w ≡ noRefusal → n ≡ extentOfBytes 0 → record { what = 1; why = w; rows = 0; row = n } ≡ answerOfRead x
+  unfolding answerOfRead
   told-end x p q m = rw (p, q, m)
 
-  pub told-refused : (x : Read) (r : Refusal) → x ≡ read.Refused r → w ≡ reportOf r → n ≡ none 0 → record { what = 2; why = w; rows = 0; row = n } ≡ ofRead x
-  unfolding ofRead
+  pub told-refused : (x : Read) (r : Refusal) → x ≡ read.Refused r → w ≡ reportOf r → n ≡ extentOfBytes 0 → record { what = 2; why = w; rows = 0; row = n } ≡ answerOfRead x
+  unfolding answerOfRead
   told-refused x r p q m = rw (p, q, m)
 
-  pub ran-end : (x : Stop) (rows bytes : ℕ) → x ≡ stop.End → w ≡ fine → n ≡ none bytes → record { what = 1; why = w; rows = rows; row = n } ≡ ofRan (record { rows = rows; bytes = bytes; stop = x })
-  unfolding ofRan whatOf whyOf
+  pub ran-end : (x : Stop) (rows bytes : ℕ) → x ≡ stop.End → w ≡ noRefusal → n ≡ extentOfBytes bytes → record { what = 1; why = w; rows = rows; row = n } ≡ answerOfRan (record { rows = rows; bytes = bytes; stop = x })
+  unfolding answerOfRan whatOf whyOf
   ran-end x rows bytes p q m = rw (p, q, m)
 
-  pub ran-refused : (x : Stop) (rows bytes : ℕ) (r : Refusal) → x ≡ stop.Refused r → w ≡ reportOf r → n ≡ none bytes → record { what = 2; why = w; rows = rows; row = n } ≡ ofRan (record { rows = rows; bytes = bytes; stop = x })
-  unfolding ofRan whatOf whyOf
+  pub ran-refused : (x : Stop) (rows bytes : ℕ) (r : Refusal) → x ≡ stop.Refused r → w ≡ reportOf r → n ≡ extentOfBytes bytes → record { what = 2; why = w; rows = rows; row = n } ≡ answerOfRan (record { rows = rows; bytes = bytes; stop = x })
+  unfolding answerOfRan whatOf whyOf
   ran-refused x rows bytes r p q m = rw (p, q, m)

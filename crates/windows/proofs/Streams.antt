@@ -2,15 +2,17 @@
 -- Assumes nothing.
 use Prim.Native.Nat.{ℕ, zero, suc, _+_, _-_, _≤_, _<_}
 use mathlib.Core.Path.{_≡_, refl, sym, _∙_}
+use mathlib.Core.Bool.{false}
 use mathlib.Core.List.{List, [], _∷_, _++_}
 use native.Mathlib.Omega.{arith}
 use borrow.Author.Tests.{lt-leb}
+use lib.Dec.{leb}
 use lib.ListN.{length, take, drop, length-append, length-drop, drop-of-length-le}
 use lib.Seq.{length-take-le, take-append-le, take-take, take-add, drop-drop, getD-drop}
 use Rattle.rules.specs.Choice.{pick, _and_}
 use Rattle.rules.specs.Bytes.{Bytes, part, over}
 use Rattle.rules.specs.Format.{Format, sizesOk}
-use Rattle.rules.specs.Reading.{settingsOk, refusedRun, runRule, rowCount, byteCount, ranOf}
+use Rattle.rules.specs.Reading.{settingsOk, door, through, refusedRun, runRule, rowCount, byteCount, ranOf}
 use Rattle.rules.specs.Windows.{movedStop, added}
 use Rattle.rules.specs.Refusals.{Setting}
 use Rattle.rules.specs.declared.Stop.{Stop}
@@ -152,5 +154,7 @@ module _ (f : Format) (set : Settings) {ends : Ends} {end n : ℕ} (s ys : List 
 
   -- or they are too many
   pub stream-long : 4294967295 < n + got → ranOf (runRule f set (t .read ++ more)) ≡ record { rows = 0; bytes = 0; stop = Stop.Refused Setting }
-  unfolding ranOf runRule refusedRun rowCount byteCount pick
-  stream-long h = rw (lt-leb (length (t .read ++ more)) 4294967295 (rw longer h), and-false (settingsOk set and sizesOk f))
+  unfolding ranOf runRule door through refusedRun rowCount byteCount pick
+  stream-long h =
+      let none : (false and leb 0 (length (t .read ++ more))) ≡ false = unfold _and_ in refl in
+      rw (lt-leb (length (t .read ++ more)) 4294967295 (rw longer h), and-false (settingsOk set and sizesOk f), none)

@@ -13,7 +13,7 @@ use rules::Ran;
 use rules::Refusal;
 use rules::Settings;
 use rules::Stop;
-use stream::run;
+use run::run;
 
 // A longer stream is refused by 1, whatever stands in it.
 pub const LONGEST: u64 = 4294967295;

@@ -26,12 +26,12 @@ enum-known-t c = search needs
 enum-told : tie.Need-enum-told
 enum-told c = search needs
 
-no-child-requires : tie.Need-no-child-requires
-no-child-requires c κs = search needs
+pick-refused-by-tag-requires : tie.Need-pick-refused-by-tag-requires
+pick-refused-by-tag-requires c κs = search needs
 
 returns-3 : tie.Need-returns-3
 unfolding byTag
-returns-3 c = rw (c .no-child .ensures _ (c .before .enum-told .given .1), picked-tag _ _ _ _ _ _ (c .before .before .before .before .if1 .left), ← c .before .before .before .read-tag .ensures, c .before .enum-told .given .1)
+returns-3 c = rw (c .pick-refused-by-tag .ensures _ (c .before .enum-told .given .1), picked-tag _ _ _ _ _ _ (c .before .before .before .before .if1 .left), ← c .before .before .before .read-tag .ensures, c .before .enum-told .given .1)
 
 ends-requires : tie.Need-ends-requires
 ends-requires c κs = search needs
@@ -61,7 +61,7 @@ next-child-spec =
     read-tag-requires
     enum-known-t
     enum-told
-    no-child-requires
+    pick-refused-by-tag-requires
     returns-3
     ends-requires
     returns-4

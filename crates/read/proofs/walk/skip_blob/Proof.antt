@@ -15,12 +15,12 @@ enum-known-length c = search needs
 enum-told : tie.Need-enum-told
 enum-told c = search needs
 
-cut-requires : tie.Need-cut-requires
-cut-requires c κs = search needs
+skipped-refused-by-length-requires : tie.Need-skipped-refused-by-length-requires
+skipped-refused-by-length-requires c κs = search needs
 
 returns : tie.Need-returns
 unfolding blobOf reading
-returns c = rw (c .cut .ensures _ (c .before .enum-told .given .1), ← c .before .before .before .read-length .ensures, c .before .enum-told .given .1)
+returns c = rw (c .skipped-refused-by-length .ensures _ (c .before .enum-told .given .1), ← c .before .before .before .read-length .ensures, c .before .enum-told .given .1)
 
 sub-left : tie.Need-sub-left
 sub-left c = number-past _ _ _ _ _ _ _ (c .before .before .before .before .before .before .pre .within) (c .before .before .before .read-length .ensures) (c .before .length .given .1) .1
@@ -41,12 +41,12 @@ enum-known-paid c = search needs
 enum-told-2 : tie.Need-enum-told-2
 enum-told-2 c = search needs
 
-dear-requires : tie.Need-dear-requires
-dear-requires c κs = search needs
+skipped-refused-by-charge-requires : tie.Need-skipped-refused-by-charge-requires
+skipped-refused-by-charge-requires c κs = search needs
 
 returns-3 : tie.Need-returns-3
 unfolding blobOf reading charged having bytesOf passed stored pick _>>=_
-returns-3 c = rw (c .dear .ensures _ (c .before .enum-told2 .given .1), ← c .before .before .before .before .before .before .before .before .before .read-length .ensures, c .before .before .before .before .before .before .before .length .given .1, ← c .before .before .before .before .before .blob-limit .ensures, le-leb _ _ (c .before .before .before .before .if1 .left), ← c .before .before .before .charge .ensures, c .before .enum-told2 .given .1)
+returns-3 c = rw (c .skipped-refused-by-charge .ensures _ (c .before .enum-told2 .given .1), ← c .before .before .before .before .before .before .before .before .before .read-length .ensures, c .before .before .before .before .before .before .before .length .given .1, ← c .before .before .before .before .before .blob-limit .ensures, le-leb _ _ (c .before .before .before .before .if1 .left), ← c .before .before .before .charge .ensures, c .before .enum-told2 .given .1)
 
 returns-4 : tie.Need-returns-4
 unfolding blobOf reading charged having bytesOf passed stored pick _>>=_
@@ -69,7 +69,7 @@ skip-blob-spec =
     read-length-requires
     enum-known-length
     enum-told
-    cut-requires
+    skipped-refused-by-length-requires
     returns
     sub-left
     blob-limit-requires
@@ -77,7 +77,7 @@ skip-blob-spec =
     charge-requires
     enum-known-paid
     enum-told-2
-    dear-requires
+    skipped-refused-by-charge-requires
     returns-3
     returns-4
     add-t14

@@ -18,17 +18,17 @@ returns c = rw (← c .before .fixed-width .ensures .0, lt-leb _ _ (c .if1 .take
 add-t7 : tie.Need-add-t7
 add-t7 c = search needs
 
-kept-requires : tie.Need-kept-requires
-kept-requires c κs = search needs
+payload-of-fixed-requires : tie.Need-payload-of-fixed-requires
+payload-of-fixed-requires c κs = search needs
 
 add-t14 : tie.Need-add-t14
 add-t14 c = search needs
 
 returns-2 : tie.Need-returns-2
 unfolding fixedOf bytesOf passed stored pick _>>=_
-returns-2 c = rw (← c .before .before .before .before .fixed-width .ensures .0, ← c .before .kept .ensures .0, le-leb _ _ (c .before .before .before .if1 .left))
+returns-2 c = rw (← c .before .before .before .before .fixed-width .ensures .0, ← c .before .payload-of-fixed .ensures .0, le-leb _ _ (c .before .before .before .if1 .left))
 
 pub skip-fixed-spec : {M : Type 1} → statement M
 skip-fixed-spec =
     tie.close
-    (tie.spec fixed-width-requires sub-if1 returns add-t7 kept-requires add-t14 returns-2)
+    (tie.spec fixed-width-requires sub-if1 returns add-t7 payload-of-fixed-requires add-t14 returns-2)

@@ -16,11 +16,11 @@ enum-known-paid c = search needs
 enum-told : tie.Need-enum-told
 enum-told c = search needs
 
-dear-requires : tie.Need-dear-requires
-dear-requires c κs = search needs
+skipped-refused-by-charge-requires : tie.Need-skipped-refused-by-charge-requires
+skipped-refused-by-charge-requires c κs = search needs
 
 returns : tie.Need-returns
-returns c = c .dear .ensures _ (c .before .enum-told .given .1) ∙ root-dear _ _ _ _ _ (c .before .before .before .before .new .ensures) _ (c .before .before .before .charge .ensures) _ (c .before .enum-told .given .1)
+returns c = c .skipped-refused-by-charge .ensures _ (c .before .enum-told .given .1) ∙ root-dear _ _ _ _ _ (c .before .before .before .before .new .ensures) _ (c .before .before .before .charge .ensures) _ (c .before .enum-told .given .1)
 
 node-code-requires : tie.Need-node-code-requires
 node-code-requires c κs = search needs
@@ -50,7 +50,7 @@ skip-root-spec =
     charge-requires
     enum-known-paid
     enum-told
-    dear-requires
+    skipped-refused-by-charge-requires
     returns
     node-code-requires
     skip-children-requires

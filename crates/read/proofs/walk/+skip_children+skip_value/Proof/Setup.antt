@@ -8,10 +8,10 @@ use Rattle.read.proofs.walk.skip_value.Reads as skip-value
 use Rattle.read.proofs.walk.skip_value.Kinds as skip-value-kinds
 use Rattle.read.proofs.walk.+skip_children+skip_value.Lts-skip_value as skip-value-lts
 use Rattle.read.proofs.budget.RowBudget.charge.Reads as charge-reads
-use Rattle.read.proofs.walk.dear.Reads as dear-reads
+use Rattle.read.proofs.walk.skipped_refused_by_charge.Reads as skipped-refused-by-charge-reads
 use Rattle.read.proofs.walk.leaf_at.Reads as leaf-at-reads
 use Rattle.read.proofs.walk.next_child.Reads as next-child-reads
-use Rattle.read.proofs.walk.refused.Reads as refused-reads
+use Rattle.read.proofs.walk.skipped_refused_by_child.Reads as skipped-refused-by-child-reads
 use Rattle.read.proofs.walk.skip_leaf.Reads as skip-leaf-reads
 use Rattle.record.proofs.node.node_children.Reads as node-children-reads
 use Rattle.record.proofs.node.node_code.Reads as node-code-reads
@@ -37,7 +37,7 @@ abbrev pub skip-value-below : ℕ → In 2 skip-value-kinds.ps
 skip-value-below t = and 2 skip-value-kinds.ps (falls 2 skip-value-kinds.ps _<_ μ-skip-value t) skip-value.Pre
 
 abbrev pub skip-children-calls : ℕ → skip-children-lts.Claims
-skip-children-calls t = (node-first-reads.Asked, node-first-reads.Learnt, node-children-reads.Asked, node-children-reads.Learnt, next-child-reads.Asked, next-child-reads.Learnt, skip-value-below t, skip-value.Post, refused-reads.Asked, refused-reads.Learnt)
+skip-children-calls t = (node-first-reads.Asked, node-first-reads.Learnt, node-children-reads.Asked, node-children-reads.Learnt, next-child-reads.Asked, next-child-reads.Learnt, skip-value-below t, skip-value.Post, skipped-refused-by-child-reads.Asked, skipped-refused-by-child-reads.Learnt)
 
 abbrev pub skip-value-calls : ℕ → skip-value-lts.Claims
-skip-value-calls t = (charge-reads.Asked, charge-reads.Learnt, dear-reads.Asked, dear-reads.Learnt, node-code-reads.Asked, node-code-reads.Learnt, leaf-at-reads.Asked, leaf-at-reads.Learnt, skip-leaf-reads.Asked, skip-leaf-reads.Learnt, skip-children-below t, skip-children.Post)
+skip-value-calls t = (charge-reads.Asked, charge-reads.Learnt, skipped-refused-by-charge-reads.Asked, skipped-refused-by-charge-reads.Learnt, node-code-reads.Asked, node-code-reads.Learnt, leaf-at-reads.Asked, leaf-at-reads.Learnt, skip-leaf-reads.Asked, skip-leaf-reads.Learnt, skip-children-below t, skip-children.Post)

@@ -80,14 +80,14 @@ module _ (t : ℕ) where
   pub enum-told : lts.Need-enum-told (skip-children-calls t) (skip-children-at t) skip-children.Post Inv-loop μ-loop
   enum-told c = search needs
 
-  pub refused-requires : lts.Need-refused-requires (skip-children-calls t) (skip-children-at t) skip-children.Post Inv-loop μ-loop
-  refused-requires c κs = search needs
+  pub skipped-refused-by-child-requires : lts.Need-skipped-refused-by-child-requires (skip-children-calls t) (skip-children-at t) skip-children.Post Inv-loop μ-loop
+  skipped-refused-by-child-requires c κs = search needs
 
   pub returns : lts.Need-returns (skip-children-calls t) (skip-children-at t) skip-children.Post Inv-loop μ-loop
   unfolding _>>=_
   returns c =
       let l = c .before .before .before .before .before .before .before .before .before .loop .inv .1 .1 in
-      rw (c .refused .ensures _ (c .before .enum-told .given .1), turn-child _ _ _ _ _ _ _ _ _ _ (l .1 .0) _ (l .1 .1) _ (c .before .before .before .before .before .before .before .next-child .ensures) _ _ (c .before .before .before .before .before .pick .given .1), ← c .before .before .before .skip-value .ensures, c .before .enum-told .given .1)
+      rw (c .skipped-refused-by-child .ensures _ (c .before .enum-told .given .1), turn-child _ _ _ _ _ _ _ _ _ _ (l .1 .0) _ (l .1 .1) _ (c .before .before .before .before .before .before .before .next-child .ensures) _ _ (c .before .before .before .before .before .pick .given .1), ← c .before .before .before .skip-value .ensures, c .before .enum-told .given .1)
 
   pub returns-2 : lts.Need-returns-2 (skip-children-calls t) (skip-children-at t) skip-children.Post Inv-loop μ-loop
   unfolding _>>=_ goOn

@@ -29,11 +29,11 @@ module _ (t : ℕ) where
   pub enum-told : lts.Need-enum-told (skip-value-calls t) (skip-value-at t) skip-value.Post
   enum-told c = search needs
 
-  pub dear-requires : lts.Need-dear-requires (skip-value-calls t) (skip-value-at t) skip-value.Post
-  dear-requires c κs = search needs
+  pub skipped-refused-by-charge-requires : lts.Need-skipped-refused-by-charge-requires (skip-value-calls t) (skip-value-at t) skip-value.Post
+  skipped-refused-by-charge-requires c κs = search needs
 
   pub returns-2 : lts.Need-returns-2 (skip-value-calls t) (skip-value-at t) skip-value.Post
-  returns-2 c = rw (c .dear .ensures _ (c .before .enum-told .given .1), skim-dear _ _ _ _ _ (c .before .before .before .before .before .before .before .before .args .p) (c .before .before .before .before .before .if1 .left) _ (c .before .before .before .charge .ensures) _ (c .before .enum-told .given .1))
+  returns-2 c = rw (c .skipped-refused-by-charge .ensures _ (c .before .enum-told .given .1), skim-dear _ _ _ _ _ (c .before .before .before .before .before .before .before .before .args .p) (c .before .before .before .before .before .if1 .left) _ (c .before .before .before .charge .ensures) _ (c .before .enum-told .given .1))
 
   pub add-t26 : lts.Need-add-t26 (skip-value-calls t) (skip-value-at t) skip-value.Post
   add-t26 c = search needs

@@ -1,0 +1,19 @@
+use borrow.Author.Needs.{needs}
+use Rattle.row.proofs.steps.read_refused_by_value.Statement.{statement}
+use Rattle.row.proofs.steps.read_refused_by_value.Tie as tie
+
+enum-known-value : tie.Need-enum-known-value
+enum-known-value c = search needs
+
+-- /work/door/target/rlib/rules.rlib/interface/lang/src/lib.rt:29:47
+enum-told : tie.Need-enum-told
+enum-told c = search needs
+
+returns : tie.Need-returns
+returns c = λ why is. cc
+
+returns-2 : tie.Need-returns-2
+returns-2 c = λ why is. cc
+
+pub read-refused-by-value-spec : {M : Type 1} → statement M
+read-refused-by-value-spec = tie.close (tie.spec enum-known-value enum-told returns returns-2)

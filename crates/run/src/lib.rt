@@ -1,0 +1,78 @@
+// The run over a whole stream: the format is checked once, at the door, and each row is judged by the one walk.
+ghost use mathlib.Core.Path.{_≡_};
+ghost use Prim.Native.Nat.{suc};
+ghost use lib.ListN.{length};
+ghost use Rattle.rules.specs.Reading.{limits, runFrom, runRule, ranOf};
+ghost use Rattle.schema.specs.Slices.{slices};
+ghost use Rattle.row.specs.Steps.{Asked};
+use row::door::door;
+use row::steps::row_at;
+use rules::Door;
+use rules::Ran;
+use rules::Read;
+use rules::Settings;
+use rules::Stop;
+
+// The run as far as it got.
+fn ran_to(rows: u64, at: usize, stop: Stop) -> Ran
+    ensures { λ r. ⌜ r ≡ record { rows = rows; bytes = at; stop = stop } ⌝ }
+{
+    Ran {
+        rows,
+        bytes: at as u64,
+        stop,
+    }
+}
+
+// The rows from the start on, up to the end or the first refusal.
+pub fn run_rows(
+    table: &[u8],
+    names: &[u8],
+    references: &[u8],
+    registry: &[u8],
+    input: &[u8],
+    settings: Settings,
+) -> Ran
+    requires { ⌜ Asked (slices (now table) (now names) (now references) (now registry)) (now input) settings ⌝ }
+    ensures { λ r. ⌜ r ≡ ranOf (runFrom (slices (now (table .entry)) (now (names .entry)) (now (references .entry)) (now (registry .entry)))
+        (now (input .entry)) (limits settings) (suc (length (now (input .entry)))) 0) ⌝ }
+{
+    let mut rows: u64 = 0;
+    let mut at: usize = 0;
+    while at < input.len() {
+        let read = row_at(table, names, references, registry, input, at, settings);
+        match read {
+            Read::Row(row) => {
+                at += row.bytes as usize;
+                rows += 1;
+            }
+            Read::End => {
+                return ran_to(rows, at, Stop::End);
+            }
+            Read::Refused(why) => {
+                return ran_to(rows, at, Stop::Refused(why));
+            }
+        }
+    }
+    ran_to(rows, at, Stop::End)
+}
+
+// The run over a whole stream: rows and bytes up to its end or its first refusal.
+pub fn run(
+    settings: Settings,
+    table: &[u8],
+    names: &[u8],
+    references: &[u8],
+    registry: &[u8],
+    input: &[u8],
+) -> Ran
+    ensures { λ r. ⌜ r ≡ ranOf (runRule (slices (now (table .entry)) (now (names .entry)) (now (references .entry)) (now (registry .entry)))
+        settings (now (input .entry))) ⌝ }
+{
+    let entry = door(settings, table, names, references, registry, input, 0);
+    match entry {
+        Door::Open => run_rows(table, names, references, registry, input, settings),
+        Door::End => ran_to(0, 0, Stop::End),
+        Door::Refused(why) => ran_to(0, 0, Stop::Refused(why)),
+    }
+}

@@ -1,0 +1,49 @@
+-- What the C functions take, return and leave in the slices that they are lent.
+-- Assumes nothing: these are definitions.
+use Prim.Native.Nat.{ℕ}
+use mathlib.Core.List.{List}
+use lib.ListN.{length}
+use lib.Dec.{leb}
+use Rattle.rules.specs.Choice.{pick}
+use Rattle.rules.specs.Bytes.{over}
+use Rattle.rules.specs.Format.{Format}
+use Rattle.rules.specs.Reading.{skipRule, runRule, ranOf, Decoded, decodeRule}
+use Rattle.rules.specs.declared.Settings.{Settings}
+use Rattle.skiff.specs.declared.answer.Answer.{Answer}
+use Rattle.skiff.specs.Answers.{layout, answerOfRead, answerOfRan}
+
+abbrev pub settingsOf : ℕ → ℕ → ℕ → Settings
+settingsOf charge blob row = record { «node_charge» = charge; «max_blob_bytes» = blob; «max_row_bytes» = row }
+
+-- what a call returns, and its answer slice afterwards
+pub record Given : Type 0 where
+  pub number : ℕ
+  pub answer : List ℕ
+
+-- a slice of at least 88 bytes has the answer at its start, and the refusal's number is returned; a shorter one stays, and 1 is returned
+unfoldable pub given : List ℕ → Answer → Given
+given slice a = pick (leb 88 (length slice)) (record { number = a .why .number; answer = over slice 0 (layout a) }) (record { number = 1; answer = slice })
+
+unfoldable pub skipGiven : Format → Settings → List ℕ → ℕ → List ℕ → Given
+skipGiven f s inp at slice = given slice (answerOfRead (skipRule f s inp at))
+
+unfoldable pub runGiven : Format → Settings → List ℕ → List ℕ → Given
+runGiven f s inp slice = given slice (answerOfRan (ranOf (runRule f s inp)))
+
+-- decode's two slices too
+pub record GivenRow : Type 0 where
+  pub number : ℕ
+  pub answer : List ℕ
+  pub records : List ℕ
+  pub payload : List ℕ
+
+-- they are as decode leaves them, but stay where there is no room for an answer
+unfoldable pub givenRow : List ℕ → Decoded → List ℕ → List ℕ → GivenRow
+givenRow slice d rs ps =
+    let a = answerOfRead (d .answer) in
+    pick (leb 88 (length slice))
+    (record { number = a .why .number; answer = over slice 0 (layout a); records = d .records; payload = d .payload })
+    (record { number = 1; answer = slice; records = rs; payload = ps })
+
+unfoldable pub decodeGiven : Format → Settings → List ℕ → ℕ → List ℕ → List ℕ → List ℕ → GivenRow
+decodeGiven f s inp at slice rs ps = givenRow slice (decodeRule f s inp at rs ps) rs ps

@@ -1,0 +1,135 @@
+// An answer in numbers, and its layout in the answer slice.
+ghost use mathlib.Core.Path.{_≡_};
+ghost use Prim.Native.Nat.{_+_, _≤_};
+ghost use mathlib.Core.List.{_∷_, []};
+ghost use lib.ListN.{length};
+ghost use Rattle.rules.specs.Bytes.{over};
+ghost use Rattle.skiff.specs.Answers.{words, layout, noRefusal, extentOfBytes, answerOfRead, answerOfRan};
+use rules::Extent;
+use rules::Read;
+use rules::Report;
+use rules::Stop;
+use wire::store::put64;
+
+// The bytes of an answer.
+pub const ANSWER: usize = 88;
+
+// An answer in numbers: 0 a row, 1 an end, 2 a refusal; why it is refused; the rows, and what they or the one row take.
+pub struct Answer {
+    pub what: u64,
+    pub why: Report,
+    pub rows: u64,
+    pub row: Extent,
+}
+
+// What a call says that refuses nothing.
+fn no_refusal() -> Report
+    ensures { λ r. ⌜ r ≡ noRefusal ⌝ }
+{
+    Report {
+        number: 0,
+        place: 0,
+        a: 0,
+        b: 0,
+        c: 0,
+    }
+}
+
+// So many bytes, and nothing of a single row.
+fn extent_of_bytes(bytes: u64) -> Extent
+    ensures { λ r. ⌜ r ≡ extentOfBytes bytes ⌝ }
+{
+    Extent {
+        table: 0,
+        bytes,
+        records: 0,
+        payload: 0,
+    }
+}
+
+// A read in numbers.
+pub fn answer_of_read(answer: Read) -> Answer
+    ensures { λ r. ⌜ r ≡ answerOfRead answer ⌝ }
+{
+    match answer {
+        Read::Row(row) => Answer {
+            what: 0,
+            why: no_refusal(),
+            rows: 1,
+            row,
+        },
+        Read::End => Answer {
+            what: 1,
+            why: no_refusal(),
+            rows: 0,
+            row: extent_of_bytes(0),
+        },
+        Read::Refused(refusal) => Answer {
+            what: 2,
+            why: refusal.in_numbers(),
+            rows: 0,
+            row: extent_of_bytes(0),
+        },
+    }
+}
+
+// A run in numbers.
+pub fn answer_of_ran(rows: u64, bytes: u64, stop: Stop) -> Answer
+    ensures { λ r. ⌜ r ≡ answerOfRan (record { rows = rows; bytes = bytes; stop = stop }) ⌝ }
+{
+    match stop {
+        Stop::End => Answer {
+            what: 1,
+            why: no_refusal(),
+            rows,
+            row: extent_of_bytes(bytes),
+        },
+        Stop::Refused(refusal) => Answer {
+            what: 2,
+            why: refusal.in_numbers(),
+            rows,
+            row: extent_of_bytes(bytes),
+        },
+    }
+}
+
+// Five numbers, one after another.
+fn put_five(s: &mut [u8], at: usize, a: u64, b: u64, c: u64, d: u64, e: u64)
+    requires { ⌜ at + 40 ≤ length (now s) ⌝ }
+    ensures { λ _. ⌜ now (s .exit) ≡ over (now (s .entry)) at (words (a ∷ b ∷ c ∷ d ∷ e ∷ [])) ⌝ }
+{
+    put64(s, at, a);
+    put64(s, at + 8, b);
+    put64(s, at + 16, c);
+    put64(s, at + 24, d);
+    put64(s, at + 32, e);
+}
+
+// The answer at the start of a slice that has room for it.
+fn put_answer(s: &mut [u8], answer: Answer)
+    requires { ⌜ 88 ≤ length (now s) ⌝ }
+    ensures { λ _. ⌜ now (s .exit) ≡ over (now (s .entry)) 0 (layout answer) ⌝ }
+{
+    let why = answer.why;
+    let row = answer.row;
+    put64(s, 0, answer.what);
+    put_five(s, 8, why.number as u64, why.place, why.a, why.b, why.c);
+    put_five(
+        s,
+        48,
+        answer.rows,
+        row.bytes,
+        row.table,
+        row.records,
+        row.payload,
+    );
+}
+
+// Gives an answer to the host: in its slice, and the refusal's number.
+pub fn give(s: &mut [u8], answer: Answer) -> u32
+    requires { ⌜ 88 ≤ length (now s) ⌝ }
+    ensures { λ r. ⌜ (r ≡ answer .why .number) × (now (s .exit) ≡ over (now (s .entry)) 0 (layout answer)) ⌝ }
+{
+    put_answer(s, answer);
+    answer.why.number
+}
