@@ -1,13 +1,15 @@
 -- What a wire code says of kinds and shapes, by the ranges that the code's tests tell apart.
 -- Assumes nothing.
-use Prim.Native.Nat.{ℕ, _≤_, _<_}
+use Prim.Native.Nat.{ℕ, _+_, _≤_, _<_}
 use mathlib.Core.Path.{_≡_, refl}
 use mathlib.Core.Bool.{Bool, true, false}
+use mathlib.Core.List.{[]}
 use native.Mathlib.Omega.{arith}
 use borrow.Author.Tests.{lt-ltb, ltb-true, leb-true, eqb-true}
 use lib.Dec.{ltb, leb, eqb}
 use Rattle.rules.specs.Choice.{pick, _and_, all}
-use Rattle.rules.specs.Wire.{Form, empty, truth, fixed, raw, sized, choice, series, fields, unknown, wireTypes, typeIn, typeOf, written, writtenIf, form, widthOf}
+use Rattle.rules.specs.Wire.{Form, empty, truth, fixed, raw, sized, choice, series, fields, unknown, wireTypes, typeIn, typeOf, written, writtenIf, form, widthOf, endTag}
+use Rattle.rules.specs.Bytes.{le}
 use Rattle.rules.specs.Writing.{kindFor}
 use Rattle.rules.proofs.Tests.{and-both, all-each}
 use Rattle.rules.proofs.Codes.{every-form}
@@ -15,6 +17,7 @@ use Rattle.values.proofs.Codes.{variant-taken, repeated-taken, tuple-taken}
 use Rattle.read.specs.Children.{variant, repeated, tuple, shapeOf}
 use Rattle.read.proofs.Codes.{shape-variant, shape-repeated, shape-tuple}
 use Rattle.write.specs.Judging.{taggedOf, pickedOf, countOk}
+use Rattle.write.specs.Putting.{tagBytes, closing, childOf}
 
 -- a code below 15 takes its own kind
 pub leaf-kind : (code : ℕ) → code < 15 → code ≡ kindFor code (form code)
@@ -88,3 +91,47 @@ uncounted code size count h = rw (lt-ltb code 19 h) (either (ltb code 17))
     either : (b : Bool) → true ≡ countOk (pick b (variant (widthOf (form code))) (repeated (widthOf (form code)))) size count
     either true = refl
     either false = refl
+
+-- a tag names the child, but for a tuple's
+pub tagged-child : (code first i tag : ℕ) → code < 19 → first + tag ≡ childOf (shapeOf code) first i tag
+unfolding shapeOf pick childOf
+tagged-child code first i tag h = rw (lt-ltb code 19 h) (either (ltb code 17))
+  where
+    either : (b : Bool) → first + tag ≡ childOf (pick b (variant (widthOf (form code))) (repeated (widthOf (form code)))) first i tag
+    either true = refl
+    either false = refl
+
+-- and is written before it
+tag-bytes : (code tag : ℕ) → code < 19 → tagBytes (shapeOf code) tag ≡ le (widthOf (form code)) tag
+unfolding shapeOf pick tagBytes
+tag-bytes code tag h = rw (lt-ltb code 19 h) (either (ltb code 17))
+  where
+    either : (b : Bool) → tagBytes (pick b (variant (widthOf (form code))) (repeated (widthOf (form code)))) tag ≡ le (widthOf (form code)) tag
+    either true = refl
+    either false = refl
+
+pub tag-number : (code tag w : ℕ) → code ≤ 18 → w ≡ widthOf (form code) → tagBytes (shapeOf code) tag ≡ le w tag
+tag-number code tag w h e = rw e (tag-bytes code tag (omega arith))
+
+-- ---- what stands after the children
+
+pub no-end : (code : ℕ) → code < 17 → closing (shapeOf code) ≡ []
+unfolding closing
+no-end code h = rw (shape-variant code h)
+
+pub tuple-end : (code : ℕ) → 19 ≤ code → closing (shapeOf code) ≡ []
+unfolding closing
+tuple-end code h = rw (shape-tuple code h)
+
+pub end-8 : (code : ℕ) → code ≡ 17 → closing (shapeOf code) ≡ le 1 255
+unfolding closing endTag wireTypes typeIn typeOf written writtenIf form widthOf
+end-8 code e = rw (e, shape-repeated 17 (omega arith) (omega arith))
+
+pub end-16 : (code : ℕ) → code ≡ 18 → closing (shapeOf code) ≡ le 2 65535
+unfolding closing endTag wireTypes typeIn typeOf written writtenIf form widthOf
+end-16 code e = rw (e, shape-repeated 18 (omega arith) (omega arith))
+
+-- no tag
+pub no-tag : (code tag : ℕ) → 19 ≤ code → tagBytes (shapeOf code) tag ≡ []
+unfolding tagBytes
+no-tag code tag h = rw (shape-tuple code h)

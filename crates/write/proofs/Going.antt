@@ -28,13 +28,14 @@ use Rattle.read.specs.Ready.{Sound}
 use Rattle.read.proofs.Codes.{form-choice, form-series, form-fields}
 use Rattle.write.specs.Table.{IsWhole, valueOf, endOf, standing}
 use Rattle.write.specs.Judging.{only, passed, judged, taggedOf, pickedOf, countOk, closingBytes, Judgeable, Opened, judgedAt}
+use Rattle.write.specs.Putting.{tagBytes, closing}
 use Rattle.write.specs.declared.judge.Passed.{Passed}
 use Rattle.write.specs.declared.judge.Judged.{Judged}
 use Rattle.write.specs.declared.judge.Judged.the-variants.{Fits, Refused}
 use Rattle.write.specs.declared.judge.Pick.{Pick}
 use Rattle.write.specs.declared.judge.Pick.the-variants as pick-is
 use Rattle.write.proofs.Codes.{widest}
-use Rattle.write.proofs.Kids.{children, tagBytes, closing, choosing, chosen, kids, unfit, opens}
+use Rattle.write.proofs.Kids.{children, choosing, chosen, kids, unfit, opens}
 use Rattle.write.proofs.Short.{few-bytes}
 use Rattle.write.proofs.Standing.{spot, stands, inside, kind-told, size-small, at-end, from-end, far, deep, below-reads, count-told, parent, Turn, turn, turn-stands}
 
@@ -134,7 +135,7 @@ module _ (sch : List ℕ) (blob i : ℕ) (s : Shape) (j t : ℕ) (v : Value) (is
 -- ---- the loop
 
 -- a node with children takes kind 15, 16 or 17
-compound-kind : (code : ℕ) → 14 < code → code ≤ 19 → 15 ≤ kindFor code (form code)
+pub compound-kind : (code : ℕ) → 14 < code → code ≤ 19 → 15 ≤ kindFor code (form code)
 unfolding kindFor
 compound-kind code l h = by (ltb code 17) (ltb code 19) refl refl
   where
@@ -285,7 +286,7 @@ module _ (sch : List ℕ) (i depth : ℕ) (table store : List ℕ) (p : Passed) 
   whole-deep = deep table store (omega (arith, k .short)) (whole-reads sch 0 i table store depth p k)
 
 -- a tuple's children are as many as its node's
-counted-tuple : (code size count j : ℕ) → countOk (shapeOf code) size count ≡ true → j < size → shapeOf code ≡ tuple → j < count
+pub counted-tuple : (code size count j : ℕ) → countOk (shapeOf code) size count ≡ true → j < size → shapeOf code ≡ tuple → j < count
 unfolding countOk
 counted-tuple code size count j f h e = omega (arith, eqb-true size count (rw e at f), h)
 

@@ -11,7 +11,7 @@ use lib.ListN.{length}
 use lib.Dec.{ltb}
 use Rattle.rules.specs.Choice.{pick}
 use Rattle.rules.specs.Bytes.{le}
-use Rattle.rules.specs.Wire.{form, widthOf, endTag}
+use Rattle.rules.specs.Wire.{form, widthOf}
 use Rattle.rules.specs.Block.{nodeAt}
 use Rattle.rules.specs.Value as value
 use Rattle.rules.specs.Value.{Value, nothing, boolean, number, wide, blob, Items, done, item, Values, none, more, recordsOf, Fits}
@@ -21,6 +21,7 @@ use Rattle.rules.specs.Refusals.{ValueDoesNotMatchSchema, TupleLength, InvalidV
 use Rattle.rules.specs.Writing.{Wrote, Put, Refused, _>>=_, kindFor, fitting, tagged, write, writeI, writeV}
 use Rattle.read.specs.Children.{Shape, variant, repeated, tuple, shapeOf}
 use Rattle.write.specs.Judging.{taggedOf, pickedOf, countOk}
+use Rattle.write.specs.Putting.{tagBytes, closing}
 use Rattle.write.specs.declared.judge.Pick.{Pick}
 use Rattle.write.specs.declared.judge.Pick.the-variants as pick-is
 use Rattle.write.proofs.Codes.{fixed-range, raw-range, sized-range, variant-shape, repeated-shape, tuple-shape}
@@ -40,18 +41,6 @@ children (blob k x) = done
 children (value.variant t v) = item t v done
 children (value.repeated is) = is
 children (value.tuple vs) = untagged vs
-
--- ---- the bytes of tags
-
-unfoldable pub tagBytes : Shape → ℕ → List ℕ
-tagBytes (variant w) t = le w t
-tagBytes (repeated w) t = le w t
-tagBytes tuple t = []
-
-unfoldable pub closing : Shape → List ℕ
-closing (variant w) = []
-closing (repeated w) = le w (endTag w)
-closing tuple = []
 
 -- what follows the choice of a child
 unfoldable pub choosing : Pick → (ℕ → Wrote) → Wrote

@@ -1,28 +1,32 @@
 -- A row: the value of the whole table, at the block's root.
 -- Assumes nothing.
 use Prim.Native.Nat.{ℕ, _+_, _≤_}
-use mathlib.Core.Path.{_≡_, refl, sym, _∙_}
+use mathlib.Core.Path.{_≡_, refl, sym, ap, _∙_}
 use mathlib.Core.Bool.{Bool, true, false}
 use mathlib.Core.List.{List, _++_}
 use native.Mathlib.Omega.{arith}
 use lib.Dec.{eqb}
 use lib.ListN.{length, length-append}
 use Rattle.rules.specs.Choice.{pick, _and_}
-use Rattle.rules.specs.Bytes.{le}
+use Rattle.rules.specs.Bytes.{le, over}
 use Rattle.rules.specs.Block.{nodeAt}
 use Rattle.rules.specs.Value.{Value, nothing, boolean, number, wide, blob, variant, repeated, tuple, Items, done, item, Values, none, more, recordsOf}
 use Rattle.rules.specs.ValueRecord.{valueRecordsIn, wholeValueRecords}
-use Rattle.rules.specs.ValueTable.{headOf, Spot, Parsed, Whole, Broken, tagAt, valueAt, exactly, tableValue}
+use Rattle.rules.specs.ValueTable as table-of
+use Rattle.rules.specs.ValueTable.{headOf, Parsed, Whole, Broken, tagAt, valueAt, exactly, tableValue}
 use Rattle.rules.specs.Walk.{Limits, blobLimit}
 use Rattle.rules.specs.Reading.{limits}
 use Rattle.rules.specs.declared.Settings.{Settings}
 use Rattle.rules.specs.Writing as rule
 use Rattle.rules.specs.Writing.{Wrote, Put, _>>=_, fitting, tagged, write, writeI, writeV, writeRow}
+use Rattle.rules.proofs.Over.{over-at}
 use Rattle.rules.proofs.Stands.{length-le}
 use Rattle.values.proofs.Records.{tag-is}
 use Rattle.values.proofs.Parse.{Holds, holds, Reads, reads}
 use Rattle.write.specs.Table.{IsWhole, valueOf, endOf, standing}
 use Rattle.write.specs.Judging.{only, passed, judged, Judgeable, judgedAt, RowJudgeable, judgedRow}
+use Rattle.write.specs.Putting.{IsPut, putOf, written, Writable, Placed, RowWritable, rowBytes}
+use Rattle.write.specs.declared.put.Spot.{Spot}
 use Rattle.write.proofs.Standing.{spot, whole-is, head}
 
 module _ (table store : List ℕ) (short : length table ≤ 4294967295) where
@@ -41,7 +45,7 @@ module _ (table store : List ℕ) (short : length table ≤ 4294967295) where
           ends false k = absurd (unfold pick IsWhole in k)
 
   -- whose tag is 0
-  first-tag : (v : Value) (q : Spot) → Holds (Reads table store 64 0 (spot 0 0)) (Whole v q) → tagAt table store 0 ≡ 0
+  first-tag : (v : Value) (q : table-of.Spot) → Holds (Reads table store 64 0 (spot 0 0)) (Whole v q) → tagAt table store 0 ≡ 0
   unfolding headOf
   first-tag v q (holds r) = tag-is table 0 (headOf v 0 0) (head table store short r) (omega arith)
 
@@ -76,7 +80,7 @@ module _ (sch : List ℕ) (a b : Limits) (e : a .blob ≡ b .blob) where
     same-limitV (more v vs) j r = rw (same-limit v j r, same-limitV vs (j + 1) (r + recordsOf v))
 
 -- the table's tag is two bytes more
-tagged-row : (z : Spot) (y : Wrote) → judged 2 z y ≡ judged 0 z (y >>= (λ x. Put (le 2 0 ++ x)))
+tagged-row : (z : table-of.Spot) (y : Wrote) → judged 2 z y ≡ judged 0 z (y >>= (λ x. Put (le 2 0 ++ x)))
 unfolding judged _>>=_
 tagged-row z (Put b) = let n : 0 + length (le 2 0 ++ b) ≡ 2 + length b = simp (length-append, length-le) (omega arith) in rw n
 tagged-row z (rule.Refused r) = refl
@@ -88,3 +92,31 @@ module _ (sch table store : List ℕ) (k : RowJudgeable sch table store) where
   pub row-judged : (s : Settings) → judgedAt sch (s .«max_blob_bytes») 0 64 table store (passed 0 0 2) ≡ judgedRow sch (limits s) table store
   unfolding judgedAt judgedRow writeRow limits
   row-judged s = rw (table-stands table store (omega (arith, k .short)) (k .whole), same-limit sch (only (s .«max_blob_bytes»)) (limits s) refl (valueOf (tableValue table store)) 0 0) (tagged-row (endOf (tableValue table store)) (write sch (limits s) (valueOf (tableValue table store)) 0 0))
+
+-- ---- the row that is written
+
+-- the table's tag, and then the value
+row-put : (y : Wrote) → IsPut (y >>= (λ x. Put (le 2 0 ++ x))) → IsPut y × (putOf (y >>= (λ x. Put (le 2 0 ++ x))) ≡ le 2 0 ++ putOf y)
+unfolding IsPut putOf _>>=_
+row-put (Put b) h = (tt, refl)
+row-put (rule.Refused r) h = absurd h
+
+module _ (sch table store : List ℕ) (to room : ℕ) (k : RowWritable sch table store to room) where
+  whole-stands : standing table store 64 0 0 ≡ tableValue table store
+  whole-stands = table-stands table store (omega (arith, k .short)) (k .whole)
+
+  parts : IsPut (written sch 0 64 table store 0 0) × (rowBytes sch table store ≡ le 2 0 ++ putOf (written sch 0 64 table store 0 0))
+  unfolding written rowBytes writeRow
+  parts = rw whole-stands (row-put _ (k .accepted))
+
+  size : length (rowBytes sch table store) ≡ 2 + length (putOf (written sch 0 64 table store 0 0))
+  size = ap length (parts .1) ∙ simp (length-append, length-le)
+
+  pub tag-fits : to + 2 ≤ room
+  tag-fits = omega (arith, size, k .fits)
+
+  pub root-writable : (n : ℕ) → n ≡ room → Writable sch 0 64 table store (record { at = 0; from = 0; to = to + 2 }) n
+  root-writable n e = record { sound = k .sound; inside = k .root; whole = rw whole-stands (k .whole); short = k .short; within = omega arith; accepted = parts .0; fits = omega (arith, size, k .fits, e) }
+
+  pub row-placed : (q : Spot) (out out′ out″ : List ℕ) → out′ ≡ over out to (le 2 0) → Placed sch 0 64 table store (record { at = 0; from = 0; to = to + 2 }) q out′ out″ → (q .to ≡ to + length (rowBytes sch table store)) × (out″ ≡ over out to (rowBytes sch table store))
+  row-placed q out out′ out″ a p = (omega (arith, p .to-end, size), p .bytes ∙ rw (a, parts .1) (over-at (le 2 0) (putOf (written sch 0 64 table store 0 0)) out to (to + 2) (rw length-le)))

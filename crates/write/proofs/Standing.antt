@@ -8,7 +8,7 @@ use lib.ListN.{length}
 use Rattle.rules.specs.Value.{Value, nothing, boolean, number, wide, blob, variant, repeated, tuple, Items, done, item, Values, none, more, items, values, tall, tallI, tallV, Fits, FitsI, FitsV, recordsOf, payloadOf}
 use Rattle.rules.specs.ValueRecord.{valueRecordStart, ValueRecordIn, valueRecordAt}
 use Rattle.rules.specs.ValueTable.{pays, paysI, paysV, kind, sizeOf, headOf, below, belowI, belowV, heads, Spot, Parsed, Whole, Broken, tagAt}
-use Rattle.values.proofs.Records.{RecordIs, record-in, kind-is, tag-is, size-is, size-fits, shows-in}
+use Rattle.values.proofs.Records.{RecordIs, record-in, kind-is, tag-is, size-is, tag-fits, size-fits, shows-in}
 use Rattle.values.proofs.Sizes.{length-pays, length-heads, length-belowI, items-within}
 use Rattle.values.proofs.Span.{Span, left, right, onward, the-record, rest-span, span-in}
 use Rattle.values.proofs.Parse.{Holds, holds, Reads, ReadsI, reads}
@@ -112,6 +112,9 @@ module _ (table store : List ℕ) (short : length table ≤ 4294967295) where
 
     pub size-small : valueRecordAt table at .size < 256 ^ 4
     size-small = size-fits table at _ head
+
+    pub tag-small : valueRecordAt table at .tag < 256 ^ 2
+    tag-small = tag-fits table at _ head
 
     pub at-end : z .at ≡ at + recordsOf v
     at-end = rw (length-heads v tag from) at (r .span .at-end)
