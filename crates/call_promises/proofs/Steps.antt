@@ -58,6 +58,10 @@ use Rattle.record.proofs.payload.copy as copy
 use Rattle.fill.proofs.fill_row as fill-row
 use Rattle.decode.proofs.row.fill_at as fill-at
 use Rattle.decode.proofs.row.decode_row as decode-row
+use Rattle.write.proofs.judge.judge_row as judge-row
+use Rattle.write.proofs.put.put_row as put-row
+use Rattle.write.proofs.row.room_for as room-for-row
+use Rattle.write.proofs.row.write_row as write-row
 
 -- ---- numbers and byte strings
 pub wide-one-answer : OneAnswer wide.Kinds.ps wide.Kinds.r wide.Reads.Post
@@ -223,3 +227,16 @@ fill-at-one-answer κs a x y s t p q = (refl, rw (p .0, p .1, q .0, q .1))
 
 pub decode-row-one-answer : OneOutcome decode-row.Kinds.ps decode-row.Kinds.r (λ κs (table, (names, (references, (registry, (input, (at, (settings, (records, (payload, _))))))))). records .now ∷ payload .now ∷ []) decode-row.Reads.Post
 decode-row-one-answer κs a x y s t p q = (ap (λ d. d .answer) (p ∙ sym q), ap (λ d. d .records ∷ d .payload ∷ []) (p ∙ sym q))
+
+-- ---- rows that are written
+pub judge-row-one-answer : OneAnswer judge-row.Kinds.ps judge-row.Kinds.r judge-row.Reads.Post
+judge-row-one-answer κs a x y s t p q = p ∙ sym q
+
+pub room-for-row-one-answer : OneAnswer room-for-row.Kinds.ps room-for-row.Kinds.r room-for-row.Reads.Post
+room-for-row-one-answer κs a x y s t p q = p ∙ sym q
+
+pub put-row-one-answer : OneOutcome put-row.Kinds.ps put-row.Kinds.r (λ κs (block, (records, (payload, (out, _)))). out .now ∷ []) put-row.Reads.Post
+put-row-one-answer κs a x y s t p q = (p .0 ∙ sym (q .0), rw (p .1, q .1))
+
+pub write-row-one-answer : OneOutcome write-row.Kinds.ps write-row.Kinds.r (λ κs (block, (settings, (records, (payload, (out, _))))). out .now ∷ []) write-row.Reads.Post
+write-row-one-answer κs a x y s t p q = (p .0 ∙ sym (q .0), rw (p .1, q .1))

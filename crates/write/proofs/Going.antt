@@ -41,17 +41,17 @@ use Rattle.write.proofs.Standing.{spot, stands, inside, kind-told, size
 
 -- ---- an answer, taken apart
 
-record Putting (m : ℕ) (q : Spot) (y : Wrote) (p : Passed) : Type 0 where
-  bytes : List ℕ
-  is : y ≡ Put bytes
-  ends : p ≡ passed (q .at) (q .from) (m + length bytes)
+pub record Putting (m : ℕ) (q : Spot) (y : Wrote) (p : Passed) : Type 0 where
+  pub bytes : List ℕ
+  pub is : y ≡ Put bytes
+  pub ends : p ≡ passed (q .at) (q .from) (m + length bytes)
 
-judged-fits : (m : ℕ) (q : Spot) (y : Wrote) (p : Passed) → judged m q y ≡ Fits p → Putting m q y p
+pub judged-fits : (m : ℕ) (q : Spot) (y : Wrote) (p : Passed) → judged m q y ≡ Fits p → Putting m q y p
 unfolding judged
 judged-fits m q (Put b) p e = record { bytes = b; is = refl; ends = (cc) }
 judged-fits m q (rule.Refused r) p e = absurd (let z : _≡_ {A = ℕ} 0 1 = cc in omega arith)
 
-judged-refused : (m : ℕ) (q : Spot) (y : Wrote) (x : Refusal) → judged m q y ≡ Refused x → y ≡ rule.Refused x
+pub judged-refused : (m : ℕ) (q : Spot) (y : Wrote) (x : Refusal) → judged m q y ≡ Refused x → y ≡ rule.Refused x
 unfolding judged
 judged-refused m q (Put b) x e = absurd (let z : _≡_ {A = ℕ} 0 1 = cc in omega arith)
 judged-refused m q (rule.Refused r) x e = (cc)

@@ -8,3 +8,5 @@ pub mod Leaves
 pub mod Root
 pub mod Putting
 pub mod Stored
+pub mod Unlimited
+pub mod Rows

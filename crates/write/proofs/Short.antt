@@ -18,7 +18,7 @@ use Rattle.values.proofs.Says.{Any, Says, puts, refuses, then, put, fits, tags}
 use Rattle.write.proofs.Codes.{widest}
 
 -- a weaker property
-relax : {P Q : List ℕ → Type 0} {R : Refusal → Type 0} {w : Wrote} → Says P R w → ((b : List ℕ) → P b → Q b) → Says Q R w
+pub relax : {P Q : List ℕ → Type 0} {R : Refusal → Type 0} {w : Wrote} → Says P R w → ((b : List ℕ) → P b → Q b) → Says Q R w
 relax (puts {b = b} h) f = puts (f b h)
 relax (refuses h) f = refuses h
 

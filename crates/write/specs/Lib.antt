@@ -1,3 +1,4 @@
 pub mod Table
 pub mod Judging
 pub mod Putting
+pub mod Row

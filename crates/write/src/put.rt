@@ -6,7 +6,6 @@ ghost use lib.ListN.{length};
 ghost use Rattle.rules.specs.Bytes.{le, over};
 ghost use Rattle.read.specs.Children.{shapeOf};
 ghost use Rattle.write.specs.Putting.{tagBytes, closing, childOf, leafKept, leafSize, leafBytes, Writable, Parted, Placed, RowWritable, rowBytes};
-use read::fields::kept;
 use record::payload::copy;
 use record::value::value_record_at;
 use wire::codes::fixed_width;
