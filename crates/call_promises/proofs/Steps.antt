@@ -73,6 +73,10 @@ use Rattle.value.proofs.table_form as table-form
 use Rattle.fill.proofs.fill_row as fill-row
 use Rattle.decode.proofs.steps.fill_at as fill-at
 use Rattle.decode.proofs.steps.decode_row as decode-row
+use Rattle.write.proofs.judge.judge_row as judge-row
+use Rattle.write.proofs.put.put_row as put-row
+use Rattle.write.proofs.row.room_for as room-for-row
+use Rattle.write.proofs.row.write_row as write-row
 
 -- ---- numbers and byte strings
 pub wide-one-answer : OneAnswer wide.Kinds.ps wide.Kinds.r wide.Reads.Post
@@ -277,3 +281,16 @@ decode-row-one-answer κs a x y s t p q = (ap (λ d. d .answer) (p ∙ sym q), a
 
 pub give-one-answer : OneOutcome give.Kinds.ps give.Kinds.r (λ κs (s, _). s .now ∷ []) give.Reads.Post
 give-one-answer κs a x y s t p q = (p .0 ∙ sym (q .0), rw (p .1, q .1))
+
+-- ---- rows that are written
+pub judge-row-one-answer : OneAnswer judge-row.Kinds.ps judge-row.Kinds.r judge-row.Reads.Post
+judge-row-one-answer κs a x y s t p q = p ∙ sym q
+
+pub room-for-row-one-answer : OneAnswer room-for-row.Kinds.ps room-for-row.Kinds.r room-for-row.Reads.Post
+room-for-row-one-answer κs a x y s t p q = p ∙ sym q
+
+pub put-row-one-answer : OneOutcome put-row.Kinds.ps put-row.Kinds.r (λ κs (block, (records, (payload, (out, _)))). out .now ∷ []) put-row.Reads.Post
+put-row-one-answer κs a x y s t p q = (p .0 ∙ sym (q .0), rw (p .1, q .1))
+
+pub write-row-one-answer : OneOutcome write-row.Kinds.ps write-row.Kinds.r (λ κs (block, (settings, (records, (payload, (out, _))))). out .now ∷ []) write-row.Reads.Post
+write-row-one-answer κs a x y s t p q = (p .0 ∙ sym (q .0), rw (p .1, q .1))

@@ -1,0 +1,12 @@
+pub mod Codes
+pub mod Numbers
+pub mod Kids
+pub mod Short
+pub mod Standing
+pub mod Going
+pub mod Leaves
+pub mod Root
+pub mod Putting
+pub mod Stored
+pub mod Unlimited
+pub mod Rows

@@ -1,0 +1,111 @@
+-- What the walk that judges answers: what writing the value would, with the bytes counted.
+-- Assumes nothing: these are definitions.
+use Prim.Native.Nat.{ℕ, _+_, _*_, _^_, _≤_, _<_}
+use mathlib.Core.Path.{_≡_}
+use mathlib.Core.Bool.{Bool, true}
+use mathlib.Core.List.{List}
+use lib.ListN.{length}
+use lib.Dec.{ltb, leb, eqb}
+use Rattle.rules.specs.Choice.{pick}
+use Rattle.rules.specs.Wire.{form, widthOf}
+use Rattle.rules.specs.Block.{nodeAt}
+use Rattle.rules.specs.Walk.{Limits, blobLimit}
+use Rattle.rules.specs.ValueRecord.{valueRecordAt}
+use Rattle.rules.specs.ValueTable.{Spot, tableValue}
+use Rattle.rules.specs.Writing as rule
+use Rattle.rules.specs.Writing.{Wrote, Put, kindFor, write, writeRow}
+use Rattle.rules.specs.Refusals.{BlobTooLarge, InvalidVariantTag}
+use Rattle.read.specs.Fields.{payloadOfFixed}
+use Rattle.read.specs.Children.{Shape, variant, repeated, tuple}
+use Rattle.read.specs.Ready.{Inside, Sound}
+use Rattle.write.specs.Table.{IsWhole, valueOf, endOf, standing}
+use Rattle.write.specs.declared.judge.Passed.{Passed}
+use Rattle.write.specs.declared.judge.Judged.{Judged}
+use Rattle.write.specs.declared.judge.Judged.the-variants.{Fits, Refused}
+use Rattle.write.specs.declared.judge.Pick.{Pick}
+use Rattle.write.specs.declared.judge.Pick.the-variants as pick-is
+
+-- of the limits, writing asks for the longest blob alone
+abbrev pub only : ℕ → Limits
+only blob = record { charge = 0; blob = blob; row = 0 }
+
+abbrev pub passed : ℕ → ℕ → ℕ → Passed
+passed at from bytes = record { at = at; from = from; bytes = bytes }
+
+-- n bytes and those that are put, and where the value leaves off; or the refusal
+unfoldable pub judged : ℕ → Spot → Wrote → Judged
+judged n z (Put b) = Fits (passed (z .at) (z .from) (n + length b))
+judged n z (rule.Refused r) = Refused r
+
+-- ---- steps
+
+-- a node without children: its bytes, of which those that its record does not hold are payload; or 14 at its record
+unfoldable pub leafOf : ℕ → ℕ → ℕ → Passed → Judged
+leafOf blob code size p =
+    pick (ltb code 13) (Fits (passed (p .at + 1) (p .from + payloadOfFixed (widthOf (form code))) (p .bytes + widthOf (form code))))
+    (pick (leb size (blobLimit (only blob) code)) (Fits (passed (p .at + 1) (p .from + size) (p .bytes + (4 + size))))
+    (Refused (BlobTooLarge code size (blobLimit (only blob) code) (p .at))))
+
+module _ (code first count : ℕ) where
+  -- the child that a tag of w bytes names, or 17 at record r
+  unfoldable pub taggedOf : ℕ → ℕ → ℕ → Pick
+  taggedOf w tag r = pick (ltb tag count) (pick-is.Child (first + tag) w) (pick-is.Refused (InvalidVariantTag code tag count r))
+
+  -- the child after i others, whose record r bears a tag
+  unfoldable pub pickedOf : Shape → ℕ → ℕ → ℕ → Pick
+  pickedOf (variant w) i tag r = taggedOf w tag r
+  pickedOf (repeated w) i tag r = taggedOf w tag r
+  pickedOf tuple i tag r = pick-is.Child (first + i) 0
+
+-- a tuple has as many children as its node
+unfoldable pub countOk : Shape → ℕ → ℕ → Bool
+countOk (variant w) size count = true
+countOk (repeated w) size count = true
+countOk tuple size count = eqb size count
+
+-- the end tag's bytes
+unfoldable pub closingBytes : Shape → ℕ
+closingBytes (variant w) = 0
+closingBytes (repeated w) = w
+closingBytes tuple = 0
+
+-- ---- a value
+
+-- node i of a sound block, and a value that stands in the table; the bytes so far are few, so that their count does not wrap
+pub record Judgeable (sch : List ℕ) (i depth : ℕ) (table store : List ℕ) (p : Passed) : Type 0 where
+  pub sound : Sound sch
+  pub inside : Inside sch i
+  pub whole : IsWhole (standing table store depth (p .at) (p .from))
+  pub short : length table < 2 ^ 32
+  pub small : length store < 2 ^ 32
+  pub within : p .from ≤ length store
+  pub few : p .bytes ≤ 80 * p .at + p .from + 2
+
+-- a node with children, and a record of the kind that it takes
+pub record Opened (sch : List ℕ) (i code : ℕ) (table : List ℕ) (p : Passed) (size : ℕ) : Type 0 where
+  pub is : code ≡ nodeAt sch i .code
+  pub compound : 14 < code
+  pub kind : valueRecordAt table (p .at) .kind ≡ kindFor code (form code)
+  pub count : size ≡ valueRecordAt table (p .at) .size
+
+-- what writing the value that stands there answers
+unfoldable pub judgedAt : List ℕ → ℕ → ℕ → ℕ → List ℕ → List ℕ → Passed → Judged
+judgedAt sch blob i depth table store p =
+    let x = standing table store depth (p .at) (p .from) in
+    judged (p .bytes) (endOf x) (write sch (only blob) (valueOf x) i (p .at))
+
+-- ---- a row
+
+-- a sound block, and a value table whose form was accepted
+pub record RowJudgeable (sch table store : List ℕ) : Type 0 where
+  pub sound : Sound sch
+  pub root : Inside sch 0
+  pub whole : IsWhole (tableValue table store)
+  pub short : length table < 2 ^ 32
+  pub small : length store < 2 ^ 32
+
+-- what writing the table's value as a row answers
+unfoldable pub judgedRow : List ℕ → Limits → List ℕ → List ℕ → Judged
+judgedRow sch lim table store =
+    let x = tableValue table store in
+    judged 0 (endOf x) (writeRow sch lim (valueOf x))

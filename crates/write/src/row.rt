@@ -1,0 +1,82 @@
+// A row of a checked block and a checked value table: judged, given room, written. Each step has a contract of its own, so that a
+// caller may put a test between them.
+ghost use mathlib.Core.Path.{_≡_};
+ghost use Prim.Native.Nat.{_≤_, _<_, min};
+ghost use lib.ListN.{length};
+ghost use Rattle.rules.specs.Reading.{limits};
+ghost use Rattle.write.specs.Judging.{RowJudgeable};
+ghost use Rattle.write.specs.Row.{roomFor, placedRow};
+use super::judge::Judged;
+use super::judge::judge_row;
+use super::put::put_row;
+use rules::Extent;
+use rules::LONGEST;
+use rules::Refusal;
+use rules::Settings;
+use rules::Why;
+use rules::Written;
+
+// Of a slice to be written only so many bytes count.
+fn room_in(len: usize) -> u64
+    ensures { λ r. ⌜ r ≡ min len 4294967295 ⌝ }
+{
+    if LONGEST < len {
+        return LONGEST as u64;
+    }
+    len as u64
+}
+
+// Room for a judged row's bytes from place `at` on, in an output of this length.
+pub fn room_for(row: Extent, at: usize, len: usize) -> Written
+    requires { ⌜ at ≤ min len 4294967295 ⌝ }
+    ensures { λ r. ⌜ r ≡ roomFor at (min len 4294967295) row ⌝ }
+{
+    if room_in(len) - (at as u64) < row.bytes {
+        return Written::Refused(Refusal {
+            why: Why::NoOutputRoom { needed: row.bytes },
+            place: at as u64,
+        });
+    }
+    Written::Row(row)
+}
+
+// A refusal, taken out of the answer of the walk that judges; its other arm is never met.
+fn not_written(value: Judged) -> Written
+    ensures { λ r. ⌜ ((why : Refusal) → value ≡ Judged.Refused why → r ≡ Written.Refused why) ⌝ }
+{
+    match value {
+        Judged::Refused(why) => Written::Refused(why),
+        Judged::Fits(_) => Written::Refused(Refusal::SETTING),
+    }
+}
+
+// The row of the table's value from place `at` of the output on; or why it is refused, and then the output is as it was.
+pub fn write_row(
+    block: &[u8],
+    settings: Settings,
+    records: &[u8],
+    payload: &[u8],
+    out: &mut [u8],
+    at: usize,
+) -> Written
+    requires { ⌜ RowJudgeable (now block) (now records) (now payload) × (at ≤ min (length (now out)) 4294967295) ⌝ }
+    ensures answer { λ r. ⌜ r ≡ placedRow (now (block .entry)) (limits settings) (now (records .entry)) (now (payload .entry)) (now (out .entry)) at .answer ⌝ }
+    ensures out { λ _. ⌜ now (out .exit) ≡ placedRow (now (block .entry)) (limits settings) (now (records .entry)) (now (payload .entry)) (now (out .entry)) at .output ⌝ }
+{
+    let judged = judge_row(block, settings, records, payload);
+    let Judged::Fits(p) = judged else {
+        return not_written(judged);
+    };
+    let row = Extent {
+        table: 0,
+        bytes: p.bytes,
+        records: p.at as u64,
+        payload: p.from as u64,
+    };
+    let placed = room_for(row, at, out.len());
+    let Written::Row(own) = placed else {
+        return placed;
+    };
+    put_row(block, records, payload, out, at);
+    Written::Row(own)
+}
