@@ -5,7 +5,7 @@ mod outcome;
 mod reading;
 mod telling;
 
-use lines::failures::Failure;
+use failures::Failure;
 use outcome::Outcome;
 use outcome::TableRead;
 use outcome::table_read;

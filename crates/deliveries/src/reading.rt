@@ -5,10 +5,10 @@ ghost use Rattle.windows.specs.Steps.{tables};
 ghost use Rattle.deliveries.specs.Outcomes.{Answers};
 use crate::outcome::Outcome;
 use crate::outcome::outcome_of_last_read;
+use rules::LONGEST;
 use rules::Refusal;
 use rules::Settings;
 use rules::Stop;
-use windows::LONGEST;
 use windows::no_rows;
 use windows::space::Ends;
 use windows::space::run_filled_window;
@@ -35,7 +35,7 @@ pub fn run_stream(settings: Settings, fd: i32, space: &mut [u8], ends: Ends) -> 
             return outcome_of_last_read(read_one_more(fd), ran, false);
         }
         read += got as u64;
-        if LONGEST < read {
+        if (LONGEST as u64) < read {
             return Outcome::Told(no_rows(Stop::Refused(Refusal::SETTING)));
         }
         let reading = run_filled_window(settings, ran, space, ends, end + got);

@@ -2,11 +2,11 @@
 ghost use Prim.Native.Nat.{_≤_};
 ghost use mathlib.Core.Path.{_≡_};
 ghost use lib.ListN.{length};
+use failures::Failure;
+use failures::put_failure_line;
+use failures::put_usage_line;
 use libc::STDERR_FILENO;
 use libc::STDOUT_FILENO;
-use lines::failures::Failure;
-use lines::failures::put_failure_line;
-use lines::failures::put_usage_line;
 use lines::put_run_line;
 use rules::Ran;
 

@@ -1,4 +1,3 @@
 pub mod Decimals
 pub mod Putting
-pub mod CodeWords
 pub mod Heads

@@ -6,16 +6,14 @@ ghost use mathlib.Core.Path.{_≡_};
 ghost use Rattle.rules.specs.Lines.{decimal, word, isNone, spaced, item, wordOf, labelsOf, closing, carried, standing, endLine, refusedLine, runLine};
 ghost use Rattle.rules.specs.Names.{ascii};
 ghost use Rattle.lines.specs.Puts.{Put, head};
-
-pub mod failures;
-mod words;
-
 use rules::Ran;
 use rules::Refusal;
 use rules::RefusalLine;
 use rules::Stop;
+use words::first_label;
 use words::kind_of;
-use words::labels_of;
+use words::second_label;
+use words::third_label;
 use words::word_of;
 
 // A text, byte by byte.
@@ -120,33 +118,33 @@ fn put_item(
 
 // The first value that a refusal carries, behind an opening bracket.
 fn put_first(buffer: &mut [u8], at: usize, number: u32, value: u64) -> usize
-    requires { ⌜ at + 52 ≤ length (now buffer) ⌝ }
+    requires { ⌜ at + 64 ≤ length (now buffer) ⌝ }
     ensures { λ r. ⌜ Put (now (buffer .entry)) at (item (ascii " (") (ascii (labelsOf number .first)) value (wordOf (labelsOf number .kind) value)) (now (buffer .exit)) r ⌝ }
-    ensures { λ r. ⌜ r ≤ at + 52 ⌝ }
+    ensures { λ r. ⌜ r ≤ at + 64 ⌝ }
 {
-    let labels = labels_of(number);
+    let label = first_label(number);
     let text = word_of(kind_of(number), value);
-    put_item(buffer, at, b" (", &labels[0..8], value, &text)
+    put_item(buffer, at, b" (", &label, value, &text)
 }
 
 // The second, behind a comma.
 fn put_second(buffer: &mut [u8], at: usize, number: u32, value: u64) -> usize
-    requires { ⌜ at + 33 ≤ length (now buffer) ⌝ }
+    requires { ⌜ at + 45 ≤ length (now buffer) ⌝ }
     ensures { λ r. ⌜ Put (now (buffer .entry)) at (item (ascii ", ") (ascii (labelsOf number .second)) value []) (now (buffer .exit)) r ⌝ }
-    ensures { λ r. ⌜ r ≤ at + 33 ⌝ }
+    ensures { λ r. ⌜ r ≤ at + 45 ⌝ }
 {
-    let labels = labels_of(number);
-    put_item(buffer, at, b", ", &labels[8..16], value, b" ")
+    let label = second_label(number);
+    put_item(buffer, at, b", ", &label, value, b" ")
 }
 
 // The third.
 fn put_third(buffer: &mut [u8], at: usize, number: u32, value: u64) -> usize
-    requires { ⌜ at + 33 ≤ length (now buffer) ⌝ }
+    requires { ⌜ at + 45 ≤ length (now buffer) ⌝ }
     ensures { λ r. ⌜ Put (now (buffer .entry)) at (item (ascii ", ") (ascii (labelsOf number .third)) value []) (now (buffer .exit)) r ⌝ }
-    ensures { λ r. ⌜ r ≤ at + 33 ⌝ }
+    ensures { λ r. ⌜ r ≤ at + 45 ⌝ }
 {
-    let labels = labels_of(number);
-    put_item(buffer, at, b", ", &labels[16..24], value, b" ")
+    let label = third_label(number);
+    put_item(buffer, at, b", ", &label, value, b" ")
 }
 
 // The closing bracket.
@@ -155,8 +153,8 @@ fn put_closing(buffer: &mut [u8], at: usize, number: u32) -> usize
     ensures { λ r. ⌜ Put (now (buffer .entry)) at (closing (ascii (labelsOf number .first))) (now (buffer .exit)) r ⌝ }
     ensures { λ r. ⌜ r ≤ at + 1 ⌝ }
 {
-    let labels = labels_of(number);
-    if no_word(&labels[0..8]) {
+    let label = first_label(number);
+    if no_word(&label) {
         return at;
     }
     put_text(buffer, at, b")")
@@ -164,9 +162,9 @@ fn put_closing(buffer: &mut [u8], at: usize, number: u32) -> usize
 
 // What a refusal carries, in brackets.
 fn put_carried(buffer: &mut [u8], at: usize, number: u32, a: u64, b: u64, c: u64) -> usize
-    requires { ⌜ at + 119 ≤ length (now buffer) ⌝ }
+    requires { ⌜ at + 155 ≤ length (now buffer) ⌝ }
     ensures { λ r. ⌜ Put (now (buffer .entry)) at (carried (labelsOf number) a b c) (now (buffer .exit)) r ⌝ }
-    ensures { λ r. ⌜ r ≤ at + 119 ⌝ }
+    ensures { λ r. ⌜ r ≤ at + 155 ⌝ }
 {
     let next = put_first(buffer, at, number, a);
     let next = put_second(buffer, next, number, b);

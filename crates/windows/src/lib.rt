@@ -9,14 +9,12 @@ ghost use Rattle.windows.specs.Bounds.{Counted, Further};
 
 pub mod space;
 
+use rules::LONGEST;
 use rules::Ran;
 use rules::Refusal;
 use rules::Settings;
 use rules::Stop;
 use run::run;
-
-// A longer stream is refused by 1, whatever stands in it.
-pub const LONGEST: u64 = 4294967295;
 
 // Whether bytes to come may change how a run stops: at the end, or where a row is cut (12).
 pub fn goes_on(stop: Stop) -> bool
@@ -107,10 +105,11 @@ pub fn run_after(
     if bytes < rows {
         return no_rows(Stop::Refused(Refusal::SETTING));
     }
-    if LONGEST < bytes {
+    let longest = LONGEST as u64;
+    if longest < bytes {
         return no_rows(Stop::Refused(Refusal::SETTING));
     }
-    if LONGEST - bytes < window.len() as u64 {
+    if longest - bytes < window.len() as u64 {
         return no_rows(Stop::Refused(Refusal::SETTING));
     }
     let before = Ran {

@@ -7,23 +7,17 @@ use Rattle.lines.proofs.Putting.{put-no-closing, put-the-closing}
 use Rattle.lines.proofs.put_closing.Statement.{statement}
 use Rattle.lines.proofs.put_closing.Tie as tie
 
-labels-of-requires : tie.Need-labels-of-requires
-labels-of-requires c κs = search needs
+first-label-requires : tie.Need-first-label-requires
+first-label-requires c κs = search needs
 
-sub-no-word : tie.Need-sub-no-word
-sub-no-word c = search needs
-
-part-no-word-start : tie.Need-part-no-word-start
-part-no-word-start c = search needs
-
-part-no-word-end : tie.Need-part-no-word-end
-part-no-word-end c = search needs
+slice-aggregate-no-word : tie.Need-slice-aggregate-no-word
+slice-aggregate-no-word c = search needs
 
 no-word-requires : tie.Need-no-word-requires
 no-word-requires c κs = search needs
 
 returns : tie.Need-returns
-returns c = (put-no-closing _ _ _ _ (c .before .before .before .before .labels-of .ensures .first) (sym (c .before .no-word .ensures) ∙ c .if1 .taken), search needs)
+returns c = (put-no-closing _ _ _ _ (c .before .before .before .first-label .ensures .0) (sym (c .before .no-word .ensures) ∙ c .if1 .taken), search needs)
 
 slice-aggregate-put-text : tie.Need-slice-aggregate-put-text
 slice-aggregate-put-text c = search needs
@@ -36,16 +30,14 @@ same-length c = search needs
 
 returns-2 : tie.Need-returns-2
 unfolding ascii
-returns-2 c = (put-the-closing _ _ _ _ (c .before .before .before .before .before .before .before .before .before .labels-of .ensures .first) _ _ (sym (c .before .before .before .before .before .before .no-word .ensures) ∙ c .before .before .before .before .before .if1 .left) (c .before .before .put-text .ensures), search needs)
+returns-2 c = (put-the-closing _ _ _ _ (c .before .before .before .before .before .before .before .before .first-label .ensures .0) _ _ (sym (c .before .before .before .before .before .before .no-word .ensures) ∙ c .before .before .before .before .before .if1 .left) (c .before .before .put-text .ensures), search needs)
 
 pub put-closing-spec : {M : Type 1} → statement M
 put-closing-spec =
     tie.close
     (tie.spec
-    labels-of-requires
-    sub-no-word
-    part-no-word-start
-    part-no-word-end
+    first-label-requires
+    slice-aggregate-no-word
     no-word-requires
     returns
     slice-aggregate-put-text

@@ -3,10 +3,10 @@
 use mathlib.Core.Path.{sym, ap}
 use native.Mathlib.Omega.{arith}
 use Rattle.rules.specs.Lines.{Labels, labelTable, labelsOf}
-use Rattle.lines.proofs.CodeWords.{past-labels}
+use Rattle.words.proofs.CodeWords.{past-labels}
 use Rattle.wire.proofs.CodeTable.{past}
-use Rattle.lines.proofs.words.kind_of.Statement.{statement}
-use Rattle.lines.proofs.words.kind_of.Tie as tie
+use Rattle.words.proofs.kind_of.Statement.{statement}
+use Rattle.words.proofs.kind_of.Tie as tie
 
 pub kind-of-spec : {M : Type 1} → statement M
 unfolding labelTable labelsOf

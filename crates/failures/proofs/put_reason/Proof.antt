@@ -3,10 +3,10 @@
 use native.Mathlib.Omega.{arith}
 use borrow.Author.Needs.{needs}
 use Rattle.rules.specs.Names.{ascii}
-use Rattle.lines.specs.Failures.{reason}
+use Rattle.failures.specs.Failures.{reason}
 use Rattle.lines.proofs.Putting.{put-same}
-use Rattle.lines.proofs.failures.put_reason.Statement.{statement}
-use Rattle.lines.proofs.failures.put_reason.Tie as tie
+use Rattle.failures.proofs.put_reason.Statement.{statement}
+use Rattle.failures.proofs.put_reason.Tie as tie
 
 enum-told : tie.Need-enum-told
 enum-told c = search needs

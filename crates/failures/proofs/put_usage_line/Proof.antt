@@ -3,9 +3,9 @@
 use native.Mathlib.Omega.{arith}
 use borrow.Author.Needs.{needs}
 use Rattle.rules.specs.Names.{ascii}
-use Rattle.lines.specs.Failures.{usageLine}
-use Rattle.lines.proofs.failures.put_usage_line.Statement.{statement}
-use Rattle.lines.proofs.failures.put_usage_line.Tie as tie
+use Rattle.failures.specs.Failures.{usageLine}
+use Rattle.failures.proofs.put_usage_line.Statement.{statement}
+use Rattle.failures.proofs.put_usage_line.Tie as tie
 
 slice-aggregate-put-text : tie.Need-slice-aggregate-put-text
 slice-aggregate-put-text c = search needs

@@ -3,10 +3,10 @@
 use native.Mathlib.Omega.{arith}
 use borrow.Author.Needs.{needs}
 use Rattle.rules.specs.Names.{ascii}
-use Rattle.lines.specs.Failures.{reason}
+use Rattle.failures.specs.Failures.{reason}
 use Rattle.lines.proofs.Putting.{put-both}
-use Rattle.lines.proofs.failures.put_no_room.Statement.{statement}
-use Rattle.lines.proofs.failures.put_no_room.Tie as tie
+use Rattle.failures.proofs.put_no_room.Statement.{statement}
+use Rattle.failures.proofs.put_no_room.Tie as tie
 
 slice-aggregate-put-number : tie.Need-slice-aggregate-put-number
 slice-aggregate-put-number c = search needs

@@ -2,10 +2,10 @@
 -- Assumes nothing.
 use native.Mathlib.Omega.{arith}
 use borrow.Author.Needs.{needs}
-use Rattle.lines.specs.Failures.{failureLine}
+use Rattle.failures.specs.Failures.{failureLine}
 use Rattle.lines.proofs.Putting.{put-both}
-use Rattle.lines.proofs.failures.put_failure_line.Statement.{statement}
-use Rattle.lines.proofs.failures.put_failure_line.Tie as tie
+use Rattle.failures.proofs.put_failure_line.Statement.{statement}
+use Rattle.failures.proofs.put_failure_line.Tie as tie
 
 put-reason-requires : tie.Need-put-reason-requires
 put-reason-requires c κs = search needs

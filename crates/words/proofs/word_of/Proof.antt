@@ -4,9 +4,9 @@ use mathlib.Core.Path.{refl, sym, _∙_}
 use borrow.Author.Needs.{needs}
 use Rattle.rules.specs.Choice.{pick}
 use Rattle.rules.specs.Lines.{word}
-use Rattle.lines.proofs.CodeWords.{word-of-code, word-of-context, word-of-other}
-use Rattle.lines.proofs.words.word_of.Statement.{statement}
-use Rattle.lines.proofs.words.word_of.Tie as tie
+use Rattle.words.proofs.CodeWords.{word-of-code, word-of-context, word-of-other}
+use Rattle.words.proofs.word_of.Statement.{statement}
+use Rattle.words.proofs.word_of.Tie as tie
 
 code-word-requires : tie.Need-code-word-requires
 code-word-requires c κs = search needs

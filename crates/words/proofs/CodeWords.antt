@@ -5,12 +5,11 @@ use mathlib.Core.Path.{_≡_, refl}
 use mathlib.Core.List.{List, [], _∷_}
 use native.Mathlib.Omega.{arith}
 use borrow.Author.Tests.{lt-ltb, le-ltb, ne-eqb}
-use lib.ListN.{length, List·getD-eq-default}
+use lib.ListN.{length, getD, List·getD-eq-default}
 use Rattle.rules.specs.Choice.{pick}
 use Rattle.rules.specs.Wire.{wireTypes}
 use Rattle.rules.specs.declared.WireType.{WireType}
 use Rattle.rules.specs.Lines.{codeWords, codeWord, contextWords, contextWord, wordOf, labelTable, labelsOf}
-use Rattle.lines.specs.Puts.{Labelled}
 
 past-codes : (ts : List WireType) (code : ℕ) → length ts ≤ code → codeWords ts code ≡ []
 unfolding codeWords
@@ -30,19 +29,20 @@ pub no-context-word : (c : ℕ) → 18 ≤ c → contextWord c ≡ []
 unfolding contextWord contextWords pick
 no-context-word c h = rw (le-ltb c 13 (omega arith)) (List·getD-eq-default {A = List ℕ} contextWords [] {n = c - 13} (omega arith))
 
--- ---- labels
+-- from 13 on, by the table of contexts
+abbrev pub namedContext : ℕ → List ℕ
+namedContext i = getD contextWords i []
 
--- labels that are the table's at one number are so at an equal one
-pub from-arm : (r : List ℕ) (n m : ℕ) → n ≡ m → Labelled r (labelsOf m) → Labelled r (labelsOf n)
-from-arm r n m e l = rw e l
+pub table-context-word : (c : ℕ) → 13 ≤ c → contextWord c ≡ namedContext (c - 13)
+unfolding contextWord pick
+table-context-word c h = rw (le-ltb c 13 h)
+
+-- ---- labels
 
 -- past the table's end nothing is carried
 pub past-labels : (n : ℕ) → 22 ≤ n → labelsOf n ≡ labelsOf 22
 unfolding labelsOf labelTable
 past-labels n h = List·getD-eq-default labelTable _ {n = n} h
-
-pub from-past : (r : List ℕ) (n : ℕ) → 22 ≤ n → Labelled r (labelsOf 22) → Labelled r (labelsOf n)
-from-past r n h l = rw (past-labels n h) l
 
 -- ---- a word by its kind
 module _ (kind value : ℕ) where

@@ -4,8 +4,8 @@ use Prim.Native.Nat.{ℕ}
 use mathlib.Core.List.{List, [], _∷_, _++_}
 use Rattle.rules.specs.Names.{ascii}
 use Rattle.rules.specs.Lines.{decimal}
-use Rattle.lines.specs.declared.failures.Failure.{Failure}
-use Rattle.lines.specs.declared.failures.Failure.the-variants.{CannotOpen, CannotRead, TooLong, NoRoom}
+use Rattle.failures.specs.declared.Failure.{Failure}
+use Rattle.failures.specs.declared.Failure.the-variants.{CannotOpen, CannotRead, TooLong, NoRoom}
 
 -- what is wrong
 unfoldable pub reason : Failure → List ℕ

@@ -1,10 +1,10 @@
 // The lines that tell why a run did not begin or did not come to an end: of a file, not of document 01.
 ghost use Prim.Native.Nat.{_+_, _≤_};
 ghost use lib.ListN.{length};
-ghost use Rattle.lines.specs.Failures.{reason, failureLine, usageLine};
+ghost use Rattle.failures.specs.Failures.{reason, failureLine, usageLine};
 ghost use Rattle.lines.specs.Puts.{Put};
-use crate::put_number;
-use crate::put_text;
+use lines::put_number;
+use lines::put_text;
 
 // What is wrong with a file. In the last case a row does not end within the room that there is for the stream.
 pub enum Failure {

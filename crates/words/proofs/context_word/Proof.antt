@@ -1,0 +1,45 @@
+-- A wire code's word, or the table's, by one computed test; past the last there is none.
+-- Assumes nothing.
+use Prim.Native.Nat.{_-_}
+use mathlib.Core.Path.{refl, sym, _∙_}
+use native.Mathlib.Omega.{arith}
+use borrow.Author.Needs.{needs}
+use Rattle.rules.specs.Choice.{pick}
+use Rattle.rules.specs.Bytes.{part}
+use Rattle.rules.specs.Names.{ascii}
+use Rattle.rules.specs.Lines.{word, contextWords}
+use Rattle.words.proofs.CodeWords.{fixed-context-word, no-context-word, namedContext, table-context-word}
+use Rattle.words.proofs.Tables.{valuesTo, word-is}
+use Rattle.words.proofs.context_word.Statement.{statement}
+use Rattle.words.proofs.context_word.Tie as tie
+
+code-word-requires : tie.Need-code-word-requires
+code-word-requires c κs = search needs
+
+returns : tie.Need-returns
+returns c = (c .code-word .ensures .0 ∙ sym (fixed-context-word _ (c .before .if1 .taken)), c .code-word .ensures .1)
+
+returns-2 : tie.Need-returns-2
+unfolding word pick
+returns-2 c = (sym (no-context-word _ (c .before .before .if2 .taken)), refl)
+
+slice-aggregate-word-at : tie.Need-slice-aggregate-word-at
+slice-aggregate-word-at c = search needs
+
+word-at-requires : tie.Need-word-at-requires
+word-at-requires c κs = search needs
+
+returns-3 : tie.Need-returns-3
+unfolding word pick ascii contextWords valuesTo
+returns-3 c = (word-is 5 _ namedContext _ (c .before .before .before .before .args .context - 13) (omega (arith, c .before .before .if2 .left)) (c .word-at .ensures .0) (unfold part in refl) ∙ sym (table-context-word _ (c .before .before .before .if1 .left)), c .word-at .ensures .1)
+
+pub context-word-spec : {M : Type 1} → statement M
+context-word-spec =
+    tie.close
+    (tie.spec
+    code-word-requires
+    returns
+    returns-2
+    slice-aggregate-word-at
+    word-at-requires
+    returns-3)
