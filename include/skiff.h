@@ -31,6 +31,7 @@ extern "C" {
 #define skiff_skip skiff1_skip
 #define skiff_decode skiff1_decode
 #define skiff_run skiff1_run
+#define skiff_run_window skiff1_run_window
 
 /* Settings. The node charge is 1 to 4,096 and each limit at most 4,294,967,295, else SKIFF_SETTING. */
 #define SKIFF_DEFAULT_NODE_CHARGE UINT64_C(48)
@@ -93,7 +94,8 @@ enum skiff_answer {
     SKIFF_ANSWER_ROW_BYTES = 7, /* bytes of the row; of all accepted rows of a run */
     SKIFF_ANSWER_TABLE = 8,     /* the row's table, and below how much skiff_decode makes of it: */
     SKIFF_ANSWER_RECORDS = 9,   /* value records, of SKIFF_VALUE_RECORD_BYTES each, */
-    SKIFF_ANSWER_PAYLOAD = 10   /* and payload bytes; all three are 0 for a run */
+    SKIFF_ANSWER_PAYLOAD = 10,  /* and payload bytes; all three are 0 for a run, but for: */
+    SKIFF_ANSWER_MAY_CHANGE = 8 /* of skiff_run_window, 1 where more bytes may change the answer, else 0 */
 };
 
 enum skiff_what {
@@ -185,6 +187,27 @@ uint32_t skiff_run(uint64_t node_charge, uint64_t max_blob_bytes, uint64_t max_r
                    const uint8_t *registry, size_t registry_len,
                    const uint8_t *input, size_t input_len,
                    uint8_t *answer, size_t answer_len);
+
+/*
+ * skiff_run over a stream that comes in windows. `rows` and `bytes` are those of the rows so far, 0 and 0
+ * at first, and the window begins in the stream where these rows end. The answer is that of skiff_run over
+ * the stream up to the window's end, rows, bytes and offsets from the stream's start.
+ *
+ * Where SKIFF_ANSWER_MAY_CHANGE is 1, which is at the window's end and on SKIFF_TRUNCATED, go on with
+ * SKIFF_ANSWER_ROWS and SKIFF_ANSWER_ROW_BYTES for `rows` and `bytes`, and with a window that has the bytes
+ * after these rows, those that are left of the last window first, and then more of the stream; where the
+ * stream has no more bytes, the answer stands. Where it is 0, the answer stands whatever bytes come, as long
+ * as the stream has at most 4,294,967,295. Where `bytes` and the window's length pass that number, and where
+ * there are more rows than bytes, SKIFF_SETTING is answered with 0 rows and 0 bytes.
+ */
+uint32_t skiff_run_window(uint64_t node_charge, uint64_t max_blob_bytes, uint64_t max_row_bytes,
+                          const uint8_t *records, size_t records_len,
+                          const uint8_t *names, size_t names_len,
+                          const uint8_t *references, size_t references_len,
+                          const uint8_t *registry, size_t registry_len,
+                          const uint8_t *window, size_t window_len,
+                          uint64_t rows, uint64_t bytes,
+                          uint8_t *answer, size_t answer_len);
 
 #ifdef __cplusplus
 }

@@ -23,10 +23,13 @@ use Rattle.schema.proofs.check_format as check-format
 use Rattle.value.proofs.check_value_table as check-value-table
 use Rattle.row.proofs.skip_row as skip-row
 use Rattle.run.proofs.run as run
+use Rattle.windows.proofs.run_after as run-after
+use Rattle.windows.proofs.goes_on as goes-on
 use Rattle.decode.proofs.next_row as next-row
 use Rattle.skiff.proofs.reading.skiff_skip as skiff-skip
 use Rattle.skiff.proofs.reading.skiff_run as skiff-run
 use Rattle.skiff.proofs.reading.skiff_decode as skiff-decode
+use Rattle.skiff.proofs.window.skiff_run_window as skiff-run-window
 
 -- one result
 abbrev pub OneAnswer : {n : ℕ} (ps : List (PK n)) (r : RK n) → Out n ps r → Type 0
@@ -86,6 +89,12 @@ skip-row-one-answer κs a x y s t p q = p ∙ sym q
 pub run-one-answer : OneAnswer run.Kinds.ps run.Kinds.r run.Reads.Post
 run-one-answer κs a x y s t p q = p ∙ sym q
 
+pub run-after-one-answer : OneAnswer run-after.Kinds.ps run-after.Kinds.r run-after.Reads.Post
+run-after-one-answer κs a x y s t p q = p ∙ sym q
+
+pub goes-on-one-answer : OneAnswer goes-on.Kinds.ps goes-on.Kinds.r goes-on.Reads.Post
+goes-on-one-answer κs a x y s t p q = p ∙ sym q
+
 -- ---- the calls that write
 pub next-row-one-answer : OneOutcome next-row.Kinds.ps next-row.Kinds.r (λ κs (settings, (table, (names, (references, (registry, (input, (position, (records, (payload, _))))))))). records .now ∷ payload .now ∷ []) next-row.Reads.Post
 next-row-one-answer κs a x y s t p q = (ap (λ d. d .answer) (p ∙ sym q), ap (λ d. d .records ∷ d .payload ∷ []) (p ∙ sym q))
@@ -95,6 +104,9 @@ skiff-skip-one-answer κs a x y s t p q = (ap (λ g. g .number) (p ∙ sym q), a
 
 pub skiff-run-one-answer : OneOutcome skiff-run.Kinds.ps skiff-run.Kinds.r (λ κs (charge, (blob, (row, (table, (names, (references, (registry, (input, (answer, _))))))))). answer .now ∷ []) skiff-run.Reads.Post
 skiff-run-one-answer κs a x y s t p q = (ap (λ g. g .number) (p ∙ sym q), ap (λ g. g .answer ∷ []) (p ∙ sym q))
+
+pub skiff-run-window-one-answer : OneOutcome skiff-run-window.Kinds.ps skiff-run-window.Kinds.r (λ κs (charge, (blob, (row, (table, (names, (references, (registry, (window, (rows, (bytes, (answer, _))))))))))). answer .now ∷ []) skiff-run-window.Reads.Post
+skiff-run-window-one-answer κs a x y s t p q = (ap (λ g. g .number) (p ∙ sym q), ap (λ g. g .answer ∷ []) (p ∙ sym q))
 
 pub skiff-decode-one-answer : OneOutcome skiff-decode.Kinds.ps skiff-decode.Kinds.r (λ κs (charge, (blob, (row, (table, (names, (references, (registry, (input, (position, (records, (payload, (answer, _)))))))))))). answer .now ∷ records .now ∷ payload .now ∷ []) skiff-decode.Reads.Post
 skiff-decode-one-answer κs a x y s t p q = (ap (λ g. g .number) (p ∙ sym q), ap (λ g. g .answer ∷ g .records ∷ g .payload ∷ []) (p ∙ sym q))

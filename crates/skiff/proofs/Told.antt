@@ -2,7 +2,9 @@
 -- Assumes nothing.
 use Prim.Native.Nat.{ℕ}
 use mathlib.Core.Path.{_≡_}
+use Rattle.rules.specs.Choice.{pick}
 use Rattle.rules.specs.Refusals.{reportOf}
+use Rattle.rules.specs.Windows.{goesOn}
 use Rattle.rules.specs.declared.refusal.Report.{Report}
 use Rattle.rules.specs.declared.answer.Extent.{Extent}
 use Rattle.rules.specs.declared.refusal.Refusal.{Refusal}
@@ -10,7 +12,8 @@ use Rattle.rules.specs.declared.answer.Read.{Read}
 use Rattle.rules.specs.declared.answer.Read.the-variants as read
 use Rattle.rules.specs.declared.answer.Stop.{Stop}
 use Rattle.rules.specs.declared.answer.Stop.the-variants as stop
-use Rattle.skiff.specs.Answers.{noRefusal, extentOfBytes, answerOfRead, answerOfRan, whatOf, whyOf}
+use Rattle.skiff.specs.declared.answer.AnswerNumbers.{AnswerNumbers}
+use Rattle.skiff.specs.Answers.{noRefusal, extentOfBytes, answerOfRead, answerOfRan, whatOf, whyOf, answerOfWindow}
 
 pub told-row : (w : Report) (x : Read) (e : Extent) → x ≡ read.Row e → w ≡ noRefusal → record { what = 0; why = w; rows = 1; row = e } ≡ answerOfRead x
 unfolding answerOfRead
@@ -32,3 +35,8 @@ module _ (w : Report) (n : Extent) where
   pub ran-refused : (x : Stop) (rows bytes : ℕ) (r : Refusal) → x ≡ stop.Refused r → w ≡ reportOf r → n ≡ extentOfBytes bytes → record { what = 2; why = w; rows = rows; row = n } ≡ answerOfRan (record { rows = rows; bytes = bytes; stop = x })
   unfolding answerOfRan whatOf whyOf
   ran-refused x rows bytes r p q m = rw (p, q, m)
+
+pub window-told : (a : AnswerNumbers) (x : Stop) (rows bytes n : ℕ) → a ≡ answerOfRan (record { rows = rows; bytes = bytes; stop = x }) → n ≡ pick (goesOn x) 1 0 →
+    record { what = a .what; why = a .why; rows = rows; row = record { table = n; bytes = bytes; records = 0; payload = 0 } } ≡ answerOfWindow (record { rows = rows; bytes = bytes; stop = x })
+unfolding answerOfRan answerOfWindow
+window-told a x rows bytes n p q = rw (p, q)

@@ -2,8 +2,10 @@
 -- Assumes nothing: these are definitions.
 use Prim.Native.Nat.{ℕ}
 use mathlib.Core.List.{List, [], _∷_, _++_}
+use Rattle.rules.specs.Choice.{pick}
 use Rattle.rules.specs.Bytes.{le}
 use Rattle.rules.specs.Refusals.{reportOf}
+use Rattle.rules.specs.Windows.{goesOn}
 use Rattle.rules.specs.declared.refusal.Report.{Report}
 use Rattle.rules.specs.declared.answer.Extent.{Extent}
 use Rattle.rules.specs.declared.answer.Read.{Read}
@@ -51,3 +53,13 @@ whyOf (stop.Refused r) = reportOf r
 
 unfoldable pub answerOfRan : Ran → AnswerNumbers
 answerOfRan r = record { what = whatOf (r .stop); why = whyOf (r .stop); rows = r .rows; row = extentOfBytes (r .bytes) }
+
+-- the run over a window: the same numbers, and in the table's place 1 where bytes to come may change them, else 0
+unfoldable pub answerOfWindow : Ran → AnswerNumbers
+answerOfWindow r =
+    record {
+      what = whatOf (r .stop);
+      why = whyOf (r .stop);
+      rows = r .rows;
+      row = record { table = pick (goesOn (r .stop)) 1 0; bytes = r .bytes; records = 0; payload = 0 };
+    }

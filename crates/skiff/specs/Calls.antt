@@ -8,9 +8,10 @@ use Rattle.rules.specs.Choice.{pick}
 use Rattle.rules.specs.Bytes.{over}
 use Rattle.rules.specs.Format.{Format}
 use Rattle.rules.specs.Reading.{skipRule, runRule, ranOf, Decoded, decodeRule}
+use Rattle.rules.specs.Windows.{runAfter}
 use Rattle.rules.specs.declared.settings.Settings.{Settings}
 use Rattle.skiff.specs.declared.answer.AnswerNumbers.{AnswerNumbers}
-use Rattle.skiff.specs.Answers.{answerLayout, answerOfRead, answerOfRan}
+use Rattle.skiff.specs.Answers.{answerLayout, answerOfRead, answerOfRan, answerOfWindow}
 
 abbrev pub settingsOf : ℕ → ℕ → ℕ → Settings
 settingsOf charge blob row = record { «node_charge» = charge; «max_blob_bytes» = blob; «max_row_bytes» = row }
@@ -29,6 +30,10 @@ skipGiven f s inp at slice = given slice (answerOfRead (skipRule f s inp at))
 
 unfoldable pub runGiven : Format → Settings → List ℕ → List ℕ → Given
 runGiven f s inp slice = given slice (answerOfRan (ranOf (runRule f s inp)))
+
+-- a window that begins where so many rows, of so many bytes, end
+unfoldable pub runWindowGiven : Format → Settings → List ℕ → ℕ → ℕ → List ℕ → Given
+runWindowGiven f s window rows bytes slice = given slice (answerOfWindow (runAfter f s rows bytes window))
 
 -- decode's two slices too
 pub record GivenRow : Type 0 where

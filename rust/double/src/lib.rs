@@ -12,8 +12,8 @@ use std::slice;
 
 use plain::encoding::Given;
 use plain::reading::{run, skip};
-use plain::report::Report;
-use plain::settings::Settings;
+use plain::report::{what, Report};
+use plain::settings::{Settings, MOST};
 use plain::tables::{Block, FormatTables};
 
 /// All that a reading call is given but for its answer slice. A run's position is 0.
@@ -32,6 +32,23 @@ impl Call<'_> {
             Report::of_run(&run(&self.settings, &self.tables, self.input))
         } else {
             Report::of_skip(&skip(&self.settings, &self.tables, self.input, self.position))
+        }
+    }
+
+    /// The run over a window that begins where so many rows, of so many bytes, end; no fault is planted in it.
+    fn window_report(&self, rows: u64, bytes: u64) -> Report {
+        let length = bytes.saturating_add(self.input.len() as u64);
+        if rows > bytes || length > MOST {
+            return Report { what: what::REFUSAL, number: 1, ..Report::default() };
+        }
+        let ran = self.report();
+        let start = if ran.number > 10 { bytes } else { 0 };
+        Report {
+            place: ran.place + start,
+            rows: ran.rows + rows,
+            bytes: ran.bytes + bytes,
+            table: u64::from(ran.what == what::END || ran.number == 12),
+            ..ran
         }
     }
 }
@@ -80,6 +97,14 @@ macro_rules! reading_call {
 
 reading_call!("skiff1_skip", skiff_skip, false, position, (position: u64), fault::answer);
 reading_call!("skiff1_run", skiff_run, true, 0, (), fault::answer);
+reading_call!(
+    "skiff1_run_window",
+    skiff_run_window,
+    true,
+    0,
+    (rows: u64, bytes: u64),
+    |call: Call, answer: &mut [u8]| call.window_report(rows, bytes).write_to(answer)
+);
 reading_call!(
     "skiff1_decode",
     skiff_decode,

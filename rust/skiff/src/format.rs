@@ -76,6 +76,12 @@ pub struct Run {
 }
 
 impl Run {
+    #[inline]
+    fn of(report: &Report) -> Self {
+        let stop = report.refusal.map_or(Stop::End, Stop::Refused);
+        Self { rows: report.rows, bytes: offset(report.bytes), stop }
+    }
+
     /// The run as a result: rows and bytes, or the refusal.
     pub fn to_end(self) -> Result<(u64, usize), Refusal> {
         match self.stop {
@@ -83,6 +89,14 @@ impl Run {
             Stop::Refused(refusal) => Err(refusal),
         }
     }
+}
+
+/// A run over a stream up to a window's end, rows, bytes and places from the stream's start.
+#[derive(Debug, Clone, Copy, PartialEq, Eq)]
+pub struct WindowRun {
+    pub run: Run,
+    /// Whether more bytes may change it: at the window's end, or where a row is cut.
+    pub may_change: bool,
 }
 
 /// Offsets in a slice that the library has read.
@@ -175,7 +189,16 @@ impl Format<'_> {
     #[inline]
     pub fn run(&self, settings: &Settings, input: &[u8]) -> Run {
         let report = Report::of(|answer| sys::run(settings.into(), self, input, answer));
-        let stop = report.refusal.map_or(Stop::End, Stop::Refused);
-        Run { rows: report.rows, bytes: offset(report.bytes), stop }
+        Run::of(&report)
+    }
+
+    /// [`Format::run`] over a stream that comes in windows: `rows` and `bytes` are those of the run so far,
+    /// 0 and 0 at first, and `window` begins in the stream where these rows end. While the answer may change,
+    /// go on with its rows and bytes, and with what the window has after them followed by more of the stream.
+    #[inline]
+    pub fn run_window(&self, settings: &Settings, rows: u64, bytes: usize, window: &[u8]) -> WindowRun {
+        let bytes = bytes as u64;
+        let report = Report::of(|answer| sys::run_window(settings.into(), self, window, rows, bytes, answer));
+        WindowRun { run: Run::of(&report), may_change: report.table == 1 }
     }
 }

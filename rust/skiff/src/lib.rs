@@ -42,7 +42,7 @@ pub use builder::SchemaTables;
 pub use builder::{FormatBuilder, FormatTables, NameTooLong, Schema};
 #[cfg(feature = "encode")]
 pub use encoder::{Encoder, SchemaBlock, ValueTable, WriteError};
-pub use format::{Decoded, Format, Row, Run, Skipped, Stop};
+pub use format::{Decoded, Format, Row, Run, Skipped, Stop, WindowRun};
 pub use refusal::{Context, Refusal};
 #[cfg(feature = "encode")]
 pub use row_builder::{Misuse, RowBuilder, ToValue};

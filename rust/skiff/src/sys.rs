@@ -58,6 +58,7 @@ reading_calls! {
         payload_len: usize
     );
     "skiff1_run" fn skiff_run();
+    "skiff1_run_window" fn skiff_run_window(rows: u64, bytes: u64);
 }
 
 #[cfg(feature = "encode")]
@@ -117,7 +118,7 @@ impl From<&Settings> for Numbers {
 macro_rules! lend {
     (
         $function:ident, $numbers:ident, $format:ident, $input:ident;
-        $($position:ident)?; $($written:ident),+
+        $($number:ident),*; $($written:ident),+
     ) => {
         $function(
             $numbers.node_charge,
@@ -133,7 +134,7 @@ macro_rules! lend {
             $format.registry.len(),
             $input.as_ptr(),
             $input.len(),
-            $($position,)?
+            $($number,)*
             $($written.as_mut_ptr(), $written.len(),)+
         )
     };
@@ -168,6 +169,20 @@ pub fn decode(
 pub fn run(numbers: Numbers, format: &Format, input: &[u8], answer: &mut [u8]) -> u32 {
     // SAFETY: as in `skip`.
     unsafe { lend!(skiff_run, numbers, format, input;; answer) }
+}
+
+/// `skiff_run_window`: the refusal's number, 0 where the run came to the window's end.
+#[inline]
+pub fn run_window(
+    numbers: Numbers,
+    format: &Format,
+    window: &[u8],
+    rows: u64,
+    bytes: u64,
+    answer: &mut [u8],
+) -> u32 {
+    // SAFETY: as in `skip`.
+    unsafe { lend!(skiff_run_window, numbers, format, window; rows, bytes; answer) }
 }
 
 /// `skiff_encode`: the refusal's number, 0 where the row was written.

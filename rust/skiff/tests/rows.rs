@@ -1,7 +1,8 @@
 //! The front end through the library: document 01's rows, and what the types make of the answers.
 
 use skiff::{
-    Context, FormatBuilder, FormatTables, Refusal, Row, Run, Schema, Settings, Skipped, Stop, WireType,
+    Context, FormatBuilder, FormatTables, Refusal, Row, Run, Schema, Settings, Skipped, Stop, WindowRun,
+    WireType,
 };
 
 /// tuple("page" uint8, "name" variant8(nothing, string32)).
@@ -83,6 +84,35 @@ fn a_row_is_where_the_one_before_it_ends() {
     assert_eq!(cut, Run { rows: 2, bytes: 15, stop: Stop::Refused(refusal) });
     assert_eq!(cut.to_end(), Err(refusal));
     assert_eq!(format.skip_row(&usual, &stream, 20), Err(Refusal::Setting));
+}
+
+#[test]
+fn a_stream_in_windows_is_run_as_a_whole() {
+    let tables = one_table(schema_a());
+    let format = tables.format();
+    let usual = Settings::default();
+    let refused = [&FULL[..], &FULL[..], &[0, 0, 0x25, 2], &FULL[..]].concat();
+    for stream in [FULL.repeat(3), FULL.repeat(3)[..25].to_vec(), refused] {
+        for step in [1, 3, 7, 11] {
+            let (mut rows, mut bytes) = (0, 0);
+            for end in (0..stream.len()).step_by(step).chain([stream.len()]) {
+                let WindowRun { run, may_change } =
+                    format.run_window(&usual, rows, bytes, &stream[bytes..end]);
+                assert_eq!(run, format.run(&usual, &stream[..end]));
+                let open = matches!(run.stop, Stop::End | Stop::Refused(Refusal::Truncated { .. }));
+                assert_eq!(may_change, open);
+                (rows, bytes) = (run.rows, run.bytes);
+            }
+        }
+    }
+    let most = 4_294_967_295;
+    let full = Run { rows: 5, bytes: most, stop: Stop::End };
+    assert_eq!(format.run_window(&usual, 5, most, &[]), WindowRun { run: full, may_change: true });
+    let none = Run { rows: 0, bytes: 0, stop: Stop::Refused(Refusal::Setting) };
+    let refused = WindowRun { run: none, may_change: false };
+    assert_eq!(format.run_window(&usual, 5, most, &[0]), refused);
+    assert_eq!(format.run_window(&usual, 5, most + 1, &[]), refused);
+    assert_eq!(format.run_window(&usual, 5, 4, &[]), refused);
 }
 
 #[test]
