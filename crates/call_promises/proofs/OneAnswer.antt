@@ -26,10 +26,10 @@ use Rattle.run.proofs.run as run
 use Rattle.windows.proofs.run_after as run-after
 use Rattle.windows.proofs.goes_on as goes-on
 use Rattle.decode.proofs.next_row as next-row
-use Rattle.skiff.proofs.reading.skiff_skip as skiff-skip
-use Rattle.skiff.proofs.reading.skiff_run as skiff-run
-use Rattle.skiff.proofs.reading.skiff_decode as skiff-decode
-use Rattle.skiff.proofs.window.skiff_run_window as skiff-run-window
+use Rattle.skiff.proofs.reading.skiff1_skip as skiff1-skip
+use Rattle.skiff.proofs.reading.skiff1_run as skiff1-run
+use Rattle.skiff.proofs.reading.skiff1_decode as skiff1-decode
+use Rattle.skiff.proofs.window.skiff1_run_window as skiff1-run-window
 
 -- one result
 abbrev pub OneAnswer : {n : ℕ} (ps : List (PK n)) (r : RK n) → Out n ps r → Type 0
@@ -99,14 +99,14 @@ goes-on-one-answer κs a x y s t p q = p ∙ sym q
 pub next-row-one-answer : OneOutcome next-row.Kinds.ps next-row.Kinds.r (λ κs (settings, (table, (names, (references, (registry, (input, (position, (records, (payload, _))))))))). records .now ∷ payload .now ∷ []) next-row.Reads.Post
 next-row-one-answer κs a x y s t p q = (ap (λ d. d .answer) (p ∙ sym q), ap (λ d. d .records ∷ d .payload ∷ []) (p ∙ sym q))
 
-pub skiff-skip-one-answer : OneOutcome skiff-skip.Kinds.ps skiff-skip.Kinds.r (λ κs (charge, (blob, (row, (table, (names, (references, (registry, (input, (position, (answer, _)))))))))). answer .now ∷ []) skiff-skip.Reads.Post
-skiff-skip-one-answer κs a x y s t p q = (ap (λ g. g .number) (p ∙ sym q), ap (λ g. g .answer ∷ []) (p ∙ sym q))
+pub skiff1-skip-one-answer : OneOutcome skiff1-skip.Kinds.ps skiff1-skip.Kinds.r (λ κs (charge, (blob, (row, (table, (names, (references, (registry, (input, (position, (answer, _)))))))))). answer .now ∷ []) skiff1-skip.Reads.Post
+skiff1-skip-one-answer κs a x y s t p q = (ap (λ g. g .number) (p ∙ sym q), ap (λ g. g .answer ∷ []) (p ∙ sym q))
 
-pub skiff-run-one-answer : OneOutcome skiff-run.Kinds.ps skiff-run.Kinds.r (λ κs (charge, (blob, (row, (table, (names, (references, (registry, (input, (answer, _))))))))). answer .now ∷ []) skiff-run.Reads.Post
-skiff-run-one-answer κs a x y s t p q = (ap (λ g. g .number) (p ∙ sym q), ap (λ g. g .answer ∷ []) (p ∙ sym q))
+pub skiff1-run-one-answer : OneOutcome skiff1-run.Kinds.ps skiff1-run.Kinds.r (λ κs (charge, (blob, (row, (table, (names, (references, (registry, (input, (answer, _))))))))). answer .now ∷ []) skiff1-run.Reads.Post
+skiff1-run-one-answer κs a x y s t p q = (ap (λ g. g .number) (p ∙ sym q), ap (λ g. g .answer ∷ []) (p ∙ sym q))
 
-pub skiff-run-window-one-answer : OneOutcome skiff-run-window.Kinds.ps skiff-run-window.Kinds.r (λ κs (charge, (blob, (row, (table, (names, (references, (registry, (window, (rows, (bytes, (answer, _))))))))))). answer .now ∷ []) skiff-run-window.Reads.Post
-skiff-run-window-one-answer κs a x y s t p q = (ap (λ g. g .number) (p ∙ sym q), ap (λ g. g .answer ∷ []) (p ∙ sym q))
+pub skiff1-run-window-one-answer : OneOutcome skiff1-run-window.Kinds.ps skiff1-run-window.Kinds.r (λ κs (charge, (blob, (row, (table, (names, (references, (registry, (window, (rows, (bytes, (answer, _))))))))))). answer .now ∷ []) skiff1-run-window.Reads.Post
+skiff1-run-window-one-answer κs a x y s t p q = (ap (λ g. g .number) (p ∙ sym q), ap (λ g. g .answer ∷ []) (p ∙ sym q))
 
-pub skiff-decode-one-answer : OneOutcome skiff-decode.Kinds.ps skiff-decode.Kinds.r (λ κs (charge, (blob, (row, (table, (names, (references, (registry, (input, (position, (records, (payload, (answer, _)))))))))))). answer .now ∷ records .now ∷ payload .now ∷ []) skiff-decode.Reads.Post
-skiff-decode-one-answer κs a x y s t p q = (ap (λ g. g .number) (p ∙ sym q), ap (λ g. g .answer ∷ g .records ∷ g .payload ∷ []) (p ∙ sym q))
+pub skiff1-decode-one-answer : OneOutcome skiff1-decode.Kinds.ps skiff1-decode.Kinds.r (λ κs (charge, (blob, (row, (table, (names, (references, (registry, (input, (position, (records, (payload, (answer, _)))))))))))). answer .now ∷ records .now ∷ payload .now ∷ []) skiff1-decode.Reads.Post
+skiff1-decode-one-answer κs a x y s t p q = (ap (λ g. g .number) (p ∙ sym q), ap (λ g. g .answer ∷ g .records ∷ g .payload ∷ []) (p ∙ sym q))

@@ -10,7 +10,7 @@ use rules::Settings;
 
 // The row at a position.
 #[no_mangle]
-pub extern "C" fn skiff_skip(
+pub extern "C" fn skiff1_skip(
     node_charge: u64,
     max_blob_bytes: u64,
     max_row_bytes: u64,
@@ -48,7 +48,7 @@ pub extern "C" fn skiff_skip(
 
 // All rows from the start on.
 #[no_mangle]
-pub extern "C" fn skiff_run(
+pub extern "C" fn skiff1_run(
     node_charge: u64,
     max_blob_bytes: u64,
     max_row_bytes: u64,
@@ -78,7 +78,7 @@ pub extern "C" fn skiff_run(
 
 // The row at a position, as value records and payload bytes in two slices of the host's.
 #[no_mangle]
-pub extern "C" fn skiff_decode(
+pub extern "C" fn skiff1_decode(
     node_charge: u64,
     max_blob_bytes: u64,
     max_row_bytes: u64,

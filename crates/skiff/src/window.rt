@@ -35,7 +35,7 @@ fn answer_of_window(rows: u64, bytes: u64, stop: Stop) -> AnswerNumbers
 
 // All rows of a window, which begins where the rows so far end.
 #[no_mangle]
-pub extern "C" fn skiff_run_window(
+pub extern "C" fn skiff1_run_window(
     node_charge: u64,
     max_blob_bytes: u64,
     max_row_bytes: u64,

@@ -2,8 +2,8 @@ use borrow.Author.Needs.{needs}
 use Rattle.skiff.specs.Calls.{runWindowGiven}
 use Rattle.skiff.specs.Answers.{answerOfWindow}
 use Rattle.skiff.proofs.Laws.{short-given, room-given}
-use Rattle.skiff.proofs.window.skiff_run_window.Statement.{statement}
-use Rattle.skiff.proofs.window.skiff_run_window.Tie as tie
+use Rattle.skiff.proofs.window.skiff1_run_window.Statement.{statement}
+use Rattle.skiff.proofs.window.skiff1_run_window.Tie as tie
 
 returns : tie.Need-returns
 unfolding runWindowGiven
@@ -25,7 +25,7 @@ returns-2 : tie.Need-returns-2
 unfolding runWindowGiven
 returns-2 c = room-given answerOfWindow _ _ _ _ _ _ (c .before .before .before .before .before .before .if1 .left) (c .before .before .before .answer-of-window .ensures) (c .before .before .before .before .before .run-after .ensures) (c .before .before .give .ensures)
 
-pub skiff-run-window-spec : {M : Type 1} → statement M
-skiff-run-window-spec =
+pub skiff1-run-window-spec : {M : Type 1} → statement M
+skiff1-run-window-spec =
     tie.close
     (tie.spec returns run-after-requires answer-of-window-requires give-requires same-length returns-2)

@@ -2,8 +2,8 @@ use borrow.Author.Needs.{needs}
 use Rattle.skiff.specs.Calls.{runGiven}
 use Rattle.skiff.specs.Answers.{answerOfRan}
 use Rattle.skiff.proofs.Laws.{short-given, room-given}
-use Rattle.skiff.proofs.reading.skiff_run.Statement.{statement}
-use Rattle.skiff.proofs.reading.skiff_run.Tie as tie
+use Rattle.skiff.proofs.reading.skiff1_run.Statement.{statement}
+use Rattle.skiff.proofs.reading.skiff1_run.Tie as tie
 
 returns : tie.Need-returns
 unfolding runGiven
@@ -25,6 +25,6 @@ returns-2 : tie.Need-returns-2
 unfolding runGiven
 returns-2 c = room-given answerOfRan _ _ _ _ _ _ (c .before .before .before .before .before .before .if1 .left) (c .before .before .before .answer-of-ran .ensures) (c .before .before .before .before .before .run .ensures) (c .before .before .give .ensures)
 
-pub skiff-run-spec : {M : Type 1} → statement M
-skiff-run-spec =
+pub skiff1-run-spec : {M : Type 1} → statement M
+skiff1-run-spec =
     tie.close (tie.spec returns run-requires answer-of-ran-requires give-requires same-length returns-2)

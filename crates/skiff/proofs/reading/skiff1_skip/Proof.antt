@@ -2,8 +2,8 @@ use borrow.Author.Needs.{needs}
 use Rattle.skiff.specs.Calls.{skipGiven}
 use Rattle.skiff.specs.Answers.{answerOfRead}
 use Rattle.skiff.proofs.Laws.{short-given, room-given}
-use Rattle.skiff.proofs.reading.skiff_skip.Statement.{statement}
-use Rattle.skiff.proofs.reading.skiff_skip.Tie as tie
+use Rattle.skiff.proofs.reading.skiff1_skip.Statement.{statement}
+use Rattle.skiff.proofs.reading.skiff1_skip.Tie as tie
 
 returns : tie.Need-returns
 unfolding skipGiven
@@ -25,7 +25,7 @@ returns-2 : tie.Need-returns-2
 unfolding skipGiven
 returns-2 c = room-given answerOfRead _ _ _ _ _ _ (c .before .before .before .before .before .before .if1 .left) (c .before .before .before .answer-of-read .ensures) (c .before .before .before .before .before .skip-row .ensures) (c .before .before .give .ensures)
 
-pub skiff-skip-spec : {M : Type 1} → statement M
-skiff-skip-spec =
+pub skiff1-skip-spec : {M : Type 1} → statement M
+skiff1-skip-spec =
     tie.close
     (tie.spec returns skip-row-requires answer-of-read-requires give-requires same-length returns-2)

@@ -1,8 +1,8 @@
 use borrow.Author.Needs.{needs}
 use Rattle.skiff.specs.Calls.{decodeGiven}
 use Rattle.skiff.proofs.Laws.{short-row, room-row}
-use Rattle.skiff.proofs.reading.skiff_decode.Statement.{statement}
-use Rattle.skiff.proofs.reading.skiff_decode.Tie as tie
+use Rattle.skiff.proofs.reading.skiff1_decode.Statement.{statement}
+use Rattle.skiff.proofs.reading.skiff1_decode.Tie as tie
 
 returns : tie.Need-returns
 unfolding decodeGiven
@@ -30,8 +30,8 @@ returns-2 : tie.Need-returns-2
 unfolding decodeGiven
 returns-2 c = room-row _ _ _ _ _ _ _ _ _ _ (c .before .before .before .before .before .before .before .before .before .before .before .before .if1 .left) (c .before .before .before .answer-of-read .ensures) (c .before .before .before .before .before .before .before .before .before .next-row .ensures) (c .before .before .give .ensures)
 
-pub skiff-decode-spec : {M : Type 1} → statement M
-skiff-decode-spec =
+pub skiff1-decode-spec : {M : Type 1} → statement M
+skiff1-decode-spec =
     tie.close
     (tie.spec
     returns
