@@ -24,6 +24,7 @@ use Rattle.value.proofs.check_value_table as check-value-table
 use Rattle.row.proofs.skip_row as skip-row
 use Rattle.run.proofs.run as run
 use Rattle.decode.proofs.next_row as next-row
+use Rattle.encode.proofs.encode as encode
 use Rattle.skiff.proofs.reading.skiff_skip as skiff-skip
 use Rattle.skiff.proofs.reading.skiff_run as skiff-run
 use Rattle.skiff.proofs.reading.skiff_decode as skiff-decode
@@ -89,6 +90,9 @@ run-one-answer κs a x y s t p q = p ∙ sym q
 -- ---- the calls that write
 pub next-row-one-answer : OneOutcome next-row.Kinds.ps next-row.Kinds.r (λ κs (settings, (table, (names, (references, (registry, (input, (position, (records, (payload, _))))))))). records .now ∷ payload .now ∷ []) next-row.Reads.Post
 next-row-one-answer κs a x y s t p q = (ap (λ d. d .answer) (p ∙ sym q), ap (λ d. d .records ∷ d .payload ∷ []) (p ∙ sym q))
+
+pub encode-one-answer : OneOutcome encode.Kinds.ps encode.Kinds.r (λ κs (settings, (table, (names, (first, (count, (records, (payload, (output, (position, _))))))))). output .now ∷ []) encode.Reads.Post
+encode-one-answer κs a x y s t p q = (ap (λ d. d .answer) (p ∙ sym q), ap (λ d. d .output ∷ []) (p ∙ sym q))
 
 pub skiff-skip-one-answer : OneOutcome skiff-skip.Kinds.ps skiff-skip.Kinds.r (λ κs (charge, (blob, (row, (table, (names, (references, (registry, (input, (position, (answer, _)))))))))). answer .now ∷ []) skiff-skip.Reads.Post
 skiff-skip-one-answer κs a x y s t p q = (ap (λ g. g .number) (p ∙ sym q), ap (λ g. g .answer ∷ []) (p ∙ sym q))
