@@ -9,9 +9,9 @@ use denote.Ref.{RefT}
 use denote.Triple.Clauses.{AtExit}
 use Rattle.rules.specs.Bytes.{Bytes}
 use Rattle.rules.specs.Reading.{limits}
-use Rattle.rules.specs.declared.Settings.{Settings}
-use Rattle.rules.specs.declared.Read.{Read}
-use Rattle.rows.proofs.Decoding.{Leaves, decode-leaves}
+use Rattle.rules.specs.declared.settings.Settings.{Settings}
+use Rattle.rules.specs.declared.answer.Read.{Read}
+use Rattle.row_laws.proofs.Decoding.{Leaves, decode-leaves}
 use Rattle.schema.specs.Slices.{slices}
 use Rattle.decode.proofs.next_row as next-row
 

@@ -8,9 +8,9 @@ use mathlib.Core.List.{List, [], _∷_}
 use contract.Lifetimes.{Lfts}
 use borrow.Fn.Kinds.{PK, RK, Dens, Out, resT, endedOf}
 use denote.Triple.Clauses.{AtExit}
-use Rattle.rules.proofs.Settings.new as settings-new
-use Rattle.rules.proofs.Settings.within_bounds as settings-within-bounds
-use Rattle.rules.proofs.Refusal.in_numbers as in-numbers
+use Rattle.rules.proofs.settings.Settings.new as settings-new
+use Rattle.rules.proofs.settings.Settings.within_bounds as settings-within-bounds
+use Rattle.rules.proofs.refusal.Refusal.in_numbers as in-numbers
 use Rattle.wire.proofs.names.parse as parse
 use Rattle.wire.proofs.names.is_name as is-name
 use Rattle.wire.proofs.types.from_code as from-code

@@ -15,23 +15,23 @@ use Rattle.rules.specs.Block.{nodeSize, nodeAt, records, block, Closed}
 use Rattle.rules.specs.Format.{tableSchema, formatRules}
 use Rattle.rules.specs.Value.{Value, recordsOf, payloadOf}
 use Rattle.rules.specs.ValueRecord.{valueRecordsIn}
-use Rattle.rules.specs.ValueTable.{flat, pays}
+use Rattle.rules.specs.ValueTable.{flat, payloadBytes}
 use Rattle.rules.specs.Walk.{Limits, Pos, Answer, Got, Refused, walk, _>>=_}
 use Rattle.rules.specs.Reading.{start, extent, skipped, room, roomFor, roomTest, untouched, fillWith, filled}
-use Rattle.rules.specs.declared.Refusal.{Refusal}
+use Rattle.rules.specs.declared.refusal.Refusal.{Refusal}
 use Rattle.rules.specs.Refusals.{NoNodeRoom, NoPayloadRoom}
-use Rattle.rules.specs.declared.Located.the-variants.{Block}
-use Rattle.rules.specs.declared.Checked.the-variants.{Accepted}
-use Rattle.rules.specs.declared.Extent.{Extent}
-use Rattle.rules.specs.declared.Read.{Read}
-use Rattle.rules.specs.declared.Read.the-variants.{Row}
-use Rattle.blocks.proofs.Tables.{table-schema}
-use Rattle.rows.proofs.TableRows.{located}
+use Rattle.rules.specs.declared.table_record.Located.the-variants.{Block}
+use Rattle.rules.specs.declared.answer.Checked.the-variants.{Accepted}
+use Rattle.rules.specs.declared.answer.Extent.{Extent}
+use Rattle.rules.specs.declared.answer.Read.{Read}
+use Rattle.rules.specs.declared.answer.Read.the-variants.{Row}
+use Rattle.block_laws.proofs.Tables.{table-schema}
+use Rattle.row_laws.proofs.TableRows.{located}
 use Rattle.schema.specs.Slices.{slices}
 use Rattle.row.specs.Steps.{rowIn}
 use Rattle.row.proofs.Laws.{schema-any, root-code}
 use Rattle.fill.specs.Plain as plain
-use Rattle.fill.specs.Plain.{IsGot, valueOf, readAt}
+use Rattle.fill.specs.Plain.{IsGot, valueRead, readAt}
 use Rattle.fill.specs.Filling.{rowValue}
 use Rattle.fill.proofs.Agrees.{reads, counts}
 use Rattle.decode.specs.Steps.{Granted}
@@ -160,7 +160,7 @@ module _ (table inp : List ℕ) (lim : Limits) (bs : Bytes inp) (at t first coun
           by false c y = absurd (never _ y)
 
       pub granted : (names references registry : List ℕ) → formatRules (slices table names references registry) ≡ Accepted → Block first count ≡ tableSchema (slices [] names references registry) t → (e′ : Extent) → fits ≡ Row e′ → Granted table inp at first count (length rs) (length ps)
-      unfolding valueOf IsGot
+      unfolding valueRead IsGot
       granted names references registry ok found e′ x =
           let k = roomy e′ x in
           let g = rooted table names references registry ok t first count found in
@@ -184,12 +184,12 @@ module _ (table inp : List ℕ) (lim : Limits) (bs : Bytes inp) (at t first coun
       -- the value that stands there is what is left
       pub row-filled : (e′ : Extent) → fits ≡ Row e′ → (rs′ ps′ : List ℕ) →
           rs′ ≡ over rs 0 (flat (rowValue (block table first count) inp (at + 2)) 0 0) →
-          ps′ ≡ over ps 0 (pays (rowValue (block table first count) inp (at + 2))) →
+          ps′ ≡ over ps 0 (payloadBytes (rowValue (block table first count) inp (at + 2))) →
           untouched (Row e) rs′ ps′ ≡ filled at a rs ps
-      unfolding fillWith roomFor pick valueOf
+      unfolding fillWith roomFor pick valueRead
       row-filled e′ x rs′ ps′ b c =
           let k = roomy e′ x in
           let b′ : rs′ ≡ over rs 0 (flat (judged .v) 0 0) = rw stands at b in
-          let c′ : ps′ ≡ over ps 0 (pays (judged .v)) = rw stands at c in
+          let c′ : ps′ ≡ over ps 0 (payloadBytes (judged .v)) = rw stands at c in
           let y : fits ≡ Row e = so ∙ rw (k .0, k .1) in
           rw (b′, c′) (sym (tested ∙ ap (fillWith (judged .v) rs ps) y))

@@ -5,14 +5,14 @@ ghost use Prim.Native.Nat.{_+_, _≤_, min};
 ghost use lib.ListN.{length};
 ghost use Rattle.rules.specs.Bytes.{over};
 ghost use Rattle.rules.specs.Block.{block};
-ghost use Rattle.rules.specs.ValueTable.{flat, pays};
+ghost use Rattle.rules.specs.ValueTable.{flat, payloadBytes};
 ghost use Rattle.rules.specs.Reading.{limits, rowAt, roomFor, filled};
 ghost use Rattle.schema.specs.Slices.{slices};
 ghost use Rattle.row.specs.Steps.{Asked};
 ghost use Rattle.fill.specs.Filling.{rowValue};
 ghost use Rattle.decode.specs.Steps.{Granted};
+use block::table::block_of;
 use fill::fill_row;
-use flat::table::block_of;
 use record::value::records_in;
 use row::steps::RowBlock;
 use row::steps::block_at;
@@ -71,7 +71,7 @@ pub fn fill_at(
     ensures records { λ _. ⌜ now (records .exit) ≡ over (now (records .entry)) 0
         (flat (rowValue (block (now (table .entry)) first count) (now (input .entry)) (at + 2)) 0 0) ⌝ }
     ensures payload { λ _. ⌜ now (payload .exit) ≡ over (now (payload .entry)) 0
-        (pays (rowValue (block (now (table .entry)) first count) (now (input .entry)) (at + 2))) ⌝ }
+        (payloadBytes (rowValue (block (now (table .entry)) first count) (now (input .entry)) (at + 2))) ⌝ }
 {
     fill_row(
         block_of(table, first, count),

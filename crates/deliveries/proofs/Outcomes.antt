@@ -9,7 +9,7 @@ use mir.Val.{SFits, ofZ, toZ}
 use mir.ValLaws.{toZ-ofZ}
 use lib.IntN.{ℤ, pos, negsuc}
 use Rattle.rules.specs.Choice.{pick}
-use Rattle.rules.specs.declared.Ran.{Ran}
+use Rattle.rules.specs.declared.answer.Ran.{Ran}
 use Rattle.deliveries.specs.Outcomes.{outcomeOf, wholeAt, tableRead}
 use Rattle.deliveries.specs.declared.outcome.Outcome.the-variants.{Told, NoRoom, Unreadable}
 use Rattle.deliveries.specs.declared.outcome.TableRead.the-variants.{Whole, TooLong, Unreadable as Failed}

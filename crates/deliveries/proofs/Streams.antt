@@ -11,9 +11,9 @@ use lib.ListN.{length}
 use Rattle.rules.specs.Bytes.{Bytes}
 use Rattle.rules.specs.Format.{Format}
 use Rattle.rules.specs.Refusals.{Setting}
-use Rattle.rules.specs.declared.Ran.{Ran}
-use Rattle.rules.specs.declared.Settings.{Settings}
-use Rattle.rules.specs.declared.Stop.{Stop}
+use Rattle.rules.specs.declared.answer.Ran.{Ran}
+use Rattle.rules.specs.declared.settings.Settings.{Settings}
+use Rattle.rules.specs.declared.answer.Stop.{Stop}
 use Rattle.windows.specs.Bounds.{Laid}
 use Rattle.windows.specs.Steps.{Stream}
 use Rattle.windows.specs.declared.space.Ends.{Ends}

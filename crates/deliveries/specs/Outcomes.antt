@@ -10,8 +10,8 @@ use Rattle.rules.specs.Choice.{pick}
 use Rattle.rules.specs.Bytes.{Bytes}
 use Rattle.rules.specs.Format.{Format}
 use Rattle.rules.specs.Reading.{runRule, ranOf}
-use Rattle.rules.specs.declared.Ran.{Ran}
-use Rattle.rules.specs.declared.Settings.{Settings}
+use Rattle.rules.specs.declared.answer.Ran.{Ran}
+use Rattle.rules.specs.declared.settings.Settings.{Settings}
 use Rattle.windows.specs.Steps.{Stream}
 use Rattle.windows.specs.declared.space.Ends.{Ends}
 use Rattle.deliveries.specs.declared.outcome.Outcome.{Outcome}

@@ -18,14 +18,14 @@ use Rattle.rules.specs.ValueCheck.{formChecked, tableForm}
 use Rattle.rules.specs.Walk.{Limits}
 use Rattle.rules.specs.Reading.{limits, room, whenAccepted}
 use Rattle.rules.specs.Writing.{unwritten, encodeValue, encodeOk, encodeRule}
-use Rattle.rules.specs.declared.Settings.{Settings}
-use Rattle.rules.specs.declared.Refusal.{Refusal}
-use Rattle.rules.specs.declared.Checked.{Checked}
-use Rattle.rules.specs.declared.Checked.the-variants.{Accepted, Refused}
-use Rattle.rules.specs.declared.Written.{Written}
+use Rattle.rules.specs.declared.settings.Settings.{Settings}
+use Rattle.rules.specs.declared.refusal.Refusal.{Refusal}
+use Rattle.rules.specs.declared.answer.Checked.{Checked}
+use Rattle.rules.specs.declared.answer.Checked.the-variants.{Accepted, Refused}
+use Rattle.rules.specs.declared.answer.Written.{Written}
 use Rattle.rules.proofs.Tests.{and-both}
 use Rattle.rules.proofs.Checks.{refused-not, then-both, pick-accepted}
-use Rattle.blocks.proofs.Good.{FormedBlock, form-accepts}
+use Rattle.block_laws.proofs.Good.{FormedBlock, form-accepts}
 use Rattle.read.proofs.Nodes.{formed-sound}
 use Rattle.write.specs.Table.{IsWhole, valueOf}
 use Rattle.write.specs.Judging.{RowJudgeable}

@@ -4,7 +4,7 @@ ghost use Rattle.rules.specs.Refusals.{_then_};
 ghost use Rattle.rules.specs.Format.{encoderRules};
 ghost use Rattle.rules.specs.ValueCheck.{tableForm};
 ghost use Rattle.rules.specs.Writing.{encodeOk, encodeRule};
-use flat::table::block_of;
+use block::table::block_of;
 use rules::Checked;
 use rules::LONGEST;
 use rules::Refusal;
@@ -49,7 +49,7 @@ fn within_bounds(
 }
 
 // The schema, then the form of the value table.
-fn forms(
+fn check_forms(
     table: &[u8],
     names: &[u8],
     first: u64,
@@ -85,7 +85,7 @@ pub fn encode(
     if !within_bounds(settings, table, names, records, payload, output, position) {
         return Written::Refused(Refusal::SETTING);
     }
-    let checked = forms(table, names, first, count, records, payload);
+    let checked = check_forms(table, names, first, count, records, payload);
     match checked {
         Checked::Refused(why) => Written::Refused(why),
         Checked::Accepted => write_row(

@@ -8,16 +8,16 @@ use lib.ListN.{length}
 use lib.Dec.{leb}
 use Rattle.rules.specs.Choice.{pick}
 use Rattle.rules.specs.Bytes.{Bytes}
-use Rattle.rules.specs.Wire.{Form, empty, truth, fixed, raw, sized, choice, series, fields, unknown, form}
+use Rattle.rules.specs.Wire.{Form, empty, truth, fixed, raw, sized, variant-form, repeated-form, tuple-form, unknown, form}
 use Rattle.rules.specs.Block.{nodeAt}
 use Rattle.rules.specs.Value.{Value, blob, recordsOf, payloadOf}
 use Rattle.rules.specs.Walk as rule
 use Rattle.rules.specs.Walk.{Limits, Pos, Answer, Refused, Walker, numberOf, bytesOf, charged, blobOf, childOf, pairsOf, fieldsOf, walk, after}
-use Rattle.rules.specs.declared.Node.{Node}
-use Rattle.rules.specs.declared.Refusal.{Refusal}
+use Rattle.rules.specs.declared.table_record.Node.{Node}
+use Rattle.rules.specs.declared.refusal.Refusal.{Refusal}
 use Rattle.rules.specs.Refusals.{RowTooLarge}
-use Rattle.rows.proofs.Sound.{sound}
-use Rattle.fill.specs.Plain.{Reading, Got, _>>=_, valueOf, numberAt, bytesAt, leafAt, Reader, childAt, pairsAt, fieldsAt, byForm, readAt}
+use Rattle.row_laws.proofs.Sound.{sound}
+use Rattle.fill.specs.Plain.{Reading, Got, _>>=_, valueRead, plainNumberAt, bytesAt, leafAt, Reader, childAt, pairsAt, fieldsAt, byForm, readAt}
 
 -- what is accepted is read, and leaves off at the same place
 data Agrees {A : Type 0} : Answer A → Reading A → Type 0 where
@@ -42,8 +42,8 @@ passing r true f = f
 passing r false f = refused
 
 module _ (inp : List ℕ) (lim : Limits) where
-  number-agrees : (w context : ℕ) (p : Pos) → Agrees (numberOf inp w context p) (numberAt inp w (p .at))
-  unfolding numberOf numberAt
+  number-agrees : (w context : ℕ) (p : Pos) → Agrees (numberOf inp w context p) (plainNumberAt inp w (p .at))
+  unfolding numberOf plainNumberAt
   number-agrees w context p = either _ both refused
 
   bytes-agrees : (n context : ℕ) (p : Pos) → Agrees (bytesOf inp n context p) (bytesAt inp n (p .at))
@@ -94,11 +94,11 @@ module _ (inp : List ℕ) (lim : Limits) where
     value-agrees n (fixed w) p = then _ (number-agrees w (n .code) p) (λ (x, q). both)
     value-agrees n (raw w) p = then _ (bytes-agrees w (n .code) p) (λ (b, q). both)
     value-agrees n sized p = blob-agrees (n .code) p
-    value-agrees n (choice w) p =
+    value-agrees n (variant-form w) p =
         then _ (number-agrees w (14 + w) p) (λ (tag, q).
         then _ (child-agrees n tag (p .at) q) (λ (v, r). both))
-    value-agrees n (series w) p = then _ (pairs-agree n w (suc (length inp - p .at)) p) (λ (is, q). both)
-    value-agrees n fields p = then _ (fields-agree (n .first) (n .children) p) (λ (vs, q). both)
+    value-agrees n (repeated-form w) p = then _ (pairs-agree n w (suc (length inp - p .at)) p) (λ (is, q). both)
+    value-agrees n tuple-form p = then _ (fields-agree (n .first) (n .children) p) (λ (vs, q). both)
     value-agrees n unknown p = refused
 
   walk-agrees : (sch : List ℕ) (d i : ℕ) (p : Pos) → Agrees (walk sch inp lim d i p) (readAt sch inp d i (p .at))

@@ -11,19 +11,19 @@ use lib.Dec.{ltb, eqb}
 use lib.ListN.{length}
 use Rattle.rules.specs.Choice.{pick, _and_, all}
 use Rattle.rules.specs.Bytes.{leAt}
-use Rattle.rules.specs.Wire.{Form, empty, truth, fixed, raw, sized, choice, series, fields, unknown, form, endTag, wireTypes, typeIn, typeOf, written, writtenIf}
+use Rattle.rules.specs.Wire.{Form, empty, truth, fixed, raw, sized, variant-form, repeated-form, tuple-form, unknown, form, endTag, wireTypes, typeIn, typeOf, written, writtenIf}
 use Rattle.rules.specs.Block.{nodeAt}
 use Rattle.rules.specs.Value.{Value, nothing, boolean, number, wide, blob, variant, repeated, tuple, Items, done, item, Values, none, more, items, values, tally, tallyI, tallyV, recordsOf, payloadOf}
 use Rattle.rules.specs.ValueRecord.{valueRecord}
-use Rattle.rules.specs.ValueTable.{pays, paysI, paysV, kind, sizeOf, contentOf, headOf, below, belowI, belowV, heads}
+use Rattle.rules.specs.ValueTable.{payloadBytes, payloadBytesI, payloadBytesV, valueKind, sizeOf, contentOf, headOf, below, belowI, belowV, heads}
 use Rattle.rules.specs.Writing.{kindFor}
-use Rattle.rules.specs.declared.Node.{Node}
+use Rattle.rules.specs.declared.table_record.Node.{Node}
 use Rattle.rules.proofs.Tests.{all-each}
 use Rattle.rules.proofs.Codes.{form-unknown}
-use Rattle.values.proofs.Codes.{plain}
+use Rattle.value_laws.proofs.Codes.{plain}
 use Rattle.fill.specs.declared.Next.{Next}
 use Rattle.fill.specs.declared.Next.the-variants.{Child, End}
-use Rattle.fill.specs.Plain.{Reading, Got, Not, _>>=_, IsGot, numberAt, Reader, childAt, pairsAt, fieldsAt, leafAt, byForm, readAt, valueOf, endOf}
+use Rattle.fill.specs.Plain.{Reading, Got, Not, _>>=_, IsGot, plainNumberAt, Reader, childAt, pairsAt, fieldsAt, leafAt, byForm, readAt, valueRead, endRead}
 use Rattle.fill.specs.Filling.{tagBytes, nextOf}
 use Rattle.read.proofs.Codes.{form-choice, form-series, form-fields}
 use Rattle.fill.proofs.Got.{not-got, got-from, got-is, read-step, step, number-step, child-step}
@@ -49,8 +49,8 @@ unfolding untagged below
 below-untagged none p = refl
 below-untagged (more v vs) p = rw (below-untagged vs (p + payloadOf v))
 
-pays-untagged : (vs : Values) → paysV vs ≡ paysI (untagged vs)
-unfolding untagged pays
+pays-untagged : (vs : Values) → payloadBytesV vs ≡ payloadBytesI (untagged vs)
+unfolding untagged payloadBytes
 pays-untagged none = refl
 pays-untagged (more v vs) = rw (pays-untagged vs)
 
@@ -65,14 +65,14 @@ count-untagged none = refl
 count-untagged (more v vs) = rw (count-untagged vs)
 
 -- the table of a node with children: a record that has their count, and theirs
-pub record Parent (kind : ℕ) (v : Value) : Type 0 where
-  pub table : (tag p : ℕ) → heads v tag p ≡ valueRecord kind tag (items (children v)) 0 ∷ belowI (children v) p
-  pub bytes : pays v ≡ paysI (children v)
+pub record Parent (valueKind : ℕ) (v : Value) : Type 0 where
+  pub table : (tag p : ℕ) → heads v tag p ≡ valueRecord valueKind tag (items (children v)) 0 ∷ belowI (children v) p
+  pub bytes : payloadBytes v ≡ payloadBytesI (children v)
   pub records : recordsOf v ≡ 1 + tallyI (children v) 1 0 0
   pub payload : payloadOf v ≡ tallyI (children v) 0 1 1
 
 variant-parent : (t : ℕ) (v : Value) → Parent 15 (variant t v)
-unfolding heads headOf kind sizeOf contentOf below pays children items recordsOf payloadOf tally
+unfolding heads headOf valueKind sizeOf contentOf below payloadBytes children items recordsOf payloadOf tally
 variant-parent t v = record {
   table = λ tag p. simp append-nil;
   bytes = simp append-nil;
@@ -81,11 +81,11 @@ variant-parent t v = record {
 }
 
 repeated-parent : (is : Items) → Parent 16 (repeated is)
-unfolding heads headOf kind sizeOf contentOf below pays children recordsOf payloadOf tally
+unfolding heads headOf valueKind sizeOf contentOf below payloadBytes children recordsOf payloadOf tally
 repeated-parent is = record { table = λ tag p. refl; bytes = refl; records = refl; payload = omega arith }
 
 tuple-parent : (vs : Values) → Parent 17 (tuple vs)
-unfolding heads headOf kind sizeOf contentOf below pays children recordsOf payloadOf tally
+unfolding heads headOf valueKind sizeOf contentOf below payloadBytes children recordsOf payloadOf tally
 tuple-parent vs = record {
   table = λ tag p. rw (count-untagged vs, below-untagged vs p);
   bytes = pays-untagged vs;
@@ -103,9 +103,9 @@ plain-reads inp rec n truth at e = refl
 plain-reads inp rec n (fixed w) at e = refl
 plain-reads inp rec n (raw w) at e = refl
 plain-reads inp rec n sized at e = refl
-plain-reads inp rec n (choice w) at e = absurd (let z : _≡_ {A = ℕ} 0 1 = cc in omega arith)
-plain-reads inp rec n (series w) at e = absurd (let z : _≡_ {A = ℕ} 0 1 = cc in omega arith)
-plain-reads inp rec n fields at e = absurd (let z : _≡_ {A = ℕ} 0 1 = cc in omega arith)
+plain-reads inp rec n (variant-form w) at e = absurd (let z : _≡_ {A = ℕ} 0 1 = cc in omega arith)
+plain-reads inp rec n (repeated-form w) at e = absurd (let z : _≡_ {A = ℕ} 0 1 = cc in omega arith)
+plain-reads inp rec n tuple-form at e = absurd (let z : _≡_ {A = ℕ} 0 1 = cc in omega arith)
 plain-reads inp rec n unknown at e = refl
 
 leaf-reads : (inp : List ℕ) (rec : Reader) (n : Node) (at : ℕ) → n .code < 15 → byForm inp rec n (form (n .code)) at ≡ leafAt inp (n .code) (form (n .code)) at
@@ -115,10 +115,10 @@ leaf-reads inp rec n at h = plain-reads inp rec n (form (n .code)) at (all-each 
 module _ (inp : List ℕ) (rec : Reader) (n : Node) where
   -- what is left after i of them
   unfoldable pub left : Form → ℕ → ℕ → ℕ → Reading Items
-  left (choice w) zero enough at = numberAt inp w at >>= (λ (z : ℕ × ℕ). childAt rec n (z .0) (z .1) >>= (λ (y : Value × ℕ). Got (item (z .0) (y .0) done) (y .1)))
-  left (choice w) (suc i) enough at = Got done at
-  left (series w) i enough at = pairsAt inp rec n w enough at
-  left fields i enough at = fieldsAt rec (n .first + i) (n .children - i) at >>= (λ (z : Values × ℕ). Got (untagged (z .0)) (z .1))
+  left (variant-form w) zero enough at = plainNumberAt inp w at >>= (λ (z : ℕ × ℕ). childAt rec n (z .0) (z .1) >>= (λ (y : Value × ℕ). Got (item (z .0) (y .0) done) (y .1)))
+  left (variant-form w) (suc i) enough at = Got done at
+  left (repeated-form w) i enough at = pairsAt inp rec n w enough at
+  left tuple-form i enough at = fieldsAt rec (n .first + i) (n .children - i) at >>= (λ (z : Values × ℕ). Got (untagged (z .0)) (z .1))
   left empty i enough at = Not
   left truth i enough at = Not
   left (fixed w) i enough at = Not
@@ -131,38 +131,38 @@ module _ (inp : List ℕ) (rec : Reader) (n : Node) where
     pub all : left f 0 (suc (length inp - at)) at ≡ Got (children v) z
     pub parent : Parent (kindFor (n .code) f) v
 
-  choice-start : (w at z : ℕ) (v : Value) → byForm inp rec n (choice w) at ≡ Got v z → Start (choice w) at v z
+  choice-start : (w at z : ℕ) (v : Value) → byForm inp rec n (variant-form w) at ≡ Got v z → Start (variant-form w) at v z
   unfolding byForm left kindFor children _>>=_
   choice-start w at z v e =
-      let a = step (numberAt inp w at) _ v z e in
+      let a = step (plainNumberAt inp w at) _ v z e in
       let b = step (childAt rec n (a .got) (a .at)) _ v z (a .goes) in
       from (a .got) (a .at) (b .got) (b .at) (a .is) (b .is) (b .goes)
     where
-      from : (tag q : ℕ) (u : Value) (r : ℕ) → numberAt inp w at ≡ Got tag q → childAt rec n tag q ≡ Got u r → Got (variant tag u) r ≡ Got v z → Start (choice w) at v z
+      from : (tag q : ℕ) (u : Value) (r : ℕ) → plainNumberAt inp w at ≡ Got tag q → childAt rec n tag q ≡ Got u r → Got (variant tag u) r ≡ Got v z → Start (variant-form w) at v z
       from tag q u r f g h =
           let is : v ≡ variant tag u = cc in
           let ends : z ≡ r = cc in
           rw (is, ends) (record { all = rw (f, g); parent = variant-parent tag u })
 
-  series-start : (w at z : ℕ) (v : Value) → byForm inp rec n (series w) at ≡ Got v z → Start (series w) at v z
+  series-start : (w at z : ℕ) (v : Value) → byForm inp rec n (repeated-form w) at ≡ Got v z → Start (repeated-form w) at v z
   unfolding byForm left kindFor children
   series-start w at z v e =
       let a = step (pairsAt inp rec n w (suc (length inp - at)) at) _ v z e in
       from (a .got) (a .at) (a .is) (a .goes)
     where
-      from : (is : Items) (q : ℕ) → pairsAt inp rec n w (suc (length inp - at)) at ≡ Got is q → Got (repeated is) q ≡ Got v z → Start (series w) at v z
+      from : (is : Items) (q : ℕ) → pairsAt inp rec n w (suc (length inp - at)) at ≡ Got is q → Got (repeated is) q ≡ Got v z → Start (repeated-form w) at v z
       from is q f h =
           let same : v ≡ repeated is = cc in
           let ends : z ≡ q = cc in
           rw (same, ends) (record { all = f; parent = repeated-parent is })
 
-  fields-start : (at z : ℕ) (v : Value) → byForm inp rec n fields at ≡ Got v z → Start fields at v z
+  fields-start : (at z : ℕ) (v : Value) → byForm inp rec n tuple-form at ≡ Got v z → Start tuple-form at v z
   unfolding byForm left kindFor children _>>=_
   fields-start at z v e =
       let a = step (fieldsAt rec (n .first) (n .children) at) _ v z e in
       from (a .got) (a .at) (a .is) (a .goes)
     where
-      from : (vs : Values) (q : ℕ) → fieldsAt rec (n .first) (n .children) at ≡ Got vs q → Got (tuple vs) q ≡ Got v z → Start fields at v z
+      from : (vs : Values) (q : ℕ) → fieldsAt rec (n .first) (n .children) at ≡ Got vs q → Got (tuple vs) q ≡ Got v z → Start tuple-form at v z
       from vs q f h =
           let is : v ≡ tuple vs = cc in
           let ends : z ≡ q = cc in
@@ -182,11 +182,11 @@ module _ (inp : List ℕ) (rec : Reader) (n : Node) where
   -- the tag of the next one is there
   pub there : (f : Form) (i enough at z : ℕ) (is : Items) → left f i enough at ≡ Got is z → tagBytes f i ≤ length inp - at
   unfolding left tagBytes pairsAt
-  there (choice w) zero enough at z is e = number-step is z inp w at _ e .0
-  there (choice w) (suc i) enough at z is e = omega arith
-  there (series w) i zero at z is e = absurd (not-got (Got is z) (sym e) (got-from (Got is z) is z refl))
-  there (series w) i (suc enough) at z is e = number-step is z inp w at _ e .0
-  there fields i enough at z is e = omega arith
+  there (variant-form w) zero enough at z is e = number-step is z inp w at _ e .0
+  there (variant-form w) (suc i) enough at z is e = omega arith
+  there (repeated-form w) i zero at z is e = absurd (not-got (Got is z) (sym e) (got-from (Got is z) is z refl))
+  there (repeated-form w) i (suc enough) at z is e = number-step is z inp w at _ e .0
+  there tuple-form i enough at z is e = omega arith
   there empty i enough at z is e = omega arith
   there truth i enough at z is e = omega arith
   there (fixed w) i enough at z is e = omega arith
@@ -212,7 +212,7 @@ module _ (inp : List ℕ) (rec : Reader) (n : Node) where
   not-left : (f : Form) (i enough z : ℕ) (is : Items) (x : Next) → _≡_ {A = Reading Items} Not (Got is z) → Follows f i enough z is x
   not-left f i enough z is x e = absurd (not-got (Got is z) (sym e) (got-from (Got is z) is z refl))
 
-  choice-turn : (w enough at z : ℕ) (is : Items) → left (choice w) 0 enough at ≡ Got is z → Follows (choice w) 0 enough z is (Child (leAt inp at w) (n .first + leAt inp at w) (at + w))
+  choice-turn : (w enough at z : ℕ) (is : Items) → left (variant-form w) 0 enough at ≡ Got is z → Follows (variant-form w) 0 enough z is (Child (leAt inp at w) (n .first + leAt inp at w) (at + w))
   unfolding left
   choice-turn w enough at z is e =
       let a = number-step is z inp w at _ e in
@@ -228,13 +228,13 @@ module _ (inp : List ℕ) (rec : Reader) (n : Node) where
         inside = omega (arith, b .0);
       })
 
-  series-turn : (w i enough at z : ℕ) (is : Items) → left (series w) i enough at ≡ Got is z → Follows (series w) i enough z is (nextOf inp (n .first) (n .children) (series w) i at)
+  series-turn : (w i enough at z : ℕ) (is : Items) → left (repeated-form w) i enough at ≡ Got is z → Follows (repeated-form w) i enough z is (nextOf inp (n .first) (n .children) (repeated-form w) i at)
   unfolding left pairsAt nextOf pick
   series-turn w i zero at z is e = not-left _ _ _ z is _ e
   series-turn w i (suc enough) at z is e = let a = number-step is z inp w at _ e in by (eqb (leAt inp at w) (endTag w)) (a .1)
     where
       by : (b : Bool) → pick b (Got done (at + w)) (childAt rec n (leAt inp at w) (at + w) >>= (λ (y : Value × ℕ). pairsAt inp rec n w enough (y .1) >>= (λ (x : Items × ℕ). Got (item (leAt inp at w) (y .0) (x .0)) (x .1)))) ≡ Got is z →
-          Follows (series w) i (suc enough) z is (pick b (End (at + w)) (Child (leAt inp at w) (n .first + leAt inp at w) (at + w)))
+          Follows (repeated-form w) i (suc enough) z is (pick b (End (at + w)) (Child (leAt inp at w) (n .first + leAt inp at w) (at + w)))
       by true g = ends {q = at + w} (cc) (cc)
       by false g =
           let b = child-step is z rec n (leAt inp at w) (at + w) _ g in
@@ -267,11 +267,11 @@ module _ (inp : List ℕ) (rec : Reader) (n : Node) where
       let b = step _ _ vs q (a .goes) in
       record { value = a .got; end = a .at; rest = b .got; reads = a .is; follows = (cc); first = (cc) }
 
-  fields-turn : (i enough at z : ℕ) (is : Items) → left fields i enough at ≡ Got is z → Follows fields i enough z is (nextOf inp (n .first) (n .children) fields i at)
+  fields-turn : (i enough at z : ℕ) (is : Items) → left tuple-form i enough at ≡ Got is z → Follows tuple-form i enough z is (nextOf inp (n .first) (n .children) tuple-form i at)
   unfolding left nextOf pick fieldsAt untagged _>>=_
   fields-turn i enough at z is e = by (ltb i (n .children)) refl
     where
-      by : (b : Bool) → ltb i (n .children) ≡ b → Follows fields i enough z is (pick b (Child 0 (n .first + i) at) (End at))
+      by : (b : Bool) → ltb i (n .children) ≡ b → Follows tuple-form i enough z is (pick b (Child 0 (n .first + i) at) (End at))
       by true h =
           let l = ltb-true i (n .children) h in
           let m : n .children - i ≡ suc (n .children - (i + 1)) = omega (arith, l) in
@@ -294,10 +294,10 @@ module _ (inp : List ℕ) (rec : Reader) (n : Node) where
 
   pub turn : (f : Form) (i enough at z : ℕ) (is : Items) → left f i enough at ≡ Got is z → Follows f i enough z is (nextOf inp (n .first) (n .children) f i at)
   unfolding left nextOf pick
-  turn (choice w) zero enough at z is e = choice-turn w enough at z is e
-  turn (choice w) (suc i) enough at z is e = rw (lt-ltb 0 (suc i) (omega arith)) (ends {q = at} (cc) (cc))
-  turn (series w) i enough at z is e = series-turn w i enough at z is e
-  turn fields i enough at z is e = fields-turn i enough at z is e
+  turn (variant-form w) zero enough at z is e = choice-turn w enough at z is e
+  turn (variant-form w) (suc i) enough at z is e = rw (lt-ltb 0 (suc i) (omega arith)) (ends {q = at} (cc) (cc))
+  turn (repeated-form w) i enough at z is e = series-turn w i enough at z is e
+  turn tuple-form i enough at z is e = fields-turn i enough at z is e
   turn empty i enough at z is e = not-left _ _ _ z is _ e
   turn truth i enough at z is e = not-left _ _ _ z is _ e
   turn (fixed w) i enough at z is e = not-left _ _ _ z is _ e
@@ -313,7 +313,7 @@ leaf-read sch inp d i at h g = read-step sch inp d i at g .1 ∙ leaf-reads inp 
 pub record Opened (sch inp : List ℕ) (d i at : ℕ) : Type 0 where
   pub deep : 0 < d
   pub known : nodeAt sch i .code < 20
-  pub begins : Start inp (readAt sch inp (d - 1)) (nodeAt sch i) (form (nodeAt sch i .code)) at (valueOf (readAt sch inp d i at)) (endOf (readAt sch inp d i at))
+  pub begins : Start inp (readAt sch inp (d - 1)) (nodeAt sch i) (form (nodeAt sch i .code)) at (valueRead (readAt sch inp d i at)) (endRead (readAt sch inp d i at))
 
 pub opened : (sch inp : List ℕ) (d i at : ℕ) → 14 < nodeAt sch i .code → IsGot (readAt sch inp d i at) → Opened sch inp d i at
 opened sch inp d i at h g =

@@ -9,20 +9,20 @@ use Rattle.rules.specs.Bytes.{over}
 use Rattle.rules.specs.Wire.{Form}
 use Rattle.rules.specs.Value.{Value, Items, done, items, tally, tallyI, recordsOf, payloadOf}
 use Rattle.rules.specs.ValueRecord.{valueRecordStart, valueRecord, layout, layouts}
-use Rattle.rules.specs.ValueTable.{pays, paysI, belowI, heads, flat}
-use Rattle.rules.specs.declared.Node.{Node}
+use Rattle.rules.specs.ValueTable.{payloadBytes, payloadBytesI, belowI, heads, flat}
+use Rattle.rules.specs.declared.table_record.Node.{Node}
 use Rattle.rules.proofs.Over.{length-over, over-none, over-at, over-front}
-use Rattle.values.proofs.Records.{length-layout, layouts-append}
-use Rattle.values.proofs.Sizes.{length-flat, length-pays, one-record, items-within}
-use Rattle.fill.specs.declared.Spot.{Spot}
+use Rattle.value_laws.proofs.Records.{length-layout, layouts-append}
+use Rattle.value_laws.proofs.Sizes.{length-flat, length-pays, one-record, items-within}
+use Rattle.fill.specs.declared.FillPos.{FillPos}
 use Rattle.fill.specs.declared.Next.{Next}
 use Rattle.fill.specs.declared.Next.the-variants.{Child, End}
-use Rattle.fill.specs.Plain.{Reading, Got, valueOf, endOf, Reader}
-use Rattle.fill.specs.Filling.{Room, past, Filled, nextOf}
+use Rattle.fill.specs.Plain.{Reading, Got, valueRead, endRead, Reader}
+use Rattle.fill.specs.Filling.{RoomToFill, pastFilled, Filled, nextOf}
 use Rattle.fill.proofs.Got.{got-from}
 use Rattle.fill.proofs.Children.{left, Parent, children, Turn, Follows, child, ends, turn}
 
-abbrev pub spot : ℕ → ℕ → ℕ → Spot
+abbrev pub spot : ℕ → ℕ → ℕ → FillPos
 spot at records payload = record { at = at; records = records; payload = payload }
 
 module _ (inp : List ℕ) (rec : Reader) (n : Node) where
@@ -32,7 +32,7 @@ module _ (inp : List ℕ) (rec : Reader) (n : Node) where
     pub rest : Items
     pub reads : left inp rec n f i enough at ≡ Got rest z
     pub records : over rs (valueRecordStart filled) (layouts (belowI rest paid)) ≡ over rs₀ (valueRecordStart (own + 1)) (layouts (belowI all paid₀))
-    pub payload : over ps paid (paysI rest) ≡ over ps₀ paid₀ (paysI all)
+    pub payload : over ps paid (payloadBytesI rest) ≡ over ps₀ paid₀ (payloadBytesI all)
     pub filling : filled + tallyI rest 1 0 0 ≡ (own + 1) + tallyI all 1 0 0
     pub paying : paid + tallyI rest 0 1 1 ≡ paid₀ + tallyI all 0 1 1
     pub counted : i + items rest ≡ items all
@@ -57,8 +57,8 @@ module _ {inp : List ℕ} {rec : Reader} {n : Node} {f : Form} {all : Items} {z 
     split = rw (t .first) (refl, (refl, refl))
 
     -- so there is room for it
-    pub child-room : valueRecordStart (own + (1 + tallyI all 1 0 0)) ≤ length rs₀ → paid₀ + tallyI all 0 1 1 ≤ length ps₀ → Room (rec c q) (spot q filled paid) (length rs) (length ps)
-    unfolding valueOf
+    pub child-room : valueRecordStart (own + (1 + tallyI all 1 0 0)) ≤ length rs₀ → paid₀ + tallyI all 0 1 1 ≤ length ps₀ → RoomToFill (rec c q) (spot q filled paid) (length rs) (length ps)
+    unfolding valueRead
     child-room a b = record {
       is = got-from _ _ _ (t .reads);
       records = rw (t .reads) (omega (arith, split .0, g .filling, g .same-records));
@@ -66,25 +66,25 @@ module _ {inp : List ℕ} {rec : Reader} {n : Node} {f : Form} {all : Items} {z 
     }
 
     -- and after it the loop goes on
-    module _ (s : Spot) (rs′ ps′ : List ℕ) (w : Filled (rec c q) tag (spot q filled paid) s rs rs′ ps ps′) where
+    module _ (s : FillPos) (rs′ ps′ : List ℕ) (w : Filled (rec c q) tag (spot q filled paid) s rs rs′ ps ps′) where
       at-end : s ≡ spot (t .end) (filled + recordsOf (t .value)) (paid + payloadOf (t .value))
-      unfolding past valueOf endOf
+      unfolding pastFilled valueRead endRead
       at-end = w .spot ∙ rw (t .reads)
 
-      pub fills-more : (m k : ℕ) → Room (rec c q) (spot q filled paid) m k → (filled < s .records) × (valueRecordStart (s .records) ≤ m)
-      unfolding valueOf
+      pub fills-more : (m k : ℕ) → RoomToFill (rec c q) (spot q filled paid) m k → (filled < s .records) × (valueRecordStart (s .records) ≤ m)
+      unfolding valueRead
       fills-more m k r =
           let h = rw (t .reads) at (r .records) in
           rw at-end (omega (arith, one-record (t .value)), h)
 
       pub going-next : Going inp rec n f all z own paid₀ rs₀ ps₀ rs′ ps′ (s .at) (s .records) (s .payload) (i + 1)
-      unfolding valueOf flat belowI heads pays
+      unfolding valueRead flat belowI heads payloadBytes
       going-next = rw at-end (record {
         enough = g .enough - 1;
         rest = t .rest;
         reads = t .follows;
         records = rw (w .records, t .reads, over-at (layouts (heads (t .value) tag paid)) (layouts (belowI (t .rest) (paid + payloadOf (t .value)))) rs (valueRecordStart filled) (valueRecordStart (filled + recordsOf (t .value))) (rw (length-flat (t .value) tag paid) (omega arith)), ← (layouts-append (heads (t .value) tag paid) (belowI (t .rest) (paid + payloadOf (t .value))))) (rw (t .first) at (g .records));
-        payload = rw (w .payload, t .reads, over-at (pays (t .value)) (paysI (t .rest)) ps paid (paid + payloadOf (t .value)) (rw (length-pays (t .value)))) (rw (t .first) at (g .payload));
+        payload = rw (w .payload, t .reads, over-at (payloadBytes (t .value)) (payloadBytesI (t .rest)) ps paid (paid + payloadOf (t .value)) (rw (length-pays (t .value)))) (rw (t .first) at (g .payload));
         filling = omega (arith, split .0, g .filling);
         paying = omega (arith, split .1 .0, g .paying);
         counted = omega (arith, split .1 .1, g .counted);
@@ -104,34 +104,34 @@ module _ {inp : List ℕ} {rec : Reader} {n : Node} {f : Form} {all : Items} {z 
   count-fits = omega (arith, g .counted, items-within all)
 
 -- and then the node's own record stands before theirs
-module _ {inp : List ℕ} {rec : Reader} {n : Node} {f : Form} {own paid₀ : ℕ} {rs₀ ps₀ rs ps : List ℕ} {at filled paid i : ℕ} (x : Reading Value) (g : Going inp rec n f (children (valueOf x)) (endOf x) own paid₀ rs₀ ps₀ rs ps at filled paid i) (none : g .rest ≡ done) where
-  all-records : rs ≡ over rs₀ (valueRecordStart (own + 1)) (layouts (belowI (children (valueOf x)) paid₀))
+module _ {inp : List ℕ} {rec : Reader} {n : Node} {f : Form} {own paid₀ : ℕ} {rs₀ ps₀ rs ps : List ℕ} {at filled paid i : ℕ} (x : Reading Value) (g : Going inp rec n f (children (valueRead x)) (endRead x) own paid₀ rs₀ ps₀ rs ps at filled paid i) (none : g .rest ≡ done) where
+  all-records : rs ≡ over rs₀ (valueRecordStart (own + 1)) (layouts (belowI (children (valueRead x)) paid₀))
   unfolding belowI layouts
   all-records = sym (over-none rs (valueRecordStart filled)) ∙ rw none at (g .records)
 
-  all-payload : ps ≡ over ps₀ paid₀ (paysI (children (valueOf x)))
-  unfolding pays
+  all-payload : ps ≡ over ps₀ paid₀ (payloadBytesI (children (valueRead x)))
+  unfolding payloadBytes
   all-payload = sym (over-none ps paid) ∙ rw none at (g .payload)
 
-  all-filled : filled ≡ own + (1 + tallyI (children (valueOf x)) 1 0 0)
+  all-filled : filled ≡ own + (1 + tallyI (children (valueRead x)) 1 0 0)
   unfolding tally
   all-filled = omega (arith, rw none at (g .filling))
 
-  all-paid : paid ≡ paid₀ + tallyI (children (valueOf x)) 0 1 1
+  all-paid : paid ≡ paid₀ + tallyI (children (valueRead x)) 0 1 1
   unfolding tally
   all-paid = omega (arith, rw none at (g .paying))
 
-  all-counted : i ≡ items (children (valueOf x))
+  all-counted : i ≡ items (children (valueRead x))
   unfolding items
   all-counted = omega (arith, rw none at (g .counted))
 
-  pub finish : (at₀ kind tag q : ℕ) (rs′ : List ℕ) → Parent kind (valueOf x) → endOf x ≡ q → rs′ ≡ over rs (valueRecordStart own) (layout (valueRecord kind tag i 0)) → Filled x tag (spot at₀ own paid₀) (spot q filled paid) rs₀ rs′ ps₀ ps
-  unfolding past flat layouts
+  pub finish : (at₀ kind tag q : ℕ) (rs′ : List ℕ) → Parent kind (valueRead x) → endRead x ≡ q → rs′ ≡ over rs (valueRecordStart own) (layout (valueRecord kind tag i 0)) → Filled x tag (spot at₀ own paid₀) (spot q filled paid) rs₀ rs′ ps₀ ps
+  unfolding pastFilled flat layouts
   finish at₀ kind tag q rs′ p e w =
-      let a = layout (valueRecord kind tag (items (children (valueOf x))) 0) in
+      let a = layout (valueRecord kind tag (items (children (valueRead x))) 0) in
       let m : valueRecordStart (own + 1) ≡ valueRecordStart own + length a = rw length-layout (omega arith) in
       record {
         spot = rw (e, p .records, p .payload, all-filled, all-paid);
-        records = w ∙ rw (p .table tag paid₀, all-counted, all-records, m) (over-front a (layouts (belowI (children (valueOf x)) paid₀)) rs₀ (valueRecordStart own));
+        records = w ∙ rw (p .table tag paid₀, all-counted, all-records, m) (over-front a (layouts (belowI (children (valueRead x)) paid₀)) rs₀ (valueRecordStart own));
         payload = rw (p .bytes) all-payload;
       }

@@ -13,8 +13,8 @@ use Rattle.rules.specs.Bytes.{leAt, part}
 use Rattle.rules.specs.Wire.{form}
 use Rattle.rules.specs.Block.{nodeAt}
 use Rattle.rules.specs.Value.{Value}
-use Rattle.rules.specs.declared.Node.{Node}
-use Rattle.fill.specs.Plain.{Reading, Got, Not, _>>=_, IsGot, valueOf, endOf, numberAt, bytesAt, Reader, childAt, byForm, readAt}
+use Rattle.rules.specs.declared.table_record.Node.{Node}
+use Rattle.fill.specs.Plain.{Reading, Got, Not, _>>=_, IsGot, valueRead, endRead, plainNumberAt, bytesAt, Reader, childAt, byForm, readAt}
 
 pub not-got : {A : Type 0} (x : Reading A) → x ≡ Not → IsGot x → ⊥
 unfolding IsGot
@@ -28,8 +28,8 @@ picked false a q k h = absurd h
 
 module _ {B : Type 0} (inp : List ℕ) where
   -- a number, and what follows it
-  pub number-got : (w at : ℕ) (k : ℕ × ℕ → Reading B) → IsGot (numberAt inp w at >>= k) → (w ≤ length inp - at) × ((numberAt inp w at >>= k) ≡ k (leAt inp at w, at + w))
-  unfolding numberAt
+  pub number-got : (w at : ℕ) (k : ℕ × ℕ → Reading B) → IsGot (plainNumberAt inp w at >>= k) → (w ≤ length inp - at) × ((plainNumberAt inp w at >>= k) ≡ k (leAt inp at w, at + w))
+  unfolding plainNumberAt
   number-got w at k h = let p = picked _ _ _ k h in (leb-true _ _ (p .0), p .1)
 
   -- bytes, and what follows them
@@ -43,8 +43,8 @@ pub got-from : {A : Type 0} (x : Reading A) (a : A) (q : ℕ) → x ≡ Got a q 
 unfolding IsGot
 got-from x a q e = rw e tt
 
-pub got-is : (x : Reading Value) → IsGot x → x ≡ Got (valueOf x) (endOf x)
-unfolding IsGot valueOf endOf
+pub got-is : (x : Reading Value) → IsGot x → x ≡ Got (valueRead x) (endRead x)
+unfolding IsGot valueRead endRead
 got-is (Got v q) h = refl
 got-is Not h = absurd h
 
@@ -61,7 +61,7 @@ step (Got a q) k b z e = record { got = a; at = q; is = refl; goes = e }
 step Not k b z e = absurd (not-got (Got b z) (sym e) (got-from (Got b z) b z refl))
 
 module _ {B : Type 0} (b : B) (z : ℕ) where
-  pub number-step : (inp : List ℕ) (w at : ℕ) (k : ℕ × ℕ → Reading B) → (numberAt inp w at >>= k) ≡ Got b z → (w ≤ length inp - at) × (k (leAt inp at w, at + w) ≡ Got b z)
+  pub number-step : (inp : List ℕ) (w at : ℕ) (k : ℕ × ℕ → Reading B) → (plainNumberAt inp w at >>= k) ≡ Got b z → (w ≤ length inp - at) × (k (leAt inp at w, at + w) ≡ Got b z)
   number-step inp w at k e = let g = number-got inp w at k (got-from _ b z e) in (g .0, sym (g .1) ∙ e)
 
   pub child-step : (rec : Reader) (n : Node) (tag at : ℕ) (k : Value × ℕ → Reading B) → (childAt rec n tag at >>= k) ≡ Got b z → (tag < n .children) × ((rec (n .first + tag) at >>= k) ≡ Got b z)

@@ -9,7 +9,7 @@ use borrow.Author.Tests.{lt-ltb, le-ltb}
 use lib.Dec.{eqb}
 use Rattle.rules.specs.Choice.{pick}
 use Rattle.rules.specs.Bytes.{leAt}
-use Rattle.rules.specs.Wire.{choice, series, form, widthOf, endTag}
+use Rattle.rules.specs.Wire.{variant-form, repeated-form, form, widthOf, endTag}
 use Rattle.fill.specs.declared.Next.the-variants.{Child, End}
 use Rattle.read.specs.Children.{shapeOf, endsAt}
 use Rattle.fill.specs.Filling.{tagBytes, nextOf}
@@ -53,7 +53,7 @@ module _ (inp : List ℕ) (first count code i at : ℕ) where
     pub next-choice : 14 < code → code < 17 → i ≤ 0 → Child tag (first + tag) (at + w) ≡ nextOf inp first count (form code) i at
     unfolding nextOf pick
     next-choice h l z =
-        let f : form code ≡ choice w = form-choice code h l ∙ ap choice (sym wide) in
+        let f : form code ≡ variant-form w = form-choice code h l ∙ ap variant-form (sym wide) in
         rw (f, le-ltb 0 i z, same-tag)
 
     -- a series has one unless the tag is the end
@@ -61,7 +61,7 @@ module _ (inp : List ℕ) (first count code i at : ℕ) where
       by-tag : nextOf inp first count (form code) i at ≡ pick b (End (at + w)) (Child tag (first + tag) (at + w))
       unfolding nextOf endsAt
       by-tag =
-          let f : form code ≡ series w = form-series code h l ∙ ap series (sym wide) in
+          let f : form code ≡ repeated-form w = form-series code h l ∙ ap repeated-form (sym wide) in
           let g : b ≡ eqb tag (endTag w) = rw wide (rw (shape-repeated code h l) at e) in
           rw (f, g, same-tag)
 

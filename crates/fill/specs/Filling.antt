@@ -7,48 +7,48 @@ use lib.ListN.{length}
 use lib.Dec.{ltb, eqb}
 use Rattle.rules.specs.Choice.{pick}
 use Rattle.rules.specs.Bytes.{leAt, over}
-use Rattle.rules.specs.Wire.{Form, empty, truth, fixed, raw, sized, choice, series, fields, unknown, endTag}
+use Rattle.rules.specs.Wire.{Form, empty, truth, fixed, raw, sized, variant-form, repeated-form, tuple-form, unknown, endTag}
 use Rattle.rules.specs.Block.{nodeSize, nodeAt, Closed}
 use Rattle.rules.specs.Value.{Value, recordsOf, payloadOf}
 use Rattle.rules.specs.ValueRecord.{valueRecordStart}
-use Rattle.rules.specs.ValueTable.{bit, pays, flat}
-use Rattle.fill.specs.Plain.{Reading, IsGot, valueOf, endOf, readAt}
-use Rattle.fill.specs.declared.Spot.{Spot}
+use Rattle.rules.specs.ValueTable.{bit, payloadBytes, flat}
+use Rattle.fill.specs.Plain.{Reading, IsGot, valueRead, endRead, readAt}
+use Rattle.fill.specs.declared.FillPos.{FillPos}
 use Rattle.fill.specs.declared.Next.{Next}
 use Rattle.fill.specs.declared.Next.the-variants.{Child, End}
 
 -- a value was read, and n bytes have room for its records and m for its payload, from a spot on
-pub record Room (x : Reading Value) (s : Spot) (n m : ℕ) : Type 0 where
+pub record RoomToFill (x : Reading Value) (s : FillPos) (n m : ℕ) : Type 0 where
   pub is : IsGot x
-  pub records : valueRecordStart (s .records + recordsOf (valueOf x)) ≤ n
-  pub payload : s .payload + payloadOf (valueOf x) ≤ m
+  pub records : valueRecordStart (s .records + recordsOf (valueRead x)) ≤ n
+  pub payload : s .payload + payloadOf (valueRead x) ≤ m
 
 -- a place of the input, and the starts of both slices
-abbrev pub start : ℕ → Spot
-start at = record { at = at; records = 0; payload = 0 }
+abbrev pub fillStart : ℕ → FillPos
+fillStart at = record { at = at; records = 0; payload = 0 }
 
 -- where the value leaves off
-unfoldable pub past : Reading Value → Spot → Spot
-past x s = record { at = endOf x; records = s .records + recordsOf (valueOf x); payload = s .payload + payloadOf (valueOf x) }
+unfoldable pub pastFilled : Reading Value → FillPos → FillPos
+pastFilled x s = record { at = endRead x; records = s .records + recordsOf (valueRead x); payload = s .payload + payloadOf (valueRead x) }
 
 -- the value's table stands from a spot on, under the tag by which its parent chose it, over what stood there; q is past it
-pub record Filled (x : Reading Value) (tag : ℕ) (s q : Spot) (rs rs′ ps ps′ : List ℕ) : Type 0 where
-  pub spot : q ≡ past x s
-  pub records : rs′ ≡ over rs (valueRecordStart (s .records)) (flat (valueOf x) tag (s .payload))
-  pub payload : ps′ ≡ over ps (s .payload) (pays (valueOf x))
+pub record Filled (x : Reading Value) (tag : ℕ) (s q : FillPos) (rs rs′ ps ps′ : List ℕ) : Type 0 where
+  pub spot : q ≡ pastFilled x s
+  pub records : rs′ ≡ over rs (valueRecordStart (s .records)) (flat (valueRead x) tag (s .payload))
+  pub payload : ps′ ≡ over ps (s .payload) (payloadBytes (valueRead x))
 
 -- ---- a row
 
 -- the value of a table's root from a place on
 abbrev pub rowValue : List ℕ → List ℕ → ℕ → Value
-rowValue sch inp at = valueOf (readAt sch inp 64 0 at)
+rowValue sch inp at = valueRead (readAt sch inp 64 0 at)
 
 -- the root has children, all of them in the block, and it was read, and there is room
 pub record Fillable (sch inp : List ℕ) (at n m : ℕ) : Type 0 where
   pub closed : Closed sch
   pub root : nodeSize ≤ length sch
   pub compound : 14 < nodeAt sch 0 .code
-  pub room : Room (readAt sch inp 64 0 at) (start at) n m
+  pub room : RoomToFill (readAt sch inp 64 0 at) (fillStart at) n m
 
 -- ---- steps
 
@@ -58,27 +58,27 @@ scalarOf inp code w at = pick (eqb code 1) (bit (ltb 0 (leAt inp at w))) (leAt i
 
 -- how many bytes the tag of the child after i others has
 unfoldable pub tagBytes : Form → ℕ → ℕ
-tagBytes (choice w) zero = w
-tagBytes (choice w) (suc i) = 0
-tagBytes (series w) i = w
+tagBytes (variant-form w) zero = w
+tagBytes (variant-form w) (suc i) = 0
+tagBytes (repeated-form w) i = w
 tagBytes empty i = 0
 tagBytes truth i = 0
 tagBytes (fixed w) i = 0
 tagBytes (raw w) i = 0
 tagBytes sized i = 0
-tagBytes fields i = 0
+tagBytes tuple-form i = 0
 tagBytes unknown i = 0
 
 module _ (inp : List ℕ) (first count : ℕ) where
   -- the child that the tag of w bytes names
-  abbrev pub tagged : ℕ → ℕ → Next
-  tagged w at = Child (leAt inp at w) (first + leAt inp at w) (at + w)
+  abbrev pub taggedChild : ℕ → ℕ → Next
+  taggedChild w at = Child (leAt inp at w) (first + leAt inp at w) (at + w)
 
   -- the child after i others
   unfoldable pub nextOf : Form → ℕ → ℕ → Next
-  nextOf (choice w) i at = pick (ltb 0 i) (End at) (tagged w at)
-  nextOf (series w) i at = pick (eqb (leAt inp at w) (endTag w)) (End (at + w)) (tagged w at)
-  nextOf fields i at = pick (ltb i count) (Child 0 (first + i) at) (End at)
+  nextOf (variant-form w) i at = pick (ltb 0 i) (End at) (taggedChild w at)
+  nextOf (repeated-form w) i at = pick (eqb (leAt inp at w) (endTag w)) (End (at + w)) (taggedChild w at)
+  nextOf tuple-form i at = pick (ltb i count) (Child 0 (first + i) at) (End at)
   nextOf empty i at = End at
   nextOf truth i at = End at
   nextOf (fixed w) i at = End at

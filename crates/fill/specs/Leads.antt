@@ -6,23 +6,23 @@ use mathlib.Core.List.{List}
 use Rattle.rules.specs.Wire.{form}
 use Rattle.rules.specs.Value.{Value, recordsOf}
 use Rattle.rules.specs.ValueRecord.{valueRecordStart}
-use Rattle.fill.specs.Plain.{Reading, IsGot, valueOf, leafAt}
-use Rattle.fill.specs.Filling.{Room, Filled}
-use Rattle.fill.specs.declared.Spot.{Spot}
-use Rattle.fill.specs.declared.Reached.{Reached}
-use Rattle.fill.specs.declared.Reached.the-variants.{Leaf, Children}
+use Rattle.fill.specs.Plain.{Reading, IsGot, valueRead, leafAt}
+use Rattle.fill.specs.Filling.{RoomToFill, Filled}
+use Rattle.fill.specs.declared.FillPos.{FillPos}
+use Rattle.fill.specs.declared.ToFill.{ToFill}
+use Rattle.fill.specs.declared.ToFill.the-variants.{Leaf, Children}
 
 -- a value was read, and n bytes have room for its records, from a spot on
-pub record Held (x : Reading Value) (s : Spot) (n : ℕ) : Type 0 where
+pub record Held (x : Reading Value) (s : FillPos) (n : ℕ) : Type 0 where
   pub is : IsGot x
-  pub records : valueRecordStart (s .records + recordsOf (valueOf x)) ≤ n
+  pub records : valueRecordStart (s .records + recordsOf (valueRead x)) ≤ n
 
 -- y, from a spot q on under tag t, is all that is left to fill of x, from s on under `tag`: rs stood there, and rs′ stands there now
-pub record Rest (x : Reading Value) (tag : ℕ) (s : Spot) (rs : List ℕ) (y : Reading Value) (t : ℕ) (q : Spot) (rs′ : List ℕ) : Type 0 where
-  pub room : (n m : ℕ) → Room x s n m → Room y q n m
-  pub fills : (r : Spot) (rs″ ps ps′ : List ℕ) → Filled y t q r rs′ rs″ ps ps′ → Filled x tag s r rs rs″ ps ps′
+pub record Rest (x : Reading Value) (tag : ℕ) (s : FillPos) (rs : List ℕ) (y : Reading Value) (t : ℕ) (q : FillPos) (rs′ : List ℕ) : Type 0 where
+  pub room : (n m : ℕ) → RoomToFill x s n m → RoomToFill y q n m
+  pub fills : (r : FillPos) (rs″ ps ps′ : List ℕ) → Filled y t q r rs′ rs″ ps ps′ → Filled x tag s r rs rs″ ps ps′
 
 -- a leaf that is all that is left, or a node with children, of which nothing is written yet
-unfoldable pub Leads : Reading Value → List ℕ → ℕ → ℕ → Spot → List ℕ → List ℕ → Reached → Type 0
-Leads x inp code tag s rs rs′ (Leaf c t q) = (c < 15) × Rest x tag s rs (leafAt inp c (form c) (q .at)) t q rs′
-Leads x inp code tag s rs rs′ Children = (14 < code) × (rs′ ≡ rs)
+unfoldable pub LeadsToFill : Reading Value → List ℕ → ℕ → ℕ → FillPos → List ℕ → List ℕ → ToFill → Type 0
+LeadsToFill x inp code tag s rs rs′ (Leaf c t q) = (c < 15) × Rest x tag s rs (leafAt inp c (form c) (q .at)) t q rs′
+LeadsToFill x inp code tag s rs rs′ Children = (14 < code) × (rs′ ≡ rs)

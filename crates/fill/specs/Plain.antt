@@ -7,10 +7,10 @@ use lib.ListN.{length}
 use lib.Dec.{ltb, leb, eqb}
 use Rattle.rules.specs.Choice.{pick}
 use Rattle.rules.specs.Bytes.{leAt, part}
-use Rattle.rules.specs.Wire.{Form, empty, truth, fixed, raw, sized, choice, series, fields, unknown, form, endTag}
+use Rattle.rules.specs.Wire.{Form, empty, truth, fixed, raw, sized, variant-form, repeated-form, tuple-form, unknown, form, endTag}
 use Rattle.rules.specs.Block.{nodeAt}
 use Rattle.rules.specs.Value.{Value, nothing, boolean, number, wide, blob, variant, repeated, tuple, Items, done, item, Values, none, more}
-use Rattle.rules.specs.declared.Node.{Node}
+use Rattle.rules.specs.declared.table_record.Node.{Node}
 
 -- something read and the place after it, or nothing
 pub data Reading (A : Type 0) : Type 0 where
@@ -28,17 +28,17 @@ IsGot (Got a q) = Unit
 IsGot Not = ⊥
 
 -- the value that was read, and the place after it
-unfoldable pub valueOf : Reading Value → Value
-valueOf (Got v q) = v
-valueOf Not = nothing
+unfoldable pub valueRead : Reading Value → Value
+valueRead (Got v q) = v
+valueRead Not = nothing
 
-unfoldable pub endOf : Reading Value → ℕ
-endOf (Got v q) = q
-endOf Not = 0
+unfoldable pub endRead : Reading Value → ℕ
+endRead (Got v q) = q
+endRead Not = 0
 
 -- a number in w bytes
-unfoldable pub numberAt : List ℕ → ℕ → ℕ → Reading ℕ
-numberAt inp w at = pick (leb w (length inp - at)) (Got (leAt inp at w) (at + w)) Not
+unfoldable pub plainNumberAt : List ℕ → ℕ → ℕ → Reading ℕ
+plainNumberAt inp w at = pick (leb w (length inp - at)) (Got (leAt inp at w) (at + w)) Not
 
 -- n bytes
 unfoldable pub bytesAt : List ℕ → ℕ → ℕ → Reading (List ℕ)
@@ -48,21 +48,21 @@ bytesAt inp n at = pick (leb n (length inp - at)) (Got (part inp at n) (at + n))
 unfoldable pub leafAt : List ℕ → ℕ → Form → ℕ → Reading Value
 leafAt inp code empty at = Got nothing at
 leafAt inp code truth at = do
-  (x, q) ← numberAt inp 1 at
+  (x, q) ← plainNumberAt inp 1 at
   Got (boolean (ltb 0 x)) q
 leafAt inp code (fixed w) at = do
-  (x, q) ← numberAt inp w at
+  (x, q) ← plainNumberAt inp w at
   Got (number code x) q
 leafAt inp code (raw w) at = do
   (b, q) ← bytesAt inp w at
   Got (wide code b) q
 leafAt inp code sized at = do
-  (n, q) ← numberAt inp 4 at
+  (n, q) ← plainNumberAt inp 4 at
   (b, r) ← bytesAt inp n q
   Got (blob code b) r
-leafAt inp code (choice w) at = Not
-leafAt inp code (series w) at = Not
-leafAt inp code fields at = Not
+leafAt inp code (variant-form w) at = Not
+leafAt inp code (repeated-form w) at = Not
+leafAt inp code tuple-form at = Not
 leafAt inp code unknown at = Not
 
 -- how a child is read: by its index in the block, from a place
@@ -77,7 +77,7 @@ childAt rec n tag at = pick (ltb tag (n .children)) (rec (n .first + tag) at) No
 unfoldable pub pairsAt : List ℕ → Reader → Node → ℕ → ℕ → ℕ → Reading Items
 pairsAt inp rec n w zero at = Not
 pairsAt inp rec n w (suc enough) at = do
-  (tag, q) ← numberAt inp w at
+  (tag, q) ← plainNumberAt inp w at
   pick (eqb tag (endTag w)) (Got done q)
       (do
         (v, r) ← childAt rec n tag q
@@ -94,14 +94,14 @@ fieldsAt rec i (suc children) at = do
 
 -- a node, by the form of its code
 unfoldable pub byForm : List ℕ → Reader → Node → Form → ℕ → Reading Value
-byForm inp rec n (choice w) at = do
-  (tag, q) ← numberAt inp w at
+byForm inp rec n (variant-form w) at = do
+  (tag, q) ← plainNumberAt inp w at
   (v, r) ← childAt rec n tag q
   Got (variant tag v) r
-byForm inp rec n (series w) at = do
+byForm inp rec n (repeated-form w) at = do
   (is, q) ← pairsAt inp rec n w (suc (length inp - at)) at
   Got (repeated is) q
-byForm inp rec n fields at = do
+byForm inp rec n tuple-form at = do
   (vs, q) ← fieldsAt rec (n .first) (n .children) at
   Got (tuple vs) q
 byForm inp rec n empty at = leafAt inp (n .code) empty at

@@ -9,11 +9,11 @@ ghost use Rattle.rules.specs.Bytes.{leAt, part, over};
 ghost use Rattle.rules.specs.Wire.{form, widthOf};
 ghost use Rattle.rules.specs.Block.{nodeStart, NodeIn, nodeAt, Closed};
 ghost use Rattle.rules.specs.ValueRecord.{valueRecordStart, ValueRecordIn, valueRecord, layout};
-ghost use Rattle.rules.specs.ValueTable.{bit, pays, flat};
+ghost use Rattle.rules.specs.ValueTable.{bit, payloadBytes, flat};
 ghost use Rattle.rules.specs.Writing.{kindFor};
 ghost use Rattle.fill.specs.Plain.{leafAt, readAt};
-ghost use Rattle.fill.specs.Filling.{Room, Filled, Fillable, rowValue, scalarOf, tagBytes, nextOf};
-ghost use Rattle.fill.specs.Leads.{Held, Leads};
+ghost use Rattle.fill.specs.Filling.{RoomToFill, Filled, Fillable, rowValue, scalarOf, tagBytes, nextOf};
+ghost use Rattle.fill.specs.Leads.{Held, LeadsToFill};
 use payload::copy;
 use read::fields::ends;
 use record::node::node_children;
@@ -28,7 +28,7 @@ use wire::u32_at;
 use wire::wide;
 
 // Where the walk stands: the next byte of the input, the next record, the next payload byte.
-pub struct Spot {
+pub struct FillPos {
     pub at: usize,
     pub records: usize,
     pub payload: usize,
@@ -43,7 +43,7 @@ pub enum Next {
 // ---- nodes without children
 
 // A boolean's byte as it is stored.
-fn truth(x: u64) -> u64
+fn stored_boolean(x: u64) -> u64
     ensures { λ r. ⌜ r ≡ bit (ltb 0 x) ⌝ }
 {
     if x == 0 { 0 } else { 1 }
@@ -60,7 +60,7 @@ fn scalar_at(code: u8, input: &[u8], at: usize, width: usize) -> u64
     }
     let x = field(input, at, width);
     if code == 1 {
-        return truth(x);
+        return stored_boolean(x);
     }
     x
 }
@@ -72,10 +72,10 @@ fn fill_bytes(
     from: usize,
     n: usize,
     tag: u64,
-    s: Spot,
+    s: FillPos,
     records: &mut [u8],
     payload: &mut [u8],
-) -> Spot
+) -> FillPos
     requires { ⌜ (from + n ≤ length (now input)) × ValueRecordIn (s .records) (length (now records)) × (s .payload + n ≤ length (now payload)) ⌝ }
     ensures spot { λ r. ⌜ r ≡ record { at = from + n; records = s .records + 1; payload = s .payload + n } ⌝ }
     ensures records { λ _. ⌜ now (records .exit) ≡ over (now (records .entry)) (valueRecordStart (s .records)) (layout (valueRecord code tag n (s .payload))) ⌝ }
@@ -85,7 +85,7 @@ fn fill_bytes(
     let to = s.payload;
     put_record(records, i, code, tag, n as u64, to as u64);
     copy(input, from, n, payload, to);
-    Spot {
+    FillPos {
         at: from + n,
         records: i + 1,
         payload: to + n,
@@ -97,11 +97,11 @@ fn fill_leaf(
     code: u8,
     input: &[u8],
     tag: u64,
-    s: Spot,
+    s: FillPos,
     records: &mut [u8],
     payload: &mut [u8],
-) -> Spot
-    requires { ⌜ (code < 15) × Room (leafAt (now input) code (form code) (s .at)) s (length (now records)) (length (now payload)) ⌝ }
+) -> FillPos
+    requires { ⌜ (code < 15) × RoomToFill (leafAt (now input) code (form code) (s .at)) s (length (now records)) (length (now payload)) ⌝ }
     ensures { λ r. ⌜ Filled (leafAt (now (input .entry)) code (form code) (s .at)) tag s r (now (records .entry)) (now (records .exit)) (now (payload .entry)) (now (payload .exit)) ⌝ }
 {
     let at = s.at;
@@ -115,7 +115,7 @@ fn fill_leaf(
     }
     let i = s.records;
     put_record(records, i, code, tag, 0, scalar_at(code, input, at, width));
-    Spot {
+    FillPos {
         at: at + width,
         records: i + 1,
         payload: s.payload,
@@ -161,10 +161,10 @@ fn next_child(code: u8, first: usize, count: usize, input: &[u8], i: usize, at: 
 }
 
 // The same records and payload, at another place of the input.
-fn moved(s: Spot, at: usize) -> Spot
+fn fill_pos_at(s: FillPos, at: usize) -> FillPos
     ensures { λ r. ⌜ r ≡ record { at = at; records = s .records; payload = s .payload } ⌝ }
 {
-    Spot {
+    FillPos {
         at,
         records: s.records,
         payload: s.payload,
@@ -192,18 +192,18 @@ fn fill_children(
     depth: usize,
     input: &[u8],
     tag: u64,
-    s: Spot,
+    s: FillPos,
     records: &mut [u8],
     payload: &mut [u8],
-) -> Spot
-    requires { ⌜ Closed (now block) × NodeIn node (length (now block)) × (14 < nodeAt (now block) node .code) × Room (readAt (now block) (now input) depth node (s .at)) s (length (now records)) (length (now payload)) ⌝ }
+) -> FillPos
+    requires { ⌜ Closed (now block) × NodeIn node (length (now block)) × (14 < nodeAt (now block) node .code) × RoomToFill (readAt (now block) (now input) depth node (s .at)) s (length (now records)) (length (now payload)) ⌝ }
     ensures { λ r. ⌜ Filled (readAt (now (block .entry)) (now (input .entry)) depth node (s .at)) tag s r (now (records .entry)) (now (records .exit)) (now (payload .entry)) (now (payload .exit)) ⌝ }
 {
     let code = node_code(block, node);
     let first = node_first(block, node) as usize;
     let count = node_children(block, node) as usize;
     let own = s.records;
-    let mut q = Spot {
+    let mut q = FillPos {
         at: s.at,
         records: own + 1,
         payload: s.payload,
@@ -214,21 +214,21 @@ fn fill_children(
         let next = next_child(code, first, count, input, n, at);
         match next {
             Next::Child(bears, child, start) => {
-                let p = moved(q, start);
+                let p = fill_pos_at(q, start);
                 q = fill_value(block, child, depth - 1, input, bears, p, records, payload);
                 n += 1;
             }
             Next::End(end) => {
                 put_record(records, own, kind_of(code), tag, n as u64, 0);
-                return moved(q, end);
+                return fill_pos_at(q, end);
             }
         }
     }
 }
 
 // What a node comes to at once: a leaf of this code, under this tag, from this spot on; or children.
-pub enum Reached {
-    Leaf(u8, u64, Spot),
+pub enum ToFill {
+    Leaf(u8, u64, FillPos),
     Children,
 }
 
@@ -241,17 +241,17 @@ fn leaf_at(
     depth: usize,
     input: &[u8],
     tag: u64,
-    s: Spot,
+    s: FillPos,
     records: &mut [u8],
-) -> Reached
+) -> ToFill
     requires { ⌜ Closed (now block) × NodeIn node (length (now block)) × (code ≡ nodeAt (now block) node .code) × Held (readAt (now block) (now input) depth node (s .at)) s (length (now records)) ⌝ }
-    ensures { λ r. ⌜ Leads (readAt (now (block .entry)) (now (input .entry)) depth node (s .at)) (now (input .entry)) code tag s (now (records .entry)) (now (records .exit)) r ⌝ }
+    ensures { λ r. ⌜ LeadsToFill (readAt (now (block .entry)) (now (input .entry)) depth node (s .at)) (now (input .entry)) code tag s (now (records .entry)) (now (records .exit)) r ⌝ }
 {
     if code < 15 {
-        return Reached::Leaf(code, tag, s);
+        return ToFill::Leaf(code, tag, s);
     }
     if 16 < code {
-        return Reached::Children;
+        return ToFill::Children;
     }
     let at = s.at;
     let bears = tag_at(code, input, at);
@@ -259,14 +259,14 @@ fn leaf_at(
     let child = (first + bears) as usize;
     let below = node_code(block, child);
     if 14 < below {
-        return Reached::Children;
+        return ToFill::Children;
     }
     let own = s.records;
     put_record(records, own, 15, tag, 1, 0);
-    Reached::Leaf(
+    ToFill::Leaf(
         below,
         bears,
-        Spot {
+        FillPos {
             at: at + tag_width(code),
             records: own + 1,
             payload: s.payload,
@@ -281,20 +281,20 @@ fn fill_value(
     depth: usize,
     input: &[u8],
     tag: u64,
-    s: Spot,
+    s: FillPos,
     records: &mut [u8],
     payload: &mut [u8],
-) -> Spot
-    requires { ⌜ Closed (now block) × NodeIn node (length (now block)) × Room (readAt (now block) (now input) depth node (s .at)) s (length (now records)) (length (now payload)) ⌝ }
+) -> FillPos
+    requires { ⌜ Closed (now block) × NodeIn node (length (now block)) × RoomToFill (readAt (now block) (now input) depth node (s .at)) s (length (now records)) (length (now payload)) ⌝ }
     ensures { λ r. ⌜ Filled (readAt (now (block .entry)) (now (input .entry)) depth node (s .at)) tag s r (now (records .entry)) (now (records .exit)) (now (payload .entry)) (now (payload .exit)) ⌝ }
 {
     let code = node_code(block, node);
     let reached = leaf_at(block, node, code, depth, input, tag, s, records);
     match reached {
-        Reached::Leaf(below, bears, from) => {
+        ToFill::Leaf(below, bears, from) => {
             fill_leaf(below, input, bears, from, records, payload)
         }
-        Reached::Children => {
+        ToFill::Children => {
             // What a call lends has to lie in memory: copied here, so that a leaf is spared that.
             let nodes = block;
             let bytes = input;
@@ -308,9 +308,9 @@ fn fill_value(
 pub fn fill_row(block: &[u8], input: &[u8], at: usize, records: &mut [u8], payload: &mut [u8])
     requires { ⌜ Fillable (now block) (now input) at (length (now records)) (length (now payload)) ⌝ }
     ensures records { λ _. ⌜ now (records .exit) ≡ over (now (records .entry)) 0 (flat (rowValue (now (block .entry)) (now (input .entry)) at) 0 0) ⌝ }
-    ensures payload { λ _. ⌜ now (payload .exit) ≡ over (now (payload .entry)) 0 (pays (rowValue (now (block .entry)) (now (input .entry)) at)) ⌝ }
+    ensures payload { λ _. ⌜ now (payload .exit) ≡ over (now (payload .entry)) 0 (payloadBytes (rowValue (now (block .entry)) (now (input .entry)) at)) ⌝ }
 {
-    let s = Spot {
+    let s = FillPos {
         at,
         records: 0,
         payload: 0,

@@ -7,7 +7,7 @@ use lib.ListN.{length}
 use Rattle.rules.specs.Bytes.{over}
 use Rattle.rules.specs.Names.{ascii}
 use Rattle.rules.specs.Lines.{decimal, word, labelsOf, carried}
-use Rattle.rules.specs.declared.RefusalLine.{RefusalLine}
+use Rattle.rules.specs.declared.refusal.RefusalLine.{RefusalLine}
 
 -- a buffer that held s₀ holds s, which is s₀ with a text over it from place `at` on, and the text ends at `end`
 pub record Put (s₀ : List ℕ) (at : ℕ) (text : List ℕ) (s : List ℕ) (end : ℕ) : Type 0 where

@@ -7,14 +7,14 @@ use native.Mathlib.Omega.{arith}
 use lib.ListN.{getD}
 use Rattle.rules.specs.Refusals.{lineOf}
 use Rattle.rules.specs.Answers.{Said, said, noneSaid, rowSaid, readSaid, stopSaid, writtenSaid, checkedSaid}
-use Rattle.rules.specs.declared.Refusal.{Refusal}
-use Rattle.rules.specs.declared.Why.{Why}
-use Rattle.rules.specs.declared.Why.the-variants as why
-use Rattle.rules.specs.declared.Checked.{Checked}
-use Rattle.rules.specs.declared.Extent.{Extent}
-use Rattle.rules.specs.declared.Read.{Read}
-use Rattle.rules.specs.declared.Stop.{Stop}
-use Rattle.rules.specs.declared.Written.{Written}
+use Rattle.rules.specs.declared.refusal.Refusal.{Refusal}
+use Rattle.rules.specs.declared.refusal.Why.{Why}
+use Rattle.rules.specs.declared.refusal.Why.the-variants as why
+use Rattle.rules.specs.declared.answer.Checked.{Checked}
+use Rattle.rules.specs.declared.answer.Extent.{Extent}
+use Rattle.rules.specs.declared.answer.Read.{Read}
+use Rattle.rules.specs.declared.answer.Stop.{Stop}
+use Rattle.rules.specs.declared.answer.Written.{Written}
 use Rattle.rules.proofs.Answers.{refusal-number, one-row}
 
 -- the reasons in the order of their numbers, with three values

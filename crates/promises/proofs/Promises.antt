@@ -15,7 +15,7 @@ use Rattle.rules.specs.SchemaRules.{schemaRule, ruleAt, firstOf, preorder}
 use Rattle.rules.specs.Format.{Format, tables, tableSchema, formatRule, formatRules, schemaAnswer, encoderRule}
 use Rattle.rules.specs.Good.{GoodSchema, GoodTable, GoodFormat, TableSchema}
 use Rattle.rules.specs.Value.{Value}
-use Rattle.rules.specs.ValueTable.{TableOf, Whole, ends, tableValue}
+use Rattle.rules.specs.ValueTable.{TableOf, Whole, tableEnd, tableValue}
 use Rattle.rules.specs.Grammar.{Row}
 use Rattle.rules.specs.Walk.{Limits, Pos, Got, Refused}
 use Rattle.rules.specs.Reading.{limits, rowAt, schemaOf, Accepts, skipRule, roomTest, untouched, decodeRule, NoRow, LeavesRow, runRule, Iterated, byteCount, ranOf}
@@ -24,34 +24,34 @@ use Rattle.rules.specs.Windows.{movedAnswer, WasCut, goesOn, continued, added, 
 use Rattle.rules.specs.Writing.{encodeRule, encodeFrom}
 use Rattle.rules.specs.RoundTrip.{EncodeAsked, Encodable, encodedInto, EncodeRefuses, ReadAsked, decodedAs}
 use Rattle.rules.specs.Rows.{outcome, lines, outcomes}
-use Rattle.rules.specs.declared.Settings.{Settings}
-use Rattle.rules.specs.declared.Refusal.{Refusal}
-use Rattle.rules.specs.declared.Located.the-variants.{Block}
-use Rattle.rules.specs.declared.Checked.{Checked}
-use Rattle.rules.specs.declared.Checked.the-variants.{Accepted}
-use Rattle.rules.specs.declared.Extent.{Extent}
-use Rattle.rules.specs.declared.Read.{Read}
-use Rattle.rules.specs.declared.Stop.{Stop}
-use Rattle.rules.specs.declared.Written.{Written}
+use Rattle.rules.specs.declared.settings.Settings.{Settings}
+use Rattle.rules.specs.declared.refusal.Refusal.{Refusal}
+use Rattle.rules.specs.declared.table_record.Located.the-variants.{Block}
+use Rattle.rules.specs.declared.answer.Checked.{Checked}
+use Rattle.rules.specs.declared.answer.Checked.the-variants.{Accepted}
+use Rattle.rules.specs.declared.answer.Extent.{Extent}
+use Rattle.rules.specs.declared.answer.Read.{Read}
+use Rattle.rules.specs.declared.answer.Stop.{Stop}
+use Rattle.rules.specs.declared.answer.Written.{Written}
 use Rattle.rules.proofs.Rows.{rows-hold}
 use Rattle.rules.proofs.Answers.{check-number}
-use Rattle.blocks.proofs.Form.{formed}
-use Rattle.blocks.proofs.Levels.{block-denotes, deep-shallow}
-use Rattle.blocks.proofs.Trees.{denotes-one}
-use Rattle.blocks.proofs.Reached.{all-reached}
-use Rattle.blocks.proofs.Rules.{first-refusal}
-use Rattle.blocks.proofs.Good.{schema-accepts, encoder-accepts}
-use Rattle.blocks.proofs.Formats.{format-accepts}
-use Rattle.blocks.proofs.Tables.{table-schema}
-use Rattle.rows.proofs.Only.{unambiguous}
-use Rattle.rows.proofs.TableRows.{row-agrees}
-use Rattle.rows.proofs.RowReasons.{row-reasons, one-reason, row-judged}
-use Rattle.rows.proofs.Decoding.{decode-tested}
-use Rattle.rows.proofs.Running.{run-iterated, run-stops}
-use Rattle.rows.proofs.Parts.{row-stays, row-moves}
-use Rattle.rows.proofs.Windows as windows
-use Rattle.values.proofs.Flat.{one-value}
-use Rattle.values.proofs.Flat as values
+use Rattle.block_laws.proofs.Form.{formed}
+use Rattle.block_laws.proofs.Levels.{block-denotes, deep-shallow}
+use Rattle.block_laws.proofs.Trees.{denotes-one}
+use Rattle.block_laws.proofs.Reached.{all-reached}
+use Rattle.block_laws.proofs.Rules.{first-refusal}
+use Rattle.block_laws.proofs.Good.{schema-accepts, encoder-accepts}
+use Rattle.block_laws.proofs.Formats.{format-accepts}
+use Rattle.block_laws.proofs.Tables.{table-schema}
+use Rattle.row_laws.proofs.Only.{unambiguous}
+use Rattle.row_laws.proofs.TableRows.{row-agrees}
+use Rattle.row_laws.proofs.RowReasons.{row-reasons, one-reason, row-judged}
+use Rattle.row_laws.proofs.Decoding.{decode-tested}
+use Rattle.row_laws.proofs.Running.{run-iterated, run-stops}
+use Rattle.row_laws.proofs.Parts.{row-stays, row-moves}
+use Rattle.row_laws.proofs.Windows as windows
+use Rattle.value_laws.proofs.Flat.{one-value}
+use Rattle.value_laws.proofs.Flat as values
 use Rattle.promises.proofs.Apart.{refusals-apart, reads-apart, stops-apart, writings-apart, checks-apart}
 use Rattle.promises.proofs.Tables.{table-encodes, decoded-row, decoded-none}
 use Rattle.promises.proofs.RoundTrip.{encoded-when, encoded-as, refused-leaves, refused-in-order, reads-back}
@@ -181,7 +181,7 @@ pub run-after-counts : (f : Format) (s : Settings) (inp more : List ℕ) → Byt
 run-after-counts = windows.run-after
 
 -- ---- value tables: records and payload are the table of one value at most, and the rule finds it
-pub value-tables : (r y : List ℕ) (v : Value) → length r ≤ 4294967295 → (tableValue r y ≡ Whole v (ends r y)) ↔ TableOf v r y
+pub value-tables : (r y : List ℕ) (v : Value) → length r ≤ 4294967295 → (tableValue r y ≡ Whole v (tableEnd r y)) ↔ TableOf v r y
 value-tables = values.tables
 
 pub one-value-for-tables : (r y : List ℕ) (v w : Value) → length r ≤ 4294967295 → TableOf v r y → TableOf w r y → v ≡ w

@@ -24,22 +24,22 @@ use Rattle.rules.specs.Reading.{limits, start, schemaOf, Accepts, extent, whenA
 use Rattle.rules.specs.Answers.{Said, said, rowSaid, writtenSaid}
 use Rattle.rules.specs.Writing.{Wrote, Put, writeRow, Encoded, unwritten, placed, encodeValue, encodeOk, encodeRule, encodeFrom}
 use Rattle.rules.specs.RoundTrip.{EncodeAsked, Encodable, encodedInto, EncodeRefuses, by-setting, by-schema, by-table, by-row, by-room, ReadAsked, decodedAs}
-use Rattle.rules.specs.declared.Settings.{Settings}
-use Rattle.rules.specs.declared.Refusal.{Refusal}
-use Rattle.rules.specs.declared.Checked.{Checked}
-use Rattle.rules.specs.declared.Extent.{Extent}
-use Rattle.rules.specs.declared.Written.{Written}
+use Rattle.rules.specs.declared.settings.Settings.{Settings}
+use Rattle.rules.specs.declared.refusal.Refusal.{Refusal}
+use Rattle.rules.specs.declared.answer.Checked.{Checked}
+use Rattle.rules.specs.declared.answer.Extent.{Extent}
+use Rattle.rules.specs.declared.answer.Written.{Written}
 use Rattle.rules.proofs.Tests.{and-both}
 use Rattle.rules.proofs.Checks.{pick-accepted}
 use Rattle.rules.proofs.Answers.{refusal-number, one-row}
 use Rattle.rules.proofs.Stands.{stands-seam, stands-part}
 use Rattle.rules.proofs.Over.{over-is}
-use Rattle.rows.proofs.Conform.{encoded-row}
-use Rattle.rows.proofs.Door.{Asked}
-use Rattle.rows.proofs.Decoding.{decode-accepts, decodedRow}
-use Rattle.values.proofs.Parse.{is-table}
-use Rattle.values.proofs.Flat.{accepted, no-table}
-use Rattle.values.proofs.Written.{writes-row}
+use Rattle.row_laws.proofs.Conform.{encoded-row}
+use Rattle.row_laws.proofs.Door.{MayAsk}
+use Rattle.row_laws.proofs.Decoding.{decode-accepts, decodedRow}
+use Rattle.value_laws.proofs.Parse.{is-table}
+use Rattle.value_laws.proofs.Flat.{accepted, no-table}
+use Rattle.value_laws.proofs.Written.{writes-row}
 use Rattle.promises.proofs.Tables.{Stood, stood, table-encodes}
 
 -- ---- refused encodes
@@ -232,7 +232,7 @@ module _ (f : Format) (s : Settings) (first n : ℕ) (recs pay out : List ℕ) (
       at-home : Stood f 0 first n
       at-home = stood f (ok .format) 0 first n (ok .block)
 
-      asked : Asked f s′ inp
+      asked : MayAsk f s′ inp
       asked = record { settings = r .settings; sizes = at-home .sizes; short = r .short; format = at-home .rules }
 
       records-fit : recordsOf v ≤ recordRoom rs

@@ -12,31 +12,31 @@ use Rattle.rules.specs.Schema.{Schema, deep, Valid}
 use Rattle.rules.specs.Block.{block, Denotes}
 use Rattle.rules.specs.Format.{Format, tables, tableSchema, sizesOk, formatRules, formatRule, encoderRule}
 use Rattle.rules.specs.Value.{Value, tall, recordsOf, payloadOf}
-use Rattle.rules.specs.ValueTable.{TableOf, flat, pays}
+use Rattle.rules.specs.ValueTable.{TableOf, flat, payloadBytes}
 use Rattle.rules.specs.Grammar.{TableRow, table-row}
 use Rattle.rules.specs.Walk.{Limits, Pos, Answer, Got, after}
 use Rattle.rules.specs.ValueRecord.{valueRecordStart}
 use Rattle.rules.specs.Reading.{limits, start, rowAt, schemaOf, Accepts, door, through, extent, Decoded, room, recordRoom, untouched, fillWith, filled, decodeRule, NoRow, LeavesRow}
 use Rattle.rules.specs.Answers.{rowSaid, readSaid}
 use Rattle.rules.specs.Good.{GoodTable}
-use Rattle.rules.specs.declared.Settings.{Settings}
-use Rattle.rules.specs.declared.Located.the-variants.{Block}
-use Rattle.rules.specs.declared.Door.{Door}
-use Rattle.rules.specs.declared.Door.the-variants as door-is
-use Rattle.rules.specs.declared.Checked.the-variants.{Accepted}
-use Rattle.rules.specs.declared.Extent.{Extent}
-use Rattle.rules.specs.declared.Read.{Read}
-use Rattle.rules.specs.declared.Read.the-variants.{Row, End}
+use Rattle.rules.specs.declared.settings.Settings.{Settings}
+use Rattle.rules.specs.declared.table_record.Located.the-variants.{Block}
+use Rattle.rules.specs.declared.answer.Door.{Door}
+use Rattle.rules.specs.declared.answer.Door.the-variants as door-is
+use Rattle.rules.specs.declared.answer.Checked.the-variants.{Accepted}
+use Rattle.rules.specs.declared.answer.Extent.{Extent}
+use Rattle.rules.specs.declared.answer.Read.{Read}
+use Rattle.rules.specs.declared.answer.Read.the-variants.{Row, End}
 use Rattle.rules.proofs.Checks.{pick-accepted}
 use Rattle.rules.proofs.Answers.{read-row}
 use Rattle.rules.proofs.Over.{over-is}
-use Rattle.blocks.proofs.Good.{encoder-accepts}
-use Rattle.blocks.proofs.Formats.{format-accepts}
-use Rattle.blocks.proofs.Tables.{table-schema}
-use Rattle.rows.proofs.TableRows.{located}
-use Rattle.rows.proofs.Decoding.{Leaves, row-written, unchanged, decode-leaves, accepts-conforms, counted}
-use Rattle.values.proofs.Sizes.{length-flat, length-pays}
-use Rattle.values.proofs.Conform.{conforms-depth}
+use Rattle.block_laws.proofs.Good.{encoder-accepts}
+use Rattle.block_laws.proofs.Formats.{format-accepts}
+use Rattle.block_laws.proofs.Tables.{table-schema}
+use Rattle.row_laws.proofs.TableRows.{located}
+use Rattle.row_laws.proofs.Decoding.{Leaves, row-written, unchanged, decode-leaves, accepts-conforms, counted}
+use Rattle.value_laws.proofs.Sizes.{length-flat, length-pays}
+use Rattle.value_laws.proofs.Conform.{conforms-depth}
 
 -- ---- a checked format's tables
 
@@ -92,7 +92,7 @@ written-first xs s n e h =
 
 module _ (f : Format) (inp : List ℕ) (lim : Limits) (at : ℕ) where
   -- a row of an accepted format that stands somewhere is one of a value that has a table
-  decoded-table : {t : ℕ} {v : Value} {q : Pos} → formatRules f ≡ Accepted → Accepts f inp lim at t v q → TableOf v (flat v 0 0) (pays v)
+  decoded-table : {t : ℕ} {v : Value} {q : Pos} → formatRules f ≡ Accepted → Accepts f inp lim at t v q → TableOf v (flat v 0 0) (payloadBytes v)
   decoded-table {t} {v} ok a =
       let c = accepts-conforms f inp lim at a in
       let d : tall v ≤ deep (schemaOf f t) = conforms-depth (c .0) in
@@ -109,13 +109,13 @@ module _ (f : Format) (inp : List ℕ) (lim : Limits) (at : ℕ) where
 
   module _ (rs ps : List ℕ) where
     row-left : {t : ℕ} {v : Value} {q : Pos} → formatRules f ≡ Accepted → Accepts f inp lim at t v q → recordsOf v ≤ recordRoom rs → payloadOf v ≤ room ps →
-        LeavesRow f inp lim at rs ps (extent at t q) (record { answer = Row (extent at t q); records = over rs 0 (flat v 0 0); payload = over ps 0 (pays v) })
+        LeavesRow f inp lim at rs ps (extent at t q) (record { answer = Row (extent at t q); records = over rs 0 (flat v 0 0); payload = over ps 0 (payloadBytes v) })
     unfolding extent room
     row-left {t} {v} {q} ok a m n =
         let c = counted f inp lim at rs ps a in
         let w = decoded-table ok a in
         let x = written-first (flat v 0 0) rs (valueRecordStart (q .records)) (rw (length-flat v 0 0, c .0)) (rw (length-flat v 0 0) (omega arith)) in
-        let y = written-first (pays v) ps (q .payload) (rw (length-pays v, c .1)) (rw (length-pays v) (omega arith)) in
+        let y = written-first (payloadBytes v) ps (q .payload) (rw (length-pays v, c .1)) (rw (length-pays v) (omega arith)) in
         record {
           value = v;
           stands = row-ends a;

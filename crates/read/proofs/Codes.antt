@@ -9,21 +9,21 @@ use native.Mathlib.Omega.{arith}
 use borrow.Author.Tests.{lt-ltb, le-ltb}
 use lib.Dec.{ltb}
 use Rattle.rules.specs.Choice.{pick}
-use Rattle.rules.specs.Wire.{sized, choice, series, fields, wireTypes, typeIn, typeOf, written, writtenIf, form, widthOf}
+use Rattle.rules.specs.Wire.{sized, variant-form, repeated-form, tuple-form, wireTypes, typeIn, typeOf, written, writtenIf, form, widthOf}
 use Rattle.wire.proofs.CodeTable.{two}
 pub use Rattle.wire.proofs.CodeTable.{tag-some}
-use Rattle.read.specs.Fields.{numberAt}
-use Rattle.read.specs.Children.{variant, repeated, tuple, shapeOf, byTag, picked}
+use Rattle.read.specs.Fields.{readNumberAt}
+use Rattle.read.specs.Children.{as-variant, as-repeated, as-tuple, shapeOf, byTag, picked}
 
-pub form-choice : (code : ℕ) → 14 < code → code < 17 → form code ≡ choice (widthOf (form code))
+pub form-choice : (code : ℕ) → 14 < code → code < 17 → form code ≡ variant-form (widthOf (form code))
 unfolding wireTypes typeIn typeOf written writtenIf form widthOf
 form-choice code h l = ⊎-elim (λ e. rw (← e)) (λ e. rw (← e)) (two 15 code h (omega arith))
 
-pub form-series : (code : ℕ) → 17 ≤ code → code < 19 → form code ≡ series (widthOf (form code))
+pub form-series : (code : ℕ) → 17 ≤ code → code < 19 → form code ≡ repeated-form (widthOf (form code))
 unfolding wireTypes typeIn typeOf written writtenIf form widthOf
 form-series code h l = ⊎-elim (λ e. rw (← e)) (λ e. rw (← e)) (two 17 code h (omega arith))
 
-pub form-fields : (code : ℕ) → 19 ≤ code → code ≤ 19 → form code ≡ fields
+pub form-fields : (code : ℕ) → 19 ≤ code → code ≤ 19 → form code ≡ tuple-form
 unfolding wireTypes typeIn typeOf written writtenIf form
 form-fields code h l = let e : code ≡ 19 = omega arith in rw e
 
@@ -33,15 +33,15 @@ form-sized code h l = ⊎-elim (λ e. rw (← e)) (λ e. rw (← e)) (two 13 cod
 
 -- ---- the shapes
 
-pub shape-variant : (code : ℕ) → code < 17 → shapeOf code ≡ variant (widthOf (form code))
+pub shape-variant : (code : ℕ) → code < 17 → shapeOf code ≡ as-variant (widthOf (form code))
 unfolding shapeOf pick
 shape-variant code h = rw (lt-ltb code 17 h)
 
-pub shape-repeated : (code : ℕ) → 17 ≤ code → code < 19 → shapeOf code ≡ repeated (widthOf (form code))
+pub shape-repeated : (code : ℕ) → 17 ≤ code → code < 19 → shapeOf code ≡ as-repeated (widthOf (form code))
 unfolding shapeOf pick
 shape-repeated code h l = rw (le-ltb code 17 h, lt-ltb code 19 l)
 
-pub shape-tuple : (code : ℕ) → 19 ≤ code → shapeOf code ≡ tuple
+pub shape-tuple : (code : ℕ) → 19 ≤ code → shapeOf code ≡ as-tuple
 unfolding shapeOf pick
 shape-tuple code h = rw (le-ltb code 17 (omega arith), le-ltb code 19 h)
 
@@ -49,12 +49,12 @@ shape-tuple code h = rw (le-ltb code 17 (omega arith), le-ltb code 19 h)
 
 -- up to 18 a tag says which child
 pub picked-tag : (code first count : ℕ) (inp : List ℕ) (i at : ℕ) → code ≤ 18 →
-    picked code first count inp (shapeOf code) i at ≡ byTag code first count (shapeOf code) at (numberAt inp (widthOf (form code)) (14 + widthOf (form code)) at)
+    picked code first count inp (shapeOf code) i at ≡ byTag code first count (shapeOf code) at (readNumberAt inp (widthOf (form code)) (14 + widthOf (form code)) at)
 unfolding shapeOf pick picked
 picked-tag code first count inp i at h = rw (lt-ltb code 19 (omega arith)) (either (ltb code 17))
   where
     either : (b : Bool) →
-        picked code first count inp (pick b (variant (widthOf (form code))) (repeated (widthOf (form code)))) i at
-        ≡ byTag code first count (pick b (variant (widthOf (form code))) (repeated (widthOf (form code)))) at (numberAt inp (widthOf (form code)) (14 + widthOf (form code)) at)
+        picked code first count inp (pick b (as-variant (widthOf (form code))) (as-repeated (widthOf (form code)))) i at
+        ≡ byTag code first count (pick b (as-variant (widthOf (form code))) (as-repeated (widthOf (form code)))) at (readNumberAt inp (widthOf (form code)) (14 + widthOf (form code)) at)
     either true = refl
     either false = refl

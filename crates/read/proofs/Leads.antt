@@ -10,45 +10,45 @@ use Rattle.rules.specs.Choice.{pick}
 use Rattle.rules.specs.Wire.{form, widthOf}
 use Rattle.rules.specs.Block.{nodeAt}
 use Rattle.read.specs.Budget.{spent}
-use Rattle.read.specs.Fields.{numberAt}
-use Rattle.read.specs.Skim.{standing, reading, leafOf, Skimmer, childOf, choiceOf, valueOf, nodeOf, skim}
+use Rattle.read.specs.Fields.{readNumberAt}
+use Rattle.read.specs.Skim.{standing, reading, skimLeaf, Skimmer, skimChild, skimVariant, skimForm, skimNode, skim}
 use Rattle.read.specs.Ready.{Coded, Readable, Ready}
-use Rattle.read.specs.Leads.{Leads}
+use Rattle.read.specs.Leads.{LeadsToSkip}
 use Rattle.read.specs.declared.budget.RowBudget.{RowBudget}
 use Rattle.read.specs.declared.budget.Charged.{Charged}
 use Rattle.read.specs.declared.budget.Charged.the-variants.{Left}
-use Rattle.read.specs.declared.fields.Number.{Number}
-use Rattle.read.specs.declared.fields.Number.the-variants.{Is}
-use Rattle.read.specs.declared.walk.Pos.{Pos}
-use Rattle.read.specs.declared.walk.Reached.{Reached}
-use Rattle.read.specs.declared.walk.Reached.the-variants.{Leaf, Children}
+use Rattle.read.specs.declared.fields.ReadNumber.{ReadNumber}
+use Rattle.read.specs.declared.fields.ReadNumber.the-variants.{Is}
+use Rattle.read.specs.declared.walk.SkipPos.{SkipPos}
+use Rattle.read.specs.declared.walk.ToSkip.{ToSkip}
+use Rattle.read.specs.declared.walk.ToSkip.the-variants.{Leaf, Children}
 use Rattle.read.proofs.Codes.{form-choice}
 use Rattle.read.proofs.Steps.{number-past}
 use Rattle.read.proofs.Turn.{moved}
 use Rattle.read.proofs.Nodes.{skim-paid, node-leaf}
 
-module _ (s inp : List ℕ) (rec : Skimmer) (i code : ℕ) (k : Coded s i code) (p : Pos) where
+module _ (s inp : List ℕ) (rec : Skimmer) (i code : ℕ) (k : Coded s i code) (p : SkipPos) where
   -- a leaf is its own
-  pub leads-self : (charge : ℕ) → Ready inp charge p → code < 15 → Leads s inp rec i p (Leaf code p)
-  unfolding Leads
+  pub leads-self : (charge : ℕ) → Ready inp charge p → code < 15 → LeadsToSkip s inp rec i p (Leaf code p)
+  unfolding LeadsToSkip
   leads-self charge r h = (node-leaf s inp rec i p code (k .is) h, r .stands)
 
-  pub leads-on : 15 ≤ code → Leads s inp rec i p Children
-  unfolding Leads
+  pub leads-on : 15 ≤ code → LeadsToSkip s inp rec i p Children
+  unfolding LeadsToSkip
   leads-on h = rw (← k .is) h
 
   -- a variant is the child that its tag names
   variant-child : (first count tag next : ℕ) → first ≡ nodeAt s i .first → count ≡ nodeAt s i .children → 14 < code → code < 17 →
-      Is tag next ≡ numberAt inp (widthOf (form code)) (14 + widthOf (form code)) (p .at) → tag < count → nodeOf s inp rec i p ≡ rec (first + tag) (moved p next)
-  unfolding nodeOf valueOf choiceOf reading childOf pick
+      Is tag next ≡ readNumberAt inp (widthOf (form code)) (14 + widthOf (form code)) (p .at) → tag < count → skimNode s inp rec i p ≡ rec (first + tag) (moved p next)
+  unfolding skimNode skimForm skimVariant reading skimChild pick
   variant-child first count tag next a b h l e m = rw (← k .is, ← a, ← b, form-choice code h l, ← e, lt-ltb tag count m)
 
 -- and where that one is a leaf, paid for, its bytes are all that is left
-pub leads-child : (s inp : List ℕ) (charge depth i code : ℕ) (k : Coded s i code) (p : Pos) (r : Ready inp charge p) (first count : ℕ) → first ≡ nodeAt s i .first → count ≡ nodeAt s i .children → 14 < code → code < 17 → (depth ≡ 0 → ⊥) →
-    (t : Number) → t ≡ numberAt inp (widthOf (form code)) (14 + widthOf (form code)) (p .at) → (tag next : ℕ) → t ≡ Is tag next → tag < count → (below : ℕ) → below ≡ nodeAt s (first + tag) .code → below < 15 →
+pub leads-child : (s inp : List ℕ) (charge depth i code : ℕ) (k : Coded s i code) (p : SkipPos) (r : Ready inp charge p) (first count : ℕ) → first ≡ nodeAt s i .first → count ≡ nodeAt s i .children → 14 < code → code < 17 → (depth ≡ 0 → ⊥) →
+    (t : ReadNumber) → t ≡ readNumberAt inp (widthOf (form code)) (14 + widthOf (form code)) (p .at) → (tag next : ℕ) → t ≡ Is tag next → tag < count → (below : ℕ) → below ≡ nodeAt s (first + tag) .code → below < 15 →
     (c : Charged) → c ≡ spent (p .budget) charge next → (b : RowBudget) → c ≡ Left b →
-    Leads s inp (skim s inp charge depth) i p (Leaf below (standing next b (p .records + 1) (p .payload)))
-unfolding Leads
+    LeadsToSkip s inp (skim s inp charge depth) i p (Leaf below (standing next b (p .records + 1) (p .payload)))
+unfolding LeadsToSkip
 leads-child s inp charge depth i code k p r first count a b h l d t is tag next e m below u g c y rest z =
     let o = number-past inp _ _ (p .at) tag next t (r .stands .within) is e in (
       variant-child s inp (skim s inp charge depth) i code k p first count tag next a b h l (sym e ∙ is) m
@@ -59,11 +59,11 @@ leads-child s inp charge depth i code k p r first count a b h l d t is tag next 
 
 -- ---- what the caller learns
 
-module _ (s inp : List ℕ) (rec : Skimmer) (i : ℕ) (p : Pos) (t : Reached) (l : Leads s inp rec i p t) where
-  pub reached-leaf : (code : ℕ) (q : Pos) → t ≡ Leaf code q → (nodeOf s inp rec i p ≡ leafOf inp code q) × Readable inp q
-  unfolding Leads
-  reached-leaf code q e = subst (λ (x : Reached). Leads s inp rec i p x) e l
+module _ (s inp : List ℕ) (rec : Skimmer) (i : ℕ) (p : SkipPos) (t : ToSkip) (l : LeadsToSkip s inp rec i p t) where
+  pub reached-leaf : (code : ℕ) (q : SkipPos) → t ≡ Leaf code q → (skimNode s inp rec i p ≡ skimLeaf inp code q) × Readable inp q
+  unfolding LeadsToSkip
+  reached-leaf code q e = subst (λ (x : ToSkip). LeadsToSkip s inp rec i p x) e l
 
   pub reached-children : t ≡ Children → 14 < nodeAt s i .code
-  unfolding Leads
-  reached-children e = subst (λ (x : Reached). Leads s inp rec i p x) e l
+  unfolding LeadsToSkip
+  reached-children e = subst (λ (x : ToSkip). LeadsToSkip s inp rec i p x) e l

@@ -10,58 +10,58 @@ use lib.Dec.{leb}
 use lib.ListN.{length}
 use Rattle.rules.specs.Choice.{pick}
 use Rattle.rules.specs.Bytes.{leAt}
-use Rattle.rules.specs.Wire.{Form, empty, truth, fixed, raw, sized, choice, series, fields, unknown}
-use Rattle.rules.specs.declared.Refusal.{Refusal}
+use Rattle.rules.specs.Wire.{Form, empty, truth, fixed, raw, sized, variant-form, repeated-form, tuple-form, unknown}
+use Rattle.rules.specs.declared.refusal.Refusal.{Refusal}
 use Rattle.rules.specs.Refusals.{Truncated, RowTooLarge}
 use Rattle.read.specs.Budget.{leaving, spent}
-use Rattle.read.specs.Fields.{numberAt}
-use Rattle.read.specs.Skim.{standing, _>>=_, reading, passed, having, charged, counted, stored, bytesOf, blobOf, Skimmer, childOf, choiceOf, pairsOf, fieldsOf, valueOf, nodeOf, skim}
+use Rattle.read.specs.Fields.{readNumberAt}
+use Rattle.read.specs.Skim.{standing, _>>=_, reading, passed, having, skimCharge, counted, stored, skimBytes, skimBlob, Skimmer, skimChild, skimVariant, skimPairs, skimFields, skimForm, skimNode, skim}
 use Rattle.read.specs.Ready.{Ready}
 use Rattle.read.specs.declared.budget.Charged.the-variants.{Left}
 use Rattle.read.specs.declared.budget.Charged.the-variants as charged-is
-use Rattle.read.specs.declared.fields.Number.the-variants.{Is}
-use Rattle.read.specs.declared.fields.Number.the-variants as number-is
-use Rattle.read.specs.declared.walk.Pos.{Pos}
+use Rattle.read.specs.declared.fields.ReadNumber.the-variants.{Is}
+use Rattle.read.specs.declared.fields.ReadNumber.the-variants as number-is
+use Rattle.read.specs.declared.walk.SkipPos.{SkipPos}
 use Rattle.read.specs.declared.walk.Skipped.{Skipped}
 use Rattle.read.specs.declared.walk.Skipped.the-variants.{At, Refused}
 
 -- from p to q: not back, records paid for, payload bytes passed
-record Far (p q : Pos) : Type 0 where
+record Far (p q : SkipPos) : Type 0 where
   on : p .at ≤ q .at
   paid : q .records + q .budget .remaining ≤ p .records + p .budget .remaining
   bytes : q .payload + p .at ≤ p .payload + q .at
 
-data Onward (inp : List ℕ) (p : Pos) : Skipped → Type 0 where
-  at : {q : Pos} → Far p q → q .at ≤ length inp → Onward inp p (At q)
+data Onward (inp : List ℕ) (p : SkipPos) : Skipped → Type 0 where
+  at : {q : SkipPos} → Far p q → q .at ≤ length inp → Onward inp p (At q)
   off : {r : Refusal} → Onward inp p (Refused r)
 
 -- a step that goes on wherever it starts
-abbrev Goes : List ℕ → (Pos → Skipped) → Type 0
-Goes inp f = (p : Pos) → p .at ≤ length inp → Onward inp p (f p)
+abbrev Goes : List ℕ → (SkipPos → Skipped) → Type 0
+Goes inp f = (p : SkipPos) → p .at ≤ length inp → Onward inp p (f p)
 
 module _ (inp : List ℕ) where
-  later : {p q : Pos} {s : Skipped} → Far p q → Onward inp q s → Onward inp p s
+  later : {p q : SkipPos} {s : Skipped} → Far p q → Onward inp q s → Onward inp p s
   later f (at {q = r} g h) = at {q = r} (record { on = omega arith; paid = omega arith; bytes = omega arith }) h
   later f off = off
 
   stays : Goes inp At
   stays p h = at {q = p} (record { on = omega arith; paid = omega arith; bytes = omega arith }) h
 
-  either : {p : Pos} {x y : Skipped} (b : Bool) → Onward inp p x → Onward inp p y → Onward inp p (pick b x y)
+  either : {p : SkipPos} {x y : Skipped} (b : Bool) → Onward inp p x → Onward inp p y → Onward inp p (pick b x y)
   unfolding pick
   either true ox oy = ox
   either false ox oy = oy
 
-  then : {p : Pos} {s : Skipped} {k : Pos → Skipped} → Onward inp p s → Goes inp k → Onward inp p (s >>= k)
+  then : {p : SkipPos} {s : Skipped} {k : SkipPos → Skipped} → Onward inp p s → Goes inp k → Onward inp p (s >>= k)
   unfolding _>>=_
   then (at {q = q} f h) g = later f (g q h)
   then off g = off
 
-  reading-goes : (w context : ℕ) (p : Pos) (k : ℕ → Pos → Skipped) → ((n : ℕ) → Goes inp (k n)) → p .at ≤ length inp → Onward inp p (reading (numberAt inp w context (p .at)) p k)
-  unfolding reading numberAt pick
+  reading-goes : (w context : ℕ) (p : SkipPos) (k : ℕ → SkipPos → Skipped) → ((n : ℕ) → Goes inp (k n)) → p .at ≤ length inp → Onward inp p (reading (readNumberAt inp w context (p .at)) p k)
+  unfolding reading readNumberAt pick
   reading-goes w context p k g h = go (leb w (length inp - p .at)) refl
     where
-      next : Pos
+      next : SkipPos
       next = standing (p .at + w) (p .budget) (p .records) (p .payload)
 
       go : (b : Bool) → leb w (length inp - p .at) ≡ b → Onward inp p (reading (pick b (Is (leAt inp (p .at) w) (p .at + w)) (number-is.Refused (Truncated context (p .at)))) p k)
@@ -79,16 +79,16 @@ module _ (inp : List ℕ) where
       go false e = off
 
   -- bytes, all of them payload
-  bytes-goes : (n context : ℕ) → Goes inp (bytesOf inp n context n)
-  unfolding bytesOf passed stored pick _>>=_
+  bytes-goes : (n context : ℕ) → Goes inp (skimBytes inp n context n)
+  unfolding skimBytes passed stored pick _>>=_
   bytes-goes n context p h = go (leb n (length inp - p .at)) refl
     where
       go : (b : Bool) → leb n (length inp - p .at) ≡ b → Onward inp p (pick b (At (standing (p .at + n) (p .budget) (p .records) (p .payload))) (Refused (Truncated context (p .at))) >>= (λ q. At (stored n q)))
       go true e = at {q = standing (p .at + n) (p .budget) (p .records) (p .payload + n)} (record { on = omega arith; paid = omega arith; bytes = omega arith }) (omega (arith, leb-true n (length inp - p .at) e))
       go false e = off
 
-  charged-goes : (cost place : ℕ) → Goes inp (charged cost place)
-  unfolding charged having spent pick
+  charged-goes : (cost place : ℕ) → Goes inp (skimCharge cost place)
+  unfolding skimCharge having spent pick
   charged-goes cost place p h = go (leb cost (p .budget .remaining)) refl
     where
       go : (b : Bool) → leb cost (p .budget .remaining) ≡ b → Onward inp p (having p (pick b (Left (leaving (p .budget) (p .budget .remaining - cost))) (charged-is.Refused (RowTooLarge (p .budget .limit) place))))
@@ -96,11 +96,11 @@ module _ (inp : List ℕ) where
       go false e = off
 
   -- a node's charge pays for its record
-  counted-goes : (cost place : ℕ) → 0 < cost → (k : Pos → Skipped) → Goes inp k → Goes inp (λ p. charged cost place p >>= (λ q. k (counted q)))
-  unfolding charged having spent counted pick _>>=_
+  counted-goes : (cost place : ℕ) → 0 < cost → (k : SkipPos → Skipped) → Goes inp k → Goes inp (λ p. skimCharge cost place p >>= (λ q. k (counted q)))
+  unfolding skimCharge having spent counted pick _>>=_
   counted-goes cost place c k g p h = go (leb cost (p .budget .remaining)) refl
     where
-      next : Pos
+      next : SkipPos
       next = standing (p .at) (leaving (p .budget) (p .budget .remaining - cost)) (p .records + 1) (p .payload)
 
       go : (b : Bool) → leb cost (p .budget .remaining) ≡ b → Onward inp p (having p (pick b (Left (leaving (p .budget) (p .budget .remaining - cost))) (charged-is.Refused (RowTooLarge (p .budget .limit) place))) >>= (λ q. k (counted q)))
@@ -109,46 +109,46 @@ module _ (inp : List ℕ) where
           later {q = next} (record { on = omega arith; paid = omega (arith, l); bytes = omega arith }) (g next h)
       go false e = off
 
-  blob-goes : (code : ℕ) → Goes inp (blobOf inp code)
-  unfolding blobOf
+  blob-goes : (code : ℕ) → Goes inp (skimBlob inp code)
+  unfolding skimBlob
   blob-goes code p h = reading-goes 4 13 p _ (λ n q hq. either _ (then (charged-goes n (p .at) q hq) (bytes-goes n 14)) off) h
 
   module _ (rec : Skimmer) (go : (i : ℕ) → Goes inp (rec i)) where
     module _ (code first count : ℕ) where
-      child-goes : (place tag : ℕ) → Goes inp (childOf inp rec code first count place tag)
-      unfolding childOf
+      child-goes : (place tag : ℕ) → Goes inp (skimChild inp rec code first count place tag)
+      unfolding skimChild
       child-goes place tag p h = either _ (go _ p h) off
 
-      pairs-goes : (w enough : ℕ) → Goes inp (pairsOf inp rec code first count w enough)
-      unfolding pairsOf
+      pairs-goes : (w enough : ℕ) → Goes inp (skimPairs inp rec code first count w enough)
+      unfolding skimPairs
       pairs-goes w zero p h = off
       pairs-goes w (suc enough) p h = reading-goes w (14 + w) p _ (λ tag q hq. either _ (stays q hq) (then (child-goes (p .at) tag q hq) (pairs-goes w enough))) h
 
-    fields-goes : (i count : ℕ) → Goes inp (fieldsOf rec i count)
-    unfolding fieldsOf
+    fields-goes : (i count : ℕ) → Goes inp (skimFields rec i count)
+    unfolding skimFields
     fields-goes i zero p h = stays p h
     fields-goes i (suc count) p h = then (go i p h) (fields-goes (i + 1) count)
 
-    value-goes : (code first count : ℕ) (f : Form) → Goes inp (valueOf inp rec code first count f)
-    unfolding valueOf choiceOf
+    value-goes : (code first count : ℕ) (f : Form) → Goes inp (skimForm inp rec code first count f)
+    unfolding skimForm skimVariant
     value-goes code first count empty p h = stays p h
     value-goes code first count truth p h = passed-goes 1 code p h
     value-goes code first count (fixed w) p h = passed-goes w code p h
     value-goes code first count (raw w) p h = bytes-goes w code p h
     value-goes code first count sized p h = blob-goes code p h
-    value-goes code first count (choice w) p h = reading-goes w (14 + w) p _ (λ tag. child-goes code first count (p .at) tag) h
-    value-goes code first count (series w) p h = pairs-goes code first count w (suc (length inp - p .at)) p h
-    value-goes code first count fields p h = fields-goes first count p h
+    value-goes code first count (variant-form w) p h = reading-goes w (14 + w) p _ (λ tag. child-goes code first count (p .at) tag) h
+    value-goes code first count (repeated-form w) p h = pairs-goes code first count w (suc (length inp - p .at)) p h
+    value-goes code first count tuple-form p h = fields-goes first count p h
     value-goes code first count unknown p h = off
 
   skim-goes : (sch : List ℕ) (charge : ℕ) → 0 < charge → (depth i : ℕ) → Goes inp (skim sch inp charge depth i)
-  unfolding skim nodeOf
+  unfolding skim skimNode
   skim-goes sch charge c zero i p h = off
   skim-goes sch charge c (suc depth) i p h = counted-goes charge (p .at) c _ (value-goes (skim sch inp charge depth) (skim-goes sch charge c depth) _ _ _ _) p h
 
-at-ready : {inp : List ℕ} {p q : Pos} (charge : ℕ) → Ready inp charge p → Onward inp p (At q) → (p .at ≤ q .at) × Ready inp charge q
+at-ready : {inp : List ℕ} {p q : SkipPos} (charge : ℕ) → Ready inp charge p → Onward inp p (At q) → (p .at ≤ q .at) × Ready inp charge q
 at-ready charge r (at f h) = (f .on, record { stands = record { within = h; short = r .stands .short; passed = omega arith }; costs = r .costs; total = omega arith })
 
 -- where an accepted child leaves off, the walk may stand
-pub skim-at : (sch inp : List ℕ) (charge depth i : ℕ) (p q : Pos) (s : Skipped) → s ≡ skim sch inp charge depth i p → s ≡ At q → Ready inp charge p → (p .at ≤ q .at) × Ready inp charge q
+pub skim-at : (sch inp : List ℕ) (charge depth i : ℕ) (p q : SkipPos) (s : Skipped) → s ≡ skim sch inp charge depth i p → s ≡ At q → Ready inp charge p → (p .at ≤ q .at) × Ready inp charge q
 skim-at sch inp charge depth i p q s is e r = at-ready charge r (subst (λ (x : Skipped). Onward inp p x) (sym is ∙ e) (skim-goes inp sch charge (r .costs) depth i p (r .stands .within)))

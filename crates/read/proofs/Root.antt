@@ -7,11 +7,11 @@ use native.Mathlib.Omega.{arith}
 use borrow.Author.Tests.{leb-true}
 use Rattle.rules.specs.Reading.{settingsOk, limits, start}
 use Rattle.rules.specs.Walk.{walk}
-use Rattle.rules.specs.declared.Refusal.{Refusal}
-use Rattle.rules.specs.declared.Settings.{Settings}
+use Rattle.rules.specs.declared.refusal.Refusal.{Refusal}
+use Rattle.rules.specs.declared.settings.Settings.{Settings}
 use Rattle.rules.proofs.Tests.{and-both}
 use Rattle.read.specs.Budget.{fresh, spent}
-use Rattle.read.specs.Skim.{placed, skimmed, standing, nodeOf, skim}
+use Rattle.read.specs.Skim.{skimPos, skimmed, standing, skimNode, skim}
 use Rattle.read.specs.Ready.{Ready, Rooted}
 use Rattle.read.specs.declared.budget.RowBudget.{RowBudget}
 use Rattle.read.specs.declared.budget.Charged.{Charged}
@@ -25,7 +25,7 @@ use Rattle.read.proofs.Nodes.{skim-dear, skim-paid}
 module _ (sch inp : List ℕ) (s : Settings) (at : ℕ) (b : RowBudget) (e : b ≡ fresh (s .«max_blob_bytes») (s .«max_row_bytes»)) where
   -- the whole allowance is left
   same : skim sch inp (s .«node_charge») 64 0 (standing at b 0 0) ≡ skimmed (limits s) (walk sch inp (limits s) 64 0 (start (limits s) at))
-  unfolding limits start placed fresh
+  unfolding limits start skimPos fresh
   same = rw e (sym (skim-same (limits s) sch inp 64 0 (start (limits s) at)))
 
   ready : Rooted sch inp s at → Ready inp (s .«node_charge») (standing at b 0 0)
@@ -44,7 +44,7 @@ module _ (sch inp : List ℕ) (s : Settings) (at : ℕ) (b : RowBudget) (e : b �
     pub root-dear : (r : Refusal) → c ≡ charged-is.Refused r → Refused r ≡ skimmed (limits s) (walk sch inp (limits s) 64 0 (start (limits s) at))
     root-dear r f = sym (skim-dear sch inp (s .«node_charge») 64 0 (standing at b 0 0) (λ z. omega arith) c is r f) ∙ same
 
-    pub root-paid : (a : RowBudget) → c ≡ Left a → nodeOf sch inp (skim sch inp (s .«node_charge») 63) 0 (standing at a 1 0) ≡ skimmed (limits s) (walk sch inp (limits s) 64 0 (start (limits s) at))
+    pub root-paid : (a : RowBudget) → c ≡ Left a → skimNode sch inp (skim sch inp (s .«node_charge») 63) 0 (standing at a 1 0) ≡ skimmed (limits s) (walk sch inp (limits s) 64 0 (start (limits s) at))
     root-paid a f = sym (skim-paid sch inp (s .«node_charge») 64 0 (standing at b 0 0) (λ z. omega arith) c is a f) ∙ same
 
     pub root-ready : (a : RowBudget) → c ≡ Left a → Rooted sch inp s at → Ready inp (s .«node_charge») (standing at a 1 0)

@@ -10,28 +10,28 @@ use lib.ListN.{length}
 use lib.Dec.{leb}
 use Rattle.rules.specs.Choice.{pick}
 use Rattle.rules.specs.Bytes.{leAt}
-use Rattle.rules.specs.declared.Refusal.{Refusal}
+use Rattle.rules.specs.declared.refusal.Refusal.{Refusal}
 use Rattle.rules.specs.Refusals.{Truncated, RowTooLarge}
 use Rattle.read.specs.Budget.{leaving, spent}
-use Rattle.read.specs.Fields.{numberAt}
+use Rattle.read.specs.Fields.{readNumberAt}
 use Rattle.read.specs.Skim.{standing}
 use Rattle.read.specs.Ready.{Ready}
 use Rattle.read.specs.declared.budget.RowBudget.{RowBudget}
 use Rattle.read.specs.declared.budget.Charged.{Charged}
 use Rattle.read.specs.declared.budget.Charged.the-variants.{Left}
 use Rattle.read.specs.declared.budget.Charged.the-variants as charged-is
-use Rattle.read.specs.declared.walk.Pos.{Pos}
-use Rattle.read.specs.declared.fields.Number.{Number}
-use Rattle.read.specs.declared.fields.Number.the-variants.{Is, Refused}
+use Rattle.read.specs.declared.walk.SkipPos.{SkipPos}
+use Rattle.read.specs.declared.fields.ReadNumber.{ReadNumber}
+use Rattle.read.specs.declared.fields.ReadNumber.the-variants.{Is, Refused}
 
 -- a number that was read lies in the input
-data Read (inp : List ℕ) (at : ℕ) : Number → Type 0 where
+data Read (inp : List ℕ) (at : ℕ) : ReadNumber → Type 0 where
   is : {n next : ℕ} → at ≤ next → next ≤ length inp → Read inp at (Is n next)
   cut : {r : Refusal} → Read inp at (Refused r)
 
-pub number-past : (inp : List ℕ) (w context at n next : ℕ) (t : Number) → at ≤ length inp → t ≡ numberAt inp w context at → t ≡ Is n next → (at ≤ next) × (next ≤ length inp)
-unfolding numberAt pick
-number-past inp w context at n next t h a b = ends (subst (λ (x : Number). Read inp at x) (sym a ∙ b) (fits (leb w (length inp - at)) refl))
+pub number-past : (inp : List ℕ) (w context at n next : ℕ) (t : ReadNumber) → at ≤ length inp → t ≡ readNumberAt inp w context at → t ≡ Is n next → (at ≤ next) × (next ≤ length inp)
+unfolding readNumberAt pick
+number-past inp w context at n next t h a b = ends (subst (λ (x : ReadNumber). Read inp at x) (sym a ∙ b) (fits (leb w (length inp - at)) refl))
   where
     ends : Read inp at (Is n next) → (at ≤ next) × (next ≤ length inp)
     ends (is f h) = (f, h)
@@ -46,7 +46,7 @@ data Paid (b : RowBudget) (cost : ℕ) : Charged → Type 0 where
   dear : {r : Refusal} → Paid b cost (charged-is.Refused r)
 
 -- the node's record is paid for, so that the walk may stand at its first byte
-pub ready-paid : (inp : List ℕ) (charge : ℕ) (p : Pos) (c : Charged) (a : RowBudget) → Ready inp charge p → c ≡ spent (p .budget) charge (p .at) → c ≡ Left a → Ready inp charge (standing (p .at) a (p .records + 1) (p .payload))
+pub ready-paid : (inp : List ℕ) (charge : ℕ) (p : SkipPos) (c : Charged) (a : RowBudget) → Ready inp charge p → c ≡ spent (p .budget) charge (p .at) → c ≡ Left a → Ready inp charge (standing (p .at) a (p .records + 1) (p .payload))
 unfolding spent pick
 ready-paid inp charge p c a r m e = so (subst (λ (x : Charged). Paid (p .budget) charge x) (sym m ∙ e) (pays (leb charge (p .budget .remaining)) refl))
   where

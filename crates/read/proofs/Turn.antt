@@ -12,15 +12,15 @@ use lib.ListN.{length}
 use Rattle.rules.specs.Choice.{pick}
 use Rattle.rules.specs.Bytes.{leAt}
 use Rattle.rules.specs.Wire.{form, widthOf, endTag}
-use Rattle.rules.specs.declared.Refusal.{Refusal}
+use Rattle.rules.specs.declared.refusal.Refusal.{Refusal}
 use Rattle.rules.specs.Refusals.{Truncated, InvalidVariantTag}
-use Rattle.read.specs.Fields.{numberAt}
-use Rattle.read.specs.Children.{Shape, variant, repeated, tuple, shapeOf, endsAt, byTag, picked}
-use Rattle.read.specs.Skim.{standing, _>>=_, reading, Skimmer, childOf, choiceOf, pairsOf, fieldsOf, valueOf}
-use Rattle.read.specs.declared.fields.Number.{Number}
-use Rattle.read.specs.declared.fields.Number.the-variants.{Is}
-use Rattle.read.specs.declared.fields.Number.the-variants as number-is
-use Rattle.read.specs.declared.walk.Pos.{Pos}
+use Rattle.read.specs.Fields.{readNumberAt}
+use Rattle.read.specs.Children.{Shape, as-variant, as-repeated, as-tuple, shapeOf, endsAt, byTag, picked}
+use Rattle.read.specs.Skim.{standing, _>>=_, reading, Skimmer, skimChild, skimVariant, skimPairs, skimFields, skimForm}
+use Rattle.read.specs.declared.fields.ReadNumber.{ReadNumber}
+use Rattle.read.specs.declared.fields.ReadNumber.the-variants.{Is}
+use Rattle.read.specs.declared.fields.ReadNumber.the-variants as number-is
+use Rattle.read.specs.declared.walk.SkipPos.{SkipPos}
 use Rattle.read.specs.declared.walk.Pick.{Pick}
 use Rattle.read.specs.declared.walk.Pick.the-variants.{Child, End}
 use Rattle.read.specs.declared.walk.Pick.the-variants as pick-is
@@ -29,130 +29,130 @@ use Rattle.read.specs.declared.walk.Skipped.the-variants.{At, Refused}
 use Rattle.read.proofs.Codes.{form-choice, form-series, form-fields, shape-variant, shape-repeated, shape-tuple, tag-some}
 
 -- a position, moved
-abbrev pub moved : Pos → ℕ → Pos
+abbrev pub moved : SkipPos → ℕ → SkipPos
 moved p at = standing at (p .budget) (p .records) (p .payload)
 
 -- only pairs have fuel: more than the bytes that are left
 unfoldable pub Fuelled : Shape → ℕ → ℕ → Type 0
-Fuelled (variant w) left enough = Unit
-Fuelled (repeated w) left enough = left < enough
-Fuelled tuple left enough = Unit
+Fuelled (as-variant w) left enough = Unit
+Fuelled (as-repeated w) left enough = left < enough
+Fuelled as-tuple left enough = Unit
 
 pub fuel-all : (s : Shape) (left : ℕ) → Fuelled s left (suc left)
 unfolding Fuelled
-fuel-all (variant w) left = tt
-fuel-all (repeated w) left = omega arith
-fuel-all tuple left = tt
+fuel-all (as-variant w) left = tt
+fuel-all (as-repeated w) left = omega arith
+fuel-all as-tuple left = tt
 
-fields-step : (rec : Skimmer) (first count i : ℕ) (p : Pos) → i < count → fieldsOf rec (first + i) (count - i) p ≡ rec (first + i) p >>= fieldsOf rec (first + (i + 1)) (count - (i + 1))
-unfolding fieldsOf
+fields-step : (rec : Skimmer) (first count i : ℕ) (p : SkipPos) → i < count → skimFields rec (first + i) (count - i) p ≡ rec (first + i) p >>= skimFields rec (first + (i + 1)) (count - (i + 1))
+unfolding skimFields
 fields-step rec first count i p h =
     let e : count - i ≡ suc (count - (i + 1)) = omega arith in
     let f : (first + i) + 1 ≡ first + (i + 1) = omega arith in
     rw (e, f)
 
-fields-end : (rec : Skimmer) (first count i : ℕ) (p : Pos) → count ≤ i → fieldsOf rec (first + i) (count - i) p ≡ At p
-unfolding fieldsOf
+fields-end : (rec : Skimmer) (first count i : ℕ) (p : SkipPos) → count ≤ i → skimFields rec (first + i) (count - i) p ≡ At p
+unfolding skimFields
 fields-end rec first count i p h = let e : count - i ≡ 0 = omega arith in rw e
 
 module _ (inp : List ℕ) (rec : Skimmer) (code first count : ℕ) where
   -- what is left of a node's children after i of them
-  unfoldable pub steps : Shape → ℕ → ℕ → Pos → Skipped
-  steps (variant w) i enough p = choiceOf inp rec code first count w p
-  steps (repeated w) i enough p = pairsOf inp rec code first count w enough p
-  steps tuple i enough p = fieldsOf rec (first + i) (count - i) p
+  unfoldable pub steps : Shape → ℕ → ℕ → SkipPos → Skipped
+  steps (as-variant w) i enough p = skimVariant inp rec code first count w p
+  steps (as-repeated w) i enough p = skimPairs inp rec code first count w enough p
+  steps as-tuple i enough p = skimFields rec (first + i) (count - i) p
 
   -- after a child: a variant has no other
-  unfoldable pub goOn : Shape → ℕ → ℕ → Pos → Skipped
-  goOn (variant w) i enough p = At p
-  goOn (repeated w) i enough p = steps (repeated w) (i + 1) enough p
-  goOn tuple i enough p = steps tuple (i + 1) enough p
+  unfoldable pub goOn : Shape → ℕ → ℕ → SkipPos → Skipped
+  goOn (as-variant w) i enough p = At p
+  goOn (as-repeated w) i enough p = steps (as-repeated w) (i + 1) enough p
+  goOn as-tuple i enough p = steps as-tuple (i + 1) enough p
 
   -- what follows from the next child
-  unfoldable pub follow : Shape → ℕ → ℕ → Pos → Pick → Skipped
+  unfoldable pub follow : Shape → ℕ → ℕ → SkipPos → Pick → Skipped
   follow s i enough p (Child c at) = rec c (moved p at) >>= goOn s i enough
   follow s i enough p (End at) = At (moved p at)
   follow s i enough p (pick-is.Refused r) = Refused r
 
-  module _ (i enough : ℕ) (p : Pos) where
-    last : (w : ℕ) (s : Skipped) → s ≡ s >>= goOn (variant w) i enough
+  module _ (i enough : ℕ) (p : SkipPos) where
+    last : (w : ℕ) (s : Skipped) → s ≡ s >>= goOn (as-variant w) i enough
     unfolding goOn _>>=_
     last w (At q) = refl
     last w (Refused r) = refl
 
-    turn-variant : (w : ℕ) → choiceOf inp rec code first count w p ≡ follow (variant w) i enough p (picked code first count inp (variant w) i (p .at))
-    unfolding choiceOf reading childOf picked byTag follow pick endsAt
-    turn-variant w = go (numberAt inp w (14 + w) (p .at))
+    turn-variant : (w : ℕ) → skimVariant inp rec code first count w p ≡ follow (as-variant w) i enough p (picked code first count inp (as-variant w) i (p .at))
+    unfolding skimVariant reading skimChild picked byTag follow pick endsAt
+    turn-variant w = go (readNumberAt inp w (14 + w) (p .at))
       where
         child : (b : Bool) (tag next : ℕ) →
             pick b (rec (first + tag) (moved p next)) (Refused (InvalidVariantTag code tag count (p .at)))
-            ≡ follow (variant w) i enough p (pick b (Child (first + tag) next) (pick-is.Refused (InvalidVariantTag code tag count (p .at))))
+            ≡ follow (as-variant w) i enough p (pick b (Child (first + tag) next) (pick-is.Refused (InvalidVariantTag code tag count (p .at))))
         child true tag next = last w _
         child false tag next = refl
 
-        go : (t : Number) → reading t p (childOf inp rec code first count (p .at)) ≡ follow (variant w) i enough p (byTag code first count (variant w) (p .at) t)
+        go : (t : ReadNumber) → reading t p (skimChild inp rec code first count (p .at)) ≡ follow (as-variant w) i enough p (byTag code first count (as-variant w) (p .at) t)
         go (Is tag next) = child (ltb tag count) tag next
         go (number-is.Refused r) = refl
 
-    turn-repeated : (w : ℕ) → pairsOf inp rec code first count w (suc enough) p ≡ follow (repeated w) i enough p (picked code first count inp (repeated w) i (p .at))
-    unfolding pairsOf reading childOf picked byTag follow pick endsAt goOn steps _>>=_
-    turn-repeated w = go (numberAt inp w (14 + w) (p .at))
+    turn-repeated : (w : ℕ) → skimPairs inp rec code first count w (suc enough) p ≡ follow (as-repeated w) i enough p (picked code first count inp (as-repeated w) i (p .at))
+    unfolding skimPairs reading skimChild picked byTag follow pick endsAt goOn steps _>>=_
+    turn-repeated w = go (readNumberAt inp w (14 + w) (p .at))
       where
         child : (b : Bool) (tag next : ℕ) →
-            pick b (rec (first + tag) (moved p next)) (Refused (InvalidVariantTag code tag count (p .at))) >>= pairsOf inp rec code first count w enough
-            ≡ follow (repeated w) i enough p (pick b (Child (first + tag) next) (pick-is.Refused (InvalidVariantTag code tag count (p .at))))
+            pick b (rec (first + tag) (moved p next)) (Refused (InvalidVariantTag code tag count (p .at))) >>= skimPairs inp rec code first count w enough
+            ≡ follow (as-repeated w) i enough p (pick b (Child (first + tag) next) (pick-is.Refused (InvalidVariantTag code tag count (p .at))))
         child true tag next = refl
         child false tag next = refl
 
         ended : (b : Bool) (tag next : ℕ) →
-            pick b (At (moved p next)) (childOf inp rec code first count (p .at) tag (moved p next) >>= pairsOf inp rec code first count w enough)
-            ≡ follow (repeated w) i enough p (pick b (End next) (pick (ltb tag count) (Child (first + tag) next) (pick-is.Refused (InvalidVariantTag code tag count (p .at)))))
+            pick b (At (moved p next)) (skimChild inp rec code first count (p .at) tag (moved p next) >>= skimPairs inp rec code first count w enough)
+            ≡ follow (as-repeated w) i enough p (pick b (End next) (pick (ltb tag count) (Child (first + tag) next) (pick-is.Refused (InvalidVariantTag code tag count (p .at)))))
         ended true tag next = refl
         ended false tag next = child (ltb tag count) tag next
 
-        go : (t : Number) →
-            reading t p (λ tag q. pick (eqb tag (endTag w)) (At q) (childOf inp rec code first count (p .at) tag q >>= pairsOf inp rec code first count w enough))
-            ≡ follow (repeated w) i enough p (byTag code first count (repeated w) (p .at) t)
+        go : (t : ReadNumber) →
+            reading t p (λ tag q. pick (eqb tag (endTag w)) (At q) (skimChild inp rec code first count (p .at) tag q >>= skimPairs inp rec code first count w enough))
+            ≡ follow (as-repeated w) i enough p (byTag code first count (as-repeated w) (p .at) t)
         go (Is tag next) = ended (eqb tag (endTag w)) tag next
         go (number-is.Refused r) = refl
 
-    turn-tuple : fieldsOf rec (first + i) (count - i) p ≡ follow tuple i enough p (picked code first count inp tuple i (p .at))
+    turn-tuple : skimFields rec (first + i) (count - i) p ≡ follow as-tuple i enough p (picked code first count inp as-tuple i (p .at))
     unfolding picked follow pick goOn steps
     turn-tuple = go (ltb i count) refl
       where
-        go : (b : Bool) → ltb i count ≡ b → fieldsOf rec (first + i) (count - i) p ≡ follow tuple i enough p (pick b (Child (first + i) (p .at)) (End (p .at)))
+        go : (b : Bool) → ltb i count ≡ b → skimFields rec (first + i) (count - i) p ≡ follow as-tuple i enough p (pick b (Child (first + i) (p .at)) (End (p .at)))
         go true e = fields-step rec first count i p (ltb-true _ _ e)
         go false e = fields-end rec first count i p (ltb-false _ _ e)
 
   -- one turn: what is left is what follows from the next child
-  turn : (s : Shape) (i enough : ℕ) (p : Pos) (left : ℕ) → Fuelled s left enough → steps s i enough p ≡ follow s i (enough - 1) p (picked code first count inp s i (p .at))
+  turn : (s : Shape) (i enough : ℕ) (p : SkipPos) (left : ℕ) → Fuelled s left enough → steps s i enough p ≡ follow s i (enough - 1) p (picked code first count inp s i (p .at))
   unfolding steps Fuelled
-  turn (variant w) i enough p left h = turn-variant i (enough - 1) p w
-  turn (repeated w) i zero p left h = absurd (omega arith)
-  turn (repeated w) i (suc enough) p left h = let e : suc enough - 1 ≡ enough = omega arith in rw e (turn-repeated i enough p w)
-  turn tuple i enough p left h = turn-tuple i (enough - 1) p
+  turn (as-variant w) i enough p left h = turn-variant i (enough - 1) p w
+  turn (as-repeated w) i zero p left h = absurd (omega arith)
+  turn (as-repeated w) i (suc enough) p left h = let e : suc enough - 1 ≡ enough = omega arith in rw e (turn-repeated i enough p w)
+  turn as-tuple i enough p left h = turn-tuple i (enough - 1) p
 
   -- a node that goes on after a child
-  go-on : (i enough : ℕ) (p : Pos) → 17 ≤ code → goOn (shapeOf code) i enough p ≡ steps (shapeOf code) (i + 1) enough p
+  go-on : (i enough : ℕ) (p : SkipPos) → 17 ≤ code → goOn (shapeOf code) i enough p ≡ steps (shapeOf code) (i + 1) enough p
   unfolding goOn shapeOf pick
   go-on i enough p h = rw (le-ltb code 17 h) (go (ltb code 19))
     where
-      go : (b : Bool) → goOn (pick b (repeated (widthOf (form code))) tuple) i enough p ≡ steps (pick b (repeated (widthOf (form code))) tuple) (i + 1) enough p
+      go : (b : Bool) → goOn (pick b (as-repeated (widthOf (form code))) as-tuple) i enough p ≡ steps (pick b (as-repeated (widthOf (form code))) as-tuple) (i + 1) enough p
       go true = refl
       go false = refl
 
   -- the loop starts with the whole
-  pub steps-all : (p : Pos) → 14 < code → code ≤ 19 → steps (shapeOf code) 0 (suc (length inp - p .at)) p ≡ valueOf inp rec code first count (form code) p
-  unfolding steps valueOf widthOf
+  pub steps-all : (p : SkipPos) → 14 < code → code ≤ 19 → steps (shapeOf code) 0 (suc (length inp - p .at)) p ≡ skimForm inp rec code first count (form code) p
+  unfolding steps skimForm widthOf
   steps-all p h m = by (ltb code 17) (ltb code 19) refl refl
     where
-      by : (a b : Bool) → ltb code 17 ≡ a → ltb code 19 ≡ b → steps (shapeOf code) 0 (suc (length inp - p .at)) p ≡ valueOf inp rec code first count (form code) p
+      by : (a b : Bool) → ltb code 17 ≡ a → ltb code 19 ≡ b → steps (shapeOf code) 0 (suc (length inp - p .at)) p ≡ skimForm inp rec code first count (form code) p
       by true b e f = let l = ltb-true code 17 e in rw (shape-variant code l, form-choice code h l)
       by false true e f = let k = ltb-false code 17 e in let l = ltb-true code 19 f in rw (shape-repeated code k l, form-series code k l)
       by false false e f = let k = ltb-false code 19 f in rw (shape-tuple code k, form-fields code k m, add-zero, sub-zero)
 
   -- what the loop met comes to the whole
-  module _ (s : Shape) (i enough : ℕ) (p : Pos) (left : ℕ) (f : Fuelled s left enough) (whole : Skipped) (all : steps s i enough p ≡ whole) (t : Pick) (is : t ≡ picked code first count inp s i (p .at)) where
+  module _ (s : Shape) (i enough : ℕ) (p : SkipPos) (left : ℕ) (f : Fuelled s left enough) (whole : Skipped) (all : steps s i enough p ≡ whole) (t : Pick) (is : t ≡ picked code first count inp s i (p .at)) where
     turned : whole ≡ follow s i (enough - 1) p t
     turned = sym all ∙ rw is (turn s i enough p left f)
 
@@ -169,8 +169,8 @@ module _ (inp : List ℕ) (rec : Skimmer) (code first count : ℕ) where
     turn-refused r e = turned ∙ ap (λ (x : Pick). follow s i (enough - 1) p x) e
 
   -- and what is left after a child too
-  pub turn-on : (i enough : ℕ) (p : Pos) (left : ℕ) (f : Fuelled (shapeOf code) left enough) (whole : Skipped) (all : steps (shapeOf code) i enough p ≡ whole) (t : Pick) → t ≡ picked code first count inp (shapeOf code) i (p .at) →
-      (c at : ℕ) → t ≡ Child c at → (x : Skipped) → x ≡ rec c (moved p at) → (q : Pos) → x ≡ At q → 17 ≤ code → steps (shapeOf code) (i + 1) (enough - 1) q ≡ whole
+  pub turn-on : (i enough : ℕ) (p : SkipPos) (left : ℕ) (f : Fuelled (shapeOf code) left enough) (whole : Skipped) (all : steps (shapeOf code) i enough p ≡ whole) (t : Pick) → t ≡ picked code first count inp (shapeOf code) i (p .at) →
+      (c at : ℕ) → t ≡ Child c at → (x : Skipped) → x ≡ rec c (moved p at) → (q : SkipPos) → x ≡ At q → 17 ≤ code → steps (shapeOf code) (i + 1) (enough - 1) q ≡ whole
   unfolding _>>=_
   turn-on i enough p left f whole all t is c at e x y q z h =
       sym (go-on i (enough - 1) q h)
@@ -180,15 +180,15 @@ module _ (inp : List ℕ) (rec : Skimmer) (code first count : ℕ) where
 -- ---- what the next child tells: it is one of the node's, it starts no earlier, and the loop goes on
 
 unfoldable pub Past : Shape → ℕ → ℕ → Type 0
-Past (variant w) p q = p < q
-Past (repeated w) p q = p < q
-Past tuple p q = Unit
+Past (as-variant w) p q = p < q
+Past (as-repeated w) p q = p < q
+Past as-tuple p q = Unit
 
 pub fuel-next : (s : Shape) (len p q r enough : ℕ) → Fuelled s (len - p) enough → Past s p q → q ≤ r → r ≤ len → Fuelled s (len - r) (enough - 1)
 unfolding Fuelled Past
-fuel-next (variant w) len p q r enough h a b c = tt
-fuel-next (repeated w) len p q r enough h a b c = omega arith
-fuel-next tuple len p q r enough h a b c = tt
+fuel-next (as-variant w) len p q r enough h a b c = tt
+fuel-next (as-repeated w) len p q r enough h a b c = omega arith
+fuel-next as-tuple len p q r enough h a b c = tt
 
 pub record Moved (s : Shape) (len first count i p c q : ℕ) : Type 0 where
   pub high : c < first + count
@@ -205,22 +205,22 @@ data Picks (s : Shape) (len first count i p : ℕ) : Pick → Type 0 where
 
 -- a tag of some bytes
 unfoldable pub Wide : Shape → Type 0
-Wide (variant w) = 0 < w
-Wide (repeated w) = 0 < w
-Wide tuple = Unit
+Wide (as-variant w) = 0 < w
+Wide (as-repeated w) = 0 < w
+Wide as-tuple = Unit
 
 pub wide-shape : (code : ℕ) → 14 < code → Wide (shapeOf code)
 unfolding Wide shapeOf pick
 wide-shape code h = by (ltb code 17) (ltb code 19) refl refl
   where
-    by : (a b : Bool) → ltb code 17 ≡ a → ltb code 19 ≡ b → Wide (pick a (variant (widthOf (form code))) (pick b (repeated (widthOf (form code))) tuple))
+    by : (a b : Bool) → ltb code 17 ≡ a → ltb code 19 ≡ b → Wide (pick a (as-variant (widthOf (form code))) (pick b (as-repeated (widthOf (form code))) as-tuple))
     by true b e f = let l = ltb-true code 17 e in tag-some code h (omega arith)
     by false true e f = tag-some code h (ltb-true code 19 f)
     by false false e f = tt
 
 module _ (inp : List ℕ) (code first count i p : ℕ) (h : p ≤ length inp) (k : i ≤ count + p) where
-  by-tag : (s : Shape) (w : ℕ) → 0 < w → Past s p (p + w) → Picks s (length inp) first count i p (byTag code first count s p (numberAt inp w (14 + w) p))
-  unfolding byTag numberAt pick
+  by-tag : (s : Shape) (w : ℕ) → 0 < w → Past s p (p + w) → Picks s (length inp) first count i p (byTag code first count s p (readNumberAt inp w (14 + w) p))
+  unfolding byTag readNumberAt pick
   by-tag s w z a = fits (leb w (length inp - p)) refl
     where
       named : (b : Bool) (tag : ℕ) → ltb tag count ≡ b → w ≤ length inp - p → Picks s (length inp) first count i p (pick b (Child (first + tag) (p + w)) (pick-is.Refused (InvalidVariantTag code tag count p)))
@@ -239,11 +239,11 @@ module _ (inp : List ℕ) (code first count i p : ℕ) (h : p ≤ length inp) (k
 
   picks : (s : Shape) → Wide s → Picks s (length inp) first count i p (picked code first count inp s i p)
   unfolding picked pick Past Wide
-  picks (variant w) z = by-tag (variant w) w z (omega arith)
-  picks (repeated w) z = by-tag (repeated w) w z (omega arith)
-  picks tuple z = go (ltb i count) refl
+  picks (as-variant w) z = by-tag (as-variant w) w z (omega arith)
+  picks (as-repeated w) z = by-tag (as-repeated w) w z (omega arith)
+  picks as-tuple z = go (ltb i count) refl
     where
-      go : (b : Bool) → ltb i count ≡ b → Picks tuple (length inp) first count i p (pick b (Child (first + i) p) (End p))
+      go : (b : Bool) → ltb i count ≡ b → Picks as-tuple (length inp) first count i p (pick b (Child (first + i) p) (End p))
       go true e =
           let l = ltb-true i count e in
           child {c = first + i} {q = p} (record { high = omega (arith, l); from = omega arith; within = h; counts = omega (arith, l); falls = omega (arith, l); past = tt })

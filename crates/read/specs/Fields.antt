@@ -7,12 +7,12 @@ use lib.Dec.{leb}
 use Rattle.rules.specs.Choice.{pick}
 use Rattle.rules.specs.Bytes.{leAt}
 use Rattle.rules.specs.Refusals.{Truncated}
-use Rattle.read.specs.declared.fields.Number.{Number}
-use Rattle.read.specs.declared.fields.Number.the-variants.{Is, Refused}
+use Rattle.read.specs.declared.fields.ReadNumber.{ReadNumber}
+use Rattle.read.specs.declared.fields.ReadNumber.the-variants.{Is, Refused}
 
 -- the number in w bytes and the place after it, or 12 at the cut field
-unfoldable pub numberAt : List ℕ → ℕ → ℕ → ℕ → Number
-numberAt inp w context at = pick (leb w (length inp - at)) (Is (leAt inp at w) (at + w)) (Refused (Truncated context at))
+unfoldable pub readNumberAt : List ℕ → ℕ → ℕ → ℕ → ReadNumber
+readNumberAt inp w context at = pick (leb w (length inp - at)) (Is (leAt inp at w) (at + w)) (Refused (Truncated context at))
 
 -- of a value's bytes, how many are payload: all, where they are more than the eight of a record
 unfoldable pub payloadOfFixed : ℕ → ℕ

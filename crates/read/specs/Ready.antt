@@ -7,36 +7,36 @@ use mathlib.Core.List.{List}
 use lib.ListN.{length}
 use Rattle.rules.specs.Block.{NodeIn, nodeAt, Closed}
 use Rattle.rules.specs.Reading.{settingsOk}
-use Rattle.rules.specs.declared.Settings.{Settings}
-use Rattle.read.specs.declared.walk.Pos.{Pos}
+use Rattle.rules.specs.declared.settings.Settings.{Settings}
+use Rattle.read.specs.declared.walk.SkipPos.{SkipPos}
 
 -- ---- blocks
 
 -- the block has a record i
-abbrev pub Inside : List ℕ → ℕ → Type 0
-Inside s i = NodeIn i (length s)
+abbrev pub HasNode : List ℕ → ℕ → Type 0
+HasNode s i = NodeIn i (length s)
 
 -- each record has a wire code, and its children lie in the block
-pub record Sound (s : List ℕ) : Type 0 where
-  pub codes : (i : ℕ) → Inside s i → nodeAt s i .code ≤ 19
+pub record SoundNodes (s : List ℕ) : Type 0 where
+  pub codes : (i : ℕ) → HasNode s i → nodeAt s i .code ≤ 19
   pub closed : Closed s
 
 -- record i of a sound block, and its wire code
 pub record Coded (s : List ℕ) (i code : ℕ) : Type 0 where
-  pub sound : Sound s
-  pub inside : Inside s i
+  pub sound : SoundNodes s
+  pub inside : HasNode s i
   pub is : code ≡ nodeAt s i .code
 
 -- ---- positions
 
 -- in an input of less than 2 ^ 32 bytes; payload bytes were passed, so that their count does not wrap
-pub record Readable (inp : List ℕ) (p : Pos) : Type 0 where
+pub record Readable (inp : List ℕ) (p : SkipPos) : Type 0 where
   pub within : p .at ≤ length inp
   pub short : length inp < 2 ^ 32
   pub passed : p .payload ≤ p .at
 
 -- and records were paid for, so that theirs does not
-pub record Ready (inp : List ℕ) (charge : ℕ) (p : Pos) : Type 0 where
+pub record Ready (inp : List ℕ) (charge : ℕ) (p : SkipPos) : Type 0 where
   pub stands : Readable inp p
   pub costs : 0 < charge
   pub total : p .records + p .budget .remaining < 2 ^ 32
@@ -44,8 +44,8 @@ pub record Ready (inp : List ℕ) (charge : ℕ) (p : Pos) : Type 0 where
 -- ---- a row's value, at a place of the input
 
 pub record Rooted (s inp : List ℕ) (settings : Settings) (at : ℕ) : Type 0 where
-  pub sound : Sound s
-  pub root : Inside s 0
+  pub sound : SoundNodes s
+  pub root : HasNode s 0
   pub compound : 14 < nodeAt s 0 .code
   pub accepted : settingsOk settings ≡ true
   pub short : length inp < 2 ^ 32

@@ -4,7 +4,7 @@ ghost use Prim.Native.Nat.{_+_, _≤_, _<_};
 ghost use lib.ListN.{length};
 ghost use Rattle.rules.specs.Refusals.{Truncated};
 ghost use Rattle.rules.specs.Wire.{form, widthOf};
-ghost use Rattle.read.specs.Fields.{numberAt, payloadOfFixed};
+ghost use Rattle.read.specs.Fields.{readNumberAt, payloadOfFixed};
 ghost use Rattle.read.specs.Children.{shapeOf, endsAt};
 use rules::Refusal;
 use rules::Why;
@@ -14,59 +14,59 @@ use wire::u32_at;
 use wire::wide;
 
 // A number and the place after it, or 12 where its bytes are cut.
-pub enum Number {
+pub enum ReadNumber {
     Is(u64, usize),
     Refused(Refusal),
 }
 
 // A field that the stream's end cuts.
-fn truncated(context: u8, at: usize) -> Number
-    ensures { λ r. ⌜ r ≡ Number.Refused (Truncated context at) ⌝ }
+fn truncated(context: u8, at: usize) -> ReadNumber
+    ensures { λ r. ⌜ r ≡ ReadNumber.Refused (Truncated context at) ⌝ }
 {
-    Number::Refused(Refusal {
+    ReadNumber::Refused(Refusal {
         why: Why::Truncated { context },
         place: at as u64,
     })
 }
 
 // A variant's tag.
-pub fn read_tag(code: u8, input: &[u8], at: usize) -> Number
+pub fn read_tag(code: u8, input: &[u8], at: usize) -> ReadNumber
     requires { ⌜ (14 < code) × (code < 19) × (at ≤ length (now input)) ⌝ }
-    ensures { λ r. ⌜ r ≡ numberAt (now (input .entry)) (widthOf (form code)) (14 + widthOf (form code)) at ⌝ }
+    ensures { λ r. ⌜ r ≡ readNumberAt (now (input .entry)) (widthOf (form code)) (14 + widthOf (form code)) at ⌝ }
 {
     let left = input.len() - at;
     if tag_width(code) == 1 {
         if left < 1 {
             return truncated(15, at);
         }
-        return Number::Is(wide(input[at]), at + 1);
+        return ReadNumber::Is(wide(input[at]), at + 1);
     }
     if left < 2 {
         return truncated(16, at);
     }
-    Number::Is(u16_at(input, at), at + 2)
+    ReadNumber::Is(u16_at(input, at), at + 2)
 }
 
 // The number of a row's table.
-pub fn read_table(input: &[u8], at: usize) -> Number
+pub fn read_table(input: &[u8], at: usize) -> ReadNumber
     requires { ⌜ at ≤ length (now input) ⌝ }
-    ensures { λ r. ⌜ r ≡ numberAt (now (input .entry)) 2 17 at ⌝ }
+    ensures { λ r. ⌜ r ≡ readNumberAt (now (input .entry)) 2 17 at ⌝ }
 {
     if input.len() - at < 2 {
         return truncated(17, at);
     }
-    Number::Is(u16_at(input, at), at + 2)
+    ReadNumber::Is(u16_at(input, at), at + 2)
 }
 
 // A blob's length.
-pub fn read_length(input: &[u8], at: usize) -> Number
+pub fn read_length(input: &[u8], at: usize) -> ReadNumber
     requires { ⌜ at ≤ length (now input) ⌝ }
-    ensures { λ r. ⌜ r ≡ numberAt (now (input .entry)) 4 13 at ⌝ }
+    ensures { λ r. ⌜ r ≡ readNumberAt (now (input .entry)) 4 13 at ⌝ }
 {
     if input.len() - at < 4 {
         return truncated(13, at);
     }
-    Number::Is(u32_at(input, at), at + 4)
+    ReadNumber::Is(u32_at(input, at), at + 4)
 }
 
 // How many bytes of a fixed width lie in the payload store: those of a value that a record's eight bytes do not hold.

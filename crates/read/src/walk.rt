@@ -6,13 +6,13 @@ ghost use lib.ListN.{length};
 ghost use Rattle.rules.specs.Walk.{walk};
 ghost use Rattle.rules.specs.Reading.{limits, start};
 ghost use Rattle.read.specs.Children.{shapeOf, picked};
-ghost use Rattle.read.specs.Skim.{skimmed, fixedOf, blobOf, leafOf, nodeOf, skim};
-ghost use Rattle.read.specs.Ready.{Inside, Sound, Coded, Readable, Ready, Rooted};
-ghost use Rattle.read.specs.Leads.{Leads};
+ghost use Rattle.read.specs.Skim.{skimmed, skimFixed, skimBlob, skimLeaf, skimNode, skim};
+ghost use Rattle.read.specs.Ready.{HasNode, SoundNodes, Coded, Readable, Ready, Rooted};
+ghost use Rattle.read.specs.Leads.{LeadsToSkip};
 use super::budget::Charged;
 use super::budget::RowBudget;
 use super::budget::blob_limit;
-use super::fields::Number;
+use super::fields::ReadNumber;
 use super::fields::ends;
 use super::fields::payload_of_fixed;
 use super::fields::read_length;
@@ -26,7 +26,7 @@ use rules::Why;
 use wire::codes::fixed_width;
 
 // Where the walk stands, what is left of the row's allowance, and the records and payload bytes that it has passed.
-pub struct Pos {
+pub struct SkipPos {
     pub at: usize,
     pub budget: RowBudget,
     pub records: u64,
@@ -35,7 +35,7 @@ pub struct Pos {
 
 // What skipping a value answers: where it ends, or why there is none.
 pub enum Skipped {
-    At(Pos),
+    At(SkipPos),
     Refused(Refusal),
 }
 
@@ -58,21 +58,21 @@ fn skipped_refused_by_charge(charged: Charged) -> Skipped
     }
 }
 
-fn skipped_refused_by_length(length: Number) -> Skipped
-    ensures { λ r. ⌜ ((why : Refusal) → length ≡ Number.Refused why → r ≡ Skipped.Refused why) ⌝ }
+fn skipped_refused_by_length(length: ReadNumber) -> Skipped
+    ensures { λ r. ⌜ ((why : Refusal) → length ≡ ReadNumber.Refused why → r ≡ Skipped.Refused why) ⌝ }
 {
     match length {
-        Number::Refused(why) => Skipped::Refused(why),
-        Number::Is(_, _) => Skipped::Refused(Refusal::SETTING),
+        ReadNumber::Refused(why) => Skipped::Refused(why),
+        ReadNumber::Is(_, _) => Skipped::Refused(Refusal::SETTING),
     }
 }
 
-fn pick_refused_by_tag(tag: Number) -> Pick
-    ensures { λ r. ⌜ ((why : Refusal) → tag ≡ Number.Refused why → r ≡ Pick.Refused why) ⌝ }
+fn pick_refused_by_tag(tag: ReadNumber) -> Pick
+    ensures { λ r. ⌜ ((why : Refusal) → tag ≡ ReadNumber.Refused why → r ≡ Pick.Refused why) ⌝ }
 {
     match tag {
-        Number::Refused(why) => Pick::Refused(why),
-        Number::Is(_, _) => Pick::Refused(Refusal::SETTING),
+        ReadNumber::Refused(why) => Pick::Refused(why),
+        ReadNumber::Is(_, _) => Pick::Refused(Refusal::SETTING),
     }
 }
 
@@ -88,9 +88,9 @@ fn skipped_refused_by_child(value: Skipped) -> Skipped
 
 // ---- nodes without children
 
-fn skip_fixed(code: u8, input: &[u8], p: Pos) -> Skipped
+fn skip_fixed(code: u8, input: &[u8], p: SkipPos) -> Skipped
     requires { ⌜ (code < 13) × Readable (now input) p ⌝ }
-    ensures { λ r. ⌜ r ≡ fixedOf (now (input .entry)) code p ⌝ }
+    ensures { λ r. ⌜ r ≡ skimFixed (now (input .entry)) code p ⌝ }
 {
     let at = p.at;
     let width = fixed_width(code);
@@ -101,7 +101,7 @@ fn skip_fixed(code: u8, input: &[u8], p: Pos) -> Skipped
         });
     }
     let budget = p.budget;
-    Skipped::At(Pos {
+    Skipped::At(SkipPos {
         at: at + width,
         budget,
         records: p.records,
@@ -111,14 +111,14 @@ fn skip_fixed(code: u8, input: &[u8], p: Pos) -> Skipped
 
 // The blob limit first, then the charge, and only then whether the bytes are there: a length that the stream does not keep
 // is refused for what it asks.
-fn skip_blob(code: u8, input: &[u8], p: Pos) -> Skipped
+fn skip_blob(code: u8, input: &[u8], p: SkipPos) -> Skipped
     requires { ⌜ Readable (now input) p ⌝ }
-    ensures { λ r. ⌜ r ≡ blobOf (now (input .entry)) code p ⌝ }
+    ensures { λ r. ⌜ r ≡ skimBlob (now (input .entry)) code p ⌝ }
 {
     let at = p.at;
     let budget = p.budget;
     let length = read_length(input, at);
-    let Number::Is(n, next) = length else {
+    let ReadNumber::Is(n, next) = length else {
         return skipped_refused_by_length(length);
     };
     let left = (input.len() - next) as u64;
@@ -143,7 +143,7 @@ fn skip_blob(code: u8, input: &[u8], p: Pos) -> Skipped
             place: next as u64,
         });
     }
-    Skipped::At(Pos {
+    Skipped::At(SkipPos {
         at: next + n as usize,
         budget: rest,
         records: p.records,
@@ -151,9 +151,9 @@ fn skip_blob(code: u8, input: &[u8], p: Pos) -> Skipped
     })
 }
 
-fn skip_leaf(code: u8, input: &[u8], p: Pos) -> Skipped
+fn skip_leaf(code: u8, input: &[u8], p: SkipPos) -> Skipped
     requires { ⌜ Readable (now input) p ⌝ }
-    ensures { λ r. ⌜ r ≡ leafOf (now (input .entry)) code p ⌝ }
+    ensures { λ r. ⌜ r ≡ skimLeaf (now (input .entry)) code p ⌝ }
 {
     if code < 13 {
         let s = skip_fixed(code, input, p);
@@ -184,7 +184,7 @@ fn next_child(code: u8, first: u64, count: u64, i: u64, input: &[u8], at: usize)
         return Pick::Child(child as usize, at);
     }
     let t = read_tag(code, input, at);
-    let Number::Is(tag, next) = t else {
+    let ReadNumber::Is(tag, next) = t else {
         return pick_refused_by_tag(t);
     };
     if ends(code, tag) {
@@ -205,8 +205,8 @@ fn next_child(code: u8, first: u64, count: u64, i: u64, input: &[u8], at: usize)
 }
 
 // What a node comes to at once: a leaf of this code from a position, or children.
-pub enum Reached {
-    Leaf(u8, Pos),
+pub enum ToSkip {
+    Leaf(u8, SkipPos),
     Children,
 }
 
@@ -218,44 +218,44 @@ fn leaf_at(
     code: u8,
     depth: usize,
     input: &[u8],
-    p: Pos,
+    p: SkipPos,
     charge: u64,
-) -> Reached
+) -> ToSkip
     requires { ⌜ Coded (now block) node code × Ready (now input) charge p ⌝ }
-    ensures { λ r. ⌜ Leads (now (block .entry)) (now (input .entry)) (skim (now (block .entry)) (now (input .entry)) charge depth) node p r ⌝ }
+    ensures { λ r. ⌜ LeadsToSkip (now (block .entry)) (now (input .entry)) (skim (now (block .entry)) (now (input .entry)) charge depth) node p r ⌝ }
 {
     if code < 15 {
-        return Reached::Leaf(code, p);
+        return ToSkip::Leaf(code, p);
     }
     if 16 < code {
-        return Reached::Children;
+        return ToSkip::Children;
     }
     if depth == 0 {
-        return Reached::Children;
+        return ToSkip::Children;
     }
     let at = p.at;
     let budget = p.budget;
     let t = read_tag(code, input, at);
-    let Number::Is(tag, start) = t else {
-        return Reached::Children;
+    let ReadNumber::Is(tag, start) = t else {
+        return ToSkip::Children;
     };
     let first = node_first(block, node);
     let count = node_children(block, node);
     if count <= tag {
-        return Reached::Children;
+        return ToSkip::Children;
     }
     let child = (first + tag) as usize;
     let below = node_code(block, child);
     if 14 < below {
-        return Reached::Children;
+        return ToSkip::Children;
     }
     let paid = budget.charge(charge, start as u64);
     let Charged::Left(rest) = paid else {
-        return Reached::Children;
+        return ToSkip::Children;
     };
-    Reached::Leaf(
+    ToSkip::Leaf(
         below,
-        Pos {
+        SkipPos {
             at: start,
             budget: rest,
             records: p.records + 1,
@@ -265,8 +265,15 @@ fn leaf_at(
 }
 
 // The node step. Leaf or not, a node is charged before any byte of it is looked at.
-fn skip_value(block: &[u8], node: usize, depth: usize, input: &[u8], p: Pos, charge: u64) -> Skipped
-    requires { ⌜ Sound (now block) × Inside (now block) node × Ready (now input) charge p ⌝ }
+fn skip_value(
+    block: &[u8],
+    node: usize,
+    depth: usize,
+    input: &[u8],
+    p: SkipPos,
+    charge: u64,
+) -> Skipped
+    requires { ⌜ SoundNodes (now block) × HasNode (now block) node × Ready (now input) charge p ⌝ }
     ensures { λ r. ⌜ r ≡ skim (now (block .entry)) (now (input .entry)) charge depth node p ⌝ }
 {
     if depth == 0 {
@@ -278,7 +285,7 @@ fn skip_value(block: &[u8], node: usize, depth: usize, input: &[u8], p: Pos, cha
     let Charged::Left(rest) = paid else {
         return skipped_refused_by_charge(paid);
     };
-    let q = Pos {
+    let q = SkipPos {
         at,
         budget: rest,
         records: p.records + 1,
@@ -287,14 +294,14 @@ fn skip_value(block: &[u8], node: usize, depth: usize, input: &[u8], p: Pos, cha
     let code = node_code(block, node);
     let reached = leaf_at(block, node, code, depth - 1, input, q, charge);
     match reached {
-        Reached::Leaf(below, leaf) => {
+        ToSkip::Leaf(below, leaf) => {
             let s = skip_leaf(below, input, leaf);
             let Skipped::At(r) = s else {
                 return s;
             };
             Skipped::At(r)
         }
-        Reached::Children => {
+        ToSkip::Children => {
             // What a call lends has to lie in memory: copied here, so that a leaf is spared that.
             let records = block;
             let bytes = input;
@@ -316,11 +323,11 @@ fn skip_children(
     node: usize,
     depth: usize,
     input: &[u8],
-    p: Pos,
+    p: SkipPos,
     charge: u64,
 ) -> Skipped
     requires { ⌜ Coded (now block) node code × (14 < code) × Ready (now input) charge p ⌝ }
-    ensures { λ r. ⌜ r ≡ nodeOf (now (block .entry)) (now (input .entry)) (skim (now (block .entry)) (now (input .entry)) charge depth) node p ⌝ }
+    ensures { λ r. ⌜ r ≡ skimNode (now (block .entry)) (now (input .entry)) (skim (now (block .entry)) (now (input .entry)) charge depth) node p ⌝ }
 {
     let first = node_first(block, node);
     let count = node_children(block, node);
@@ -332,7 +339,7 @@ fn skip_children(
         let pick = next_child(code, first, count, i, input, at);
         match pick {
             Pick::Child(child, start) => {
-                let from = Pos {
+                let from = SkipPos {
                     at: start,
                     budget,
                     records: q.records,
@@ -349,7 +356,7 @@ fn skip_children(
                 i += 1;
             }
             Pick::End(end) => {
-                return Skipped::At(Pos {
+                return Skipped::At(SkipPos {
                     at: end,
                     budget,
                     records: q.records,
@@ -375,7 +382,7 @@ pub fn skip_root(block: &[u8], input: &[u8], at: usize, settings: Settings) -> S
     let Charged::Left(rest) = paid else {
         return skipped_refused_by_charge(paid);
     };
-    let p = Pos {
+    let p = SkipPos {
         at,
         budget: rest,
         records: 1,

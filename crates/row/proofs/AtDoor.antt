@@ -11,13 +11,13 @@ use lib.ListN.{length}
 use Rattle.rules.specs.Choice.{pick, _and_}
 use Rattle.rules.specs.Format.{Format, formatRules}
 use Rattle.rules.specs.Reading.{whenAccepted, door}
-use Rattle.rules.specs.declared.Settings.{Settings}
-use Rattle.rules.specs.declared.Refusal.{Refusal}
+use Rattle.rules.specs.declared.settings.Settings.{Settings}
+use Rattle.rules.specs.declared.refusal.Refusal.{Refusal}
 use Rattle.rules.specs.Refusals.{Setting}
-use Rattle.rules.specs.declared.Checked.{Checked}
-use Rattle.rules.specs.declared.Door.{Door}
-use Rattle.rules.specs.declared.Door.the-variants.{Open, End, Refused}
-use Rattle.rows.proofs.Door.{behind-open}
+use Rattle.rules.specs.declared.answer.Checked.{Checked}
+use Rattle.rules.specs.declared.answer.Door.{Door}
+use Rattle.rules.specs.declared.answer.Door.the-variants.{Open, End, Refused}
+use Rattle.row_laws.proofs.Door.{behind-open}
 use Rattle.row.specs.Steps.{boundsOk, Asked}
 
 module _ (f : Format) (s : Settings) (inp : List ℕ) (at : ℕ) where

@@ -17,33 +17,33 @@ use Rattle.rules.specs.Value.{Value}
 use Rattle.rules.specs.Walk as rule
 use Rattle.rules.specs.Walk.{Limits, Answer, Got, numberOf, walk, after, _>>=_}
 use Rattle.rules.specs.Reading.{start, rootFrom, rowAt, extent, skipped}
-use Rattle.rules.specs.declared.Settings.{Settings}
-use Rattle.rules.specs.declared.Refusal.{Refusal}
+use Rattle.rules.specs.declared.settings.Settings.{Settings}
+use Rattle.rules.specs.declared.refusal.Refusal.{Refusal}
 use Rattle.rules.specs.Refusals.{Truncated, MissingTableSchema, UnknownRegistryReference}
-use Rattle.rules.specs.declared.Located.{Located}
-use Rattle.rules.specs.declared.Located.the-variants.{Block, NoTable, NoEntry}
-use Rattle.rules.specs.declared.Read.{Read}
-use Rattle.rules.specs.declared.Read.the-variants.{Row}
-use Rattle.blocks.proofs.Tables.{table-schema}
-use Rattle.rows.proofs.TableRows.{located}
-use Rattle.rows.proofs.Sound.{sound}
+use Rattle.rules.specs.declared.table_record.Located.{Located}
+use Rattle.rules.specs.declared.table_record.Located.the-variants.{Block, NoTable, NoEntry}
+use Rattle.rules.specs.declared.answer.Read.{Read}
+use Rattle.rules.specs.declared.answer.Read.the-variants.{Row}
+use Rattle.block_laws.proofs.Tables.{table-schema}
+use Rattle.row_laws.proofs.TableRows.{located}
+use Rattle.row_laws.proofs.Sound.{sound}
 use Rattle.schema.specs.Slices.{slices}
-use Rattle.read.specs.Fields.{numberAt}
-use Rattle.read.specs.declared.fields.Number.{Number}
-use Rattle.read.specs.declared.fields.Number.the-variants.{Is}
-use Rattle.read.specs.declared.fields.Number.the-variants as number-is
-use Rattle.read.specs.declared.walk.Pos.{Pos}
+use Rattle.read.specs.Fields.{readNumberAt}
+use Rattle.read.specs.declared.fields.ReadNumber.{ReadNumber}
+use Rattle.read.specs.declared.fields.ReadNumber.the-variants.{Is}
+use Rattle.read.specs.declared.fields.ReadNumber.the-variants as number-is
+use Rattle.read.specs.declared.walk.SkipPos.{SkipPos}
 use Rattle.read.specs.declared.walk.Skipped.{Skipped}
 use Rattle.read.specs.declared.walk.Skipped.the-variants.{At, Refused}
-use Rattle.read.specs.Skim.{placed, skimmed}
+use Rattle.read.specs.Skim.{skimPos, skimmed}
 use Rattle.read.proofs.Nodes.{formed-sound}
 use Rattle.row.specs.declared.steps.RowBlock.{RowBlock}
 use Rattle.row.specs.Steps.{Asked, Walkable, rowBlockIn, rowBlockBy, rowBlockAt, rowIn}
 
 -- the table tag, read or cut
-module _ (inp : List ℕ) (at : ℕ) (x : Number) (is : x ≡ numberAt inp 2 17 at) where
+module _ (inp : List ℕ) (at : ℕ) (x : ReadNumber) (is : x ≡ readNumberAt inp 2 17 at) where
   pub table-read : (t next : ℕ) → x ≡ Is t next → (2 ≤ length inp - at) × (t ≡ leAt inp at 2)
-  unfolding numberAt pick
+  unfolding readNumberAt pick
   table-read t next e = by (leb 2 (length inp - at)) refl (sym is ∙ e)
     where
       by : (b : Bool) → leb 2 (length inp - at) ≡ b → pick b (Is (leAt inp at 2) (at + 2)) (number-is.Refused (Truncated 17 at)) ≡ Is t next → (2 ≤ length inp - at) × (t ≡ leAt inp at 2)
@@ -54,7 +54,7 @@ module _ (inp : List ℕ) (at : ℕ) (x : Number) (is : x ≡ numberAt inp 2 17 
           differ y = cc
 
   pub table-cut : (f : Format) (lim : Limits) (r : Refusal) → x ≡ number-is.Refused r → Read.Refused r ≡ skipped at (rowAt f inp lim at)
-  unfolding numberAt rowAt numberOf start pick _>>=_ skipped
+  unfolding readNumberAt rowAt numberOf start pick _>>=_ skipped
   table-cut f lim r e = by (leb 2 (length inp - at)) refl (sym is ∙ e)
     where
       by : (b : Bool) → leb 2 (length inp - at) ≡ b → pick b (Is (leAt inp at 2) (at + 2)) (number-is.Refused (Truncated 17 at)) ≡ number-is.Refused r → Read.Refused r ≡ skipped at (rowAt f inp lim at)
@@ -125,7 +125,7 @@ module _ (names references registry inp : List ℕ) (at : ℕ) (x : RowBlock) (i
   -- a block that is found: the tag is whole, and the block its table's
   pub block-found : (t first n : ℕ) → x ≡ RowBlock.Block t first n → (2 ≤ length inp - at) × ((t ≡ leAt inp at 2) × (Block first n ≡ tableSchema (slices [] names references registry) t))
   unfolding rowBlockBy rowBlockIn
-  block-found t first n e = by (numberAt inp 2 17 at) refl (sym is ∙ e)
+  block-found t first n e = by (readNumberAt inp 2 17 at) refl (sym is ∙ e)
     where
       found : (t′ : ℕ) (l : Located) → tableSchema (slices [] names references registry) t′ ≡ l → (2 ≤ length inp - at) × (t′ ≡ leAt inp at 2) → rowBlockIn at t′ l ≡ RowBlock.Block t first n →
           (2 ≤ length inp - at) × ((t ≡ leAt inp at 2) × (Block first n ≡ tableSchema (slices [] names references registry) t))
@@ -137,14 +137,14 @@ module _ (names references registry inp : List ℕ) (at : ℕ) (x : RowBlock) (i
       found t′ NoTable w k y = absurd (let z : _≡_ {A = ℕ} 0 1 = cc in omega arith)
       found t′ NoEntry w k y = absurd (let z : _≡_ {A = ℕ} 0 1 = cc in omega arith)
 
-      by : (y : Number) → numberAt inp 2 17 at ≡ y → rowBlockBy (slices [] names references registry) at y ≡ RowBlock.Block t first n → (2 ≤ length inp - at) × ((t ≡ leAt inp at 2) × (Block first n ≡ tableSchema (slices [] names references registry) t))
+      by : (y : ReadNumber) → readNumberAt inp 2 17 at ≡ y → rowBlockBy (slices [] names references registry) at y ≡ RowBlock.Block t first n → (2 ≤ length inp - at) × ((t ≡ leAt inp at 2) × (Block first n ≡ tableSchema (slices [] names references registry) t))
       by (Is t′ next) w y = found t′ _ refl (table-read inp at (Is t′ next) (sym w) t′ next refl) y
       by (number-is.Refused r) w y = absurd (let z : _≡_ {A = ℕ} 0 1 = cc in omega arith)
 
   -- and where there is none, the row is refused so
   pub block-refused : (table : List ℕ) (lim : Limits) (r : Refusal) → x ≡ RowBlock.Refused r → Read.Refused r ≡ skipped at (rowAt (slices table names references registry) inp lim at)
   unfolding rowBlockBy rowBlockIn
-  block-refused table lim r e = by (numberAt inp 2 17 at) refl (sym is ∙ e)
+  block-refused table lim r e = by (readNumberAt inp 2 17 at) refl (sym is ∙ e)
     where
       none : (t : ℕ) (l : Located) → tableSchema (slices [] names references registry) t ≡ l → (2 ≤ length inp - at) × (t ≡ leAt inp at 2) → rowBlockIn at t l ≡ RowBlock.Refused r →
           Read.Refused r ≡ skipped at (rowAt (slices table names references registry) inp lim at)
@@ -152,7 +152,7 @@ module _ (names references registry inp : List ℕ) (at : ℕ) (x : RowBlock) (i
       none t NoTable w k y = let z : r ≡ MissingTableSchema t at = cc in rw z (row-missing table names references registry inp lim at t NoTable (k .0) (k .1) (sym w) refl)
       none t NoEntry w k y = let z : r ≡ UnknownRegistryReference t = cc in rw z (row-unknown table names references registry inp lim at t NoEntry (k .0) (k .1) (sym w) refl)
 
-      by : (y : Number) → numberAt inp 2 17 at ≡ y → rowBlockBy (slices [] names references registry) at y ≡ RowBlock.Refused r → Read.Refused r ≡ skipped at (rowAt (slices table names references registry) inp lim at)
+      by : (y : ReadNumber) → readNumberAt inp 2 17 at ≡ y → rowBlockBy (slices [] names references registry) at y ≡ RowBlock.Refused r → Read.Refused r ≡ skipped at (rowAt (slices table names references registry) inp lim at)
       by (Is t next) w y = none t _ refl (table-read inp at (Is t next) (sym w) t next refl) y
       by (number-is.Refused s) w y = let z : r ≡ s = cc in rw z (table-cut inp at (number-is.Refused s) (sym w) (slices table names references registry) lim s refl)
 
@@ -165,29 +165,29 @@ module _ (table inp : List ℕ) (lim : Limits) (at t first n : ℕ) (s : Skipped
       by : (a : Answer Value) → skimmed lim a ≡ Refused r → Read.Refused r ≡ skipped at (a >>= λ z. Got (t, z .0) (z .1))
       by (Got v q) x = absurd (omega (arith, differ x))
         where
-          differ : At (placed lim q) ≡ Refused r → _≡_ {A = ℕ} 0 1
+          differ : At (skimPos lim q) ≡ Refused r → _≡_ {A = ℕ} 0 1
           differ x = cc
       by (rule.Refused y) x = let z : r ≡ y = cc in rw z
 
-  pub value-row : (p : Pos) → s ≡ At p → Row (record { table = t; bytes = p .at - at; records = p .records; payload = p .payload }) ≡ rowIn table inp lim at t first n
-  unfolding rowIn skimmed skipped _>>=_ extent placed
+  pub value-row : (p : SkipPos) → s ≡ At p → Row (record { table = t; bytes = p .at - at; records = p .records; payload = p .payload }) ≡ rowIn table inp lim at t first n
+  unfolding rowIn skimmed skipped _>>=_ extent skimPos
   value-row p e = by (walk (block table first n) inp lim 64 0 (start lim (at + 2))) (sym is ∙ e)
     where
       by : (a : Answer Value) → skimmed lim a ≡ At p → Row (record { table = t; bytes = p .at - at; records = p .records; payload = p .payload }) ≡ skipped at (a >>= λ z. Got (t, z .0) (z .1))
-      by (Got v q) x = let z : p ≡ placed lim q = cc in rw z
+      by (Got v q) x = let z : p ≡ skimPos lim q = cc in rw z
       by (rule.Refused y) x = absurd (omega (arith, differ x))
         where
           differ : Refused y ≡ At p → _≡_ {A = ℕ} 0 1
           differ x = cc
 
   -- it ends past the table tag, in the input
-  pub value-ends : Bytes inp → at + 2 ≤ length inp → (p : Pos) → s ≡ At p → at + 2 ≤ p .at
-  unfolding skimmed placed start after
+  pub value-ends : Bytes inp → at + 2 ≤ length inp → (p : SkipPos) → s ≡ At p → at + 2 ≤ p .at
+  unfolding skimmed skimPos start after
   value-ends bs h p e = by (walk (block table first n) inp lim 64 0 (start lim (at + 2))) refl (sym is ∙ e)
     where
       by : (a : Answer Value) → walk (block table first n) inp lim 64 0 (start lim (at + 2)) ≡ a → skimmed lim a ≡ At p → at + 2 ≤ p .at
       by (Got v q) w x =
-          let z : p ≡ placed lim q = cc in
+          let z : p ≡ skimPos lim q = cc in
           let d = sound inp lim bs (block table first n) [] 64 0 (start lim (at + 2)) q v h w in
           let y : q .at ≡ (at + 2) + length (d .bytes) = ap (λ (g : rule.Pos). g .at) (d .ends) in
           rw z (omega arith)

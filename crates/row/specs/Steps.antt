@@ -10,15 +10,15 @@ use Rattle.rules.specs.Block.{records, block}
 use Rattle.rules.specs.Format.{Format, shortOk, sizesOk, formatRules, tableSchema}
 use Rattle.rules.specs.Walk.{Limits, Got, _>>=_, walk}
 use Rattle.rules.specs.Reading.{settingsOk, start, skipped}
-use Rattle.rules.specs.declared.Settings.{Settings}
+use Rattle.rules.specs.declared.settings.Settings.{Settings}
 use Rattle.rules.specs.Refusals.{MissingTableSchema, UnknownRegistryReference}
-use Rattle.rules.specs.declared.Located.{Located}
-use Rattle.rules.specs.declared.Located.the-variants.{NoTable, NoEntry}
-use Rattle.rules.specs.declared.Checked.the-variants.{Accepted}
-use Rattle.rules.specs.declared.Read.{Read}
-use Rattle.read.specs.Fields.{numberAt}
-use Rattle.read.specs.declared.fields.Number.{Number}
-use Rattle.read.specs.declared.fields.Number.the-variants.{Is}
+use Rattle.rules.specs.declared.table_record.Located.{Located}
+use Rattle.rules.specs.declared.table_record.Located.the-variants.{NoTable, NoEntry}
+use Rattle.rules.specs.declared.answer.Checked.the-variants.{Accepted}
+use Rattle.rules.specs.declared.answer.Read.{Read}
+use Rattle.read.specs.Fields.{readNumberAt}
+use Rattle.read.specs.declared.fields.ReadNumber.{ReadNumber}
+use Rattle.read.specs.declared.fields.ReadNumber.the-variants.{Is}
 use Rattle.row.specs.declared.steps.RowBlock.{RowBlock}
 use Rattle.read.specs.Ready.{Rooted}
 
@@ -43,13 +43,13 @@ rowBlockIn at t (Located.Block first n) = RowBlock.Block t first n
 rowBlockIn at t NoTable = RowBlock.Refused (MissingTableSchema t at)
 rowBlockIn at t NoEntry = RowBlock.Refused (UnknownRegistryReference t)
 
-unfoldable pub rowBlockBy : Format → ℕ → Number → RowBlock
+unfoldable pub rowBlockBy : Format → ℕ → ReadNumber → RowBlock
 rowBlockBy f at (Is t next) = rowBlockIn at t (tableSchema f t)
-rowBlockBy f at (Number.Refused r) = RowBlock.Refused r
+rowBlockBy f at (ReadNumber.Refused r) = RowBlock.Refused r
 
 -- the block of the table whose tag stands at a position
 abbrev pub rowBlockAt : Format → List ℕ → ℕ → RowBlock
-rowBlockAt f inp at = rowBlockBy f at (numberAt inp 2 17 at)
+rowBlockAt f inp at = rowBlockBy f at (readNumberAt inp 2 17 at)
 
 -- a row of table t at a position, from the table's block
 unfoldable pub rowIn : List ℕ → List ℕ → Limits → ℕ → ℕ → ℕ → ℕ → Read

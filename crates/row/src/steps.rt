@@ -6,8 +6,8 @@ ghost use lib.ListN.{length};
 ghost use Rattle.rules.specs.Reading.{limits, rowAt, skipped};
 ghost use Rattle.schema.specs.Slices.{slices, EntriesNamed, ReferencesNamed};
 ghost use Rattle.row.specs.Steps.{Asked, Walkable, rowBlockAt, rowIn};
-use flat::table::block_of;
-use read::fields::Number;
+use block::table::block_of;
+use read::fields::ReadNumber;
 use read::fields::read_table;
 use read::walk::Skipped;
 use read::walk::skip_root;
@@ -38,8 +38,8 @@ pub fn block_at(
 {
     let number = read_table(input, at);
     match number {
-        Number::Refused(why) => RowBlock::Refused(why),
-        Number::Is(tag, _) => {
+        ReadNumber::Refused(why) => RowBlock::Refused(why),
+        ReadNumber::Is(tag, _) => {
             let found = table_schema(names, references, registry, tag);
             match found {
                 Located::Block(first, count) => RowBlock::Block(tag, first, count),

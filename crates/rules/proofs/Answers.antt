@@ -6,13 +6,13 @@ use mathlib.Core.Logic.{_↔_}
 use native.Mathlib.Omega.{arith}
 use Rattle.rules.specs.Refusals.{lineOf}
 use Rattle.rules.specs.Answers.{Said, said, noneSaid, rowSaid, readSaid, checkedSaid}
-use Rattle.rules.specs.declared.Refusal.{Refusal}
-use Rattle.rules.specs.declared.Why.{Why}
-use Rattle.rules.specs.declared.Why.the-variants as why
-use Rattle.rules.specs.declared.Checked.{Checked}
-use Rattle.rules.specs.declared.Checked.the-variants.{Accepted, Refused}
-use Rattle.rules.specs.declared.Extent.{Extent}
-use Rattle.rules.specs.declared.Read.{Read}
+use Rattle.rules.specs.declared.refusal.Refusal.{Refusal}
+use Rattle.rules.specs.declared.refusal.Why.{Why}
+use Rattle.rules.specs.declared.refusal.Why.the-variants as why
+use Rattle.rules.specs.declared.answer.Checked.{Checked}
+use Rattle.rules.specs.declared.answer.Checked.the-variants.{Accepted, Refused}
+use Rattle.rules.specs.declared.answer.Extent.{Extent}
+use Rattle.rules.specs.declared.answer.Read.{Read}
 
 -- no refusal has the number 0
 line-number : (w : Why) → lineOf w .number ≡ 0 → ⊥

@@ -7,9 +7,9 @@ use native.Mathlib.Omega.{arith}
 use native.Mathlib.Nat.{sub-zero}
 use Rattle.rules.specs.Choice.{pick}
 use Rattle.rules.specs.Refusals.{_then_, inOrder}
-use Rattle.rules.specs.declared.Refusal.{Refusal}
-use Rattle.rules.specs.declared.Checked.{Checked}
-use Rattle.rules.specs.declared.Checked.the-variants.{Accepted, Refused}
+use Rattle.rules.specs.declared.refusal.Refusal.{Refusal}
+use Rattle.rules.specs.declared.answer.Checked.{Checked}
+use Rattle.rules.specs.declared.answer.Checked.the-variants.{Accepted, Refused}
 
 pub refused-not : (r : Refusal) → Refused r ≡ Accepted → ⊥
 refused-not r e = subst (λ (x : Checked). isRefused x) e tt

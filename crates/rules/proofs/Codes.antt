@@ -10,8 +10,8 @@ use lib.Dec.{ltb}
 use lib.ListN.{length}
 use Rattle.rules.specs.Choice.{all}
 use Rattle.rules.specs.Wire.{Form, unknown, form, writtenIf, typeOf, typeIn, wireTypes}
-use Rattle.rules.specs.declared.WireType.{WireType}
-use Rattle.rules.specs.declared.Known.the-variants.{Unknown}
+use Rattle.rules.specs.declared.wire_type.WireType.{WireType}
+use Rattle.rules.specs.declared.wire_type.Known.the-variants.{Unknown}
 use Rattle.rules.proofs.Tests.{all-each}
 
 pub no-type : (ts : List WireType) (code : ℕ) → length ts ≤ code → typeIn ts code ≡ Unknown

@@ -10,8 +10,8 @@ use borrow.Author.Tests.{lt-ltb, le-ltb, eq-eqb, ne-eqb, eqb-true, eqb-false, lt
 use lib.Dec.{ltb, eqb}
 use Rattle.rules.specs.Choice.{pick}
 use Rattle.rules.specs.Bytes.{order, isLess, isEqual}
-use Rattle.rules.specs.declared.Order.{Order}
-use Rattle.rules.specs.declared.Order.the-variants.{Less, Equal, Greater}
+use Rattle.rules.specs.declared.answer.Order.{Order}
+use Rattle.rules.specs.declared.answer.Order.the-variants.{Less, Equal, Greater}
 
 -- ---- the answers as tests
 

@@ -13,7 +13,7 @@ use Rattle.rules.specs.SchemaRules.{nodeRule, ruleAt, schemaRule, notTup
 use Rattle.rules.specs.Format.{blockFormOk, blockDepthOk, blockRule, referenceAt, entryAt, entryName, lookup, resolved, tableSchema, referenceOk, ascending, entryOk, referenceFormOk, formsOk, entryDepthOk, referenceDepthOk, depthsOk, entryRule, rootOf, inlineRule, referenceRule, rulesOrder, sizesOk, formatRules, oneBlock, encoderRules}
 use Rattle.rules.specs.Value.{tally, items, values, recordsOf, payloadOf}
 use Rattle.rules.specs.ValueRecord.{valueRecordStart, layout, layouts, valueRecordAt, isRecord}
-use Rattle.rules.specs.ValueTable.{bit, pays, kind, sizeOf, contentOf, headOf, below, heads, flat, _>>=_ as _parsed>>=_, kindOf, storedAt, scalarAt, itemsAt, valuesAt, nodeOf, headed, valueAt, exactly, tableValue}
+use Rattle.rules.specs.ValueTable.{bit, payloadBytes, valueKind, sizeOf, contentOf, headOf, below, heads, flat, _>>=_ as _parsed>>=_, kindOf, storedAt, scalarAt, itemsAt, valuesAt, nodeValue, ifRecordIs, valueAt, ifWholeTable, tableValue}
 use Rattle.rules.specs.Walk.{blobLimit, _>>=_, numberOf, bytesOf, charged, blobOf, childOf, pairsOf, fieldsOf, valueOf, walk}
 use Rattle.rules.specs.Reading.{settingsOk, limits, start, rootFrom, rowAt, whenAccepted, door, through, extent, skipped, skipRule, room, roomFor, roomTest, fillWith, filled, decodeRule}
 use Rattle.rules.specs.Answers.{said, noneSaid, rowSaid, readSaid}
@@ -21,5 +21,5 @@ use Rattle.rules.specs.Writing.{_>>=_ as _wrote>>=_, kindFor, fitting, t
 use Rattle.rules.specs.Rows.{schemaRecord, oneTable, A, B, settings, blank, encodedAgain, again, outcome, line, limited, tenBytes, lines, same, refusal, row, tenRecords, fourRecords, sevenRecords, threeRecords, tenPayload, outcomes}
 
 pub rows-hold : map outcome lines ≡ outcomes
-unfolding schemaRecord oneTable A B settings blank encodedAgain again outcome line limited tenBytes lines same refusal row tenRecords fourRecords sevenRecords threeRecords tenPayload outcomes ascii pick _and_ all le leAt part over order isEqual isLess form written writtenIf typeOf typeIn wireTypes widthOf endTag maximum lineOf said _then_ inOrder deep child nodeAt block earlier nameOk childrenOk recordOk recordAt blockOk nameIn treesFrom treeAt blockTree depthOf nodeRule ruleAt schemaRule notTuple rootRule nameRule childRule tableRule blockFormOk blockDepthOk blockRule referenceAt entryAt entryName lookup resolved tableSchema referenceOk ascending entryOk referenceFormOk formsOk entryDepthOk referenceDepthOk depthsOk entryRule rootOf inlineRule referenceRule rulesOrder sizesOk formatRules oneBlock encoderRules tally items values recordsOf payloadOf layout layouts valueRecordAt isRecord bit pays kind sizeOf contentOf headOf below heads flat _parsed>>=_ kindOf storedAt scalarAt itemsAt valuesAt nodeOf headed valueAt exactly tableValue blobLimit _>>=_ numberOf bytesOf charged blobOf childOf pairsOf fieldsOf valueOf walk settingsOk limits start rootFrom rowAt whenAccepted door through extent skipped skipRule room roomFor roomTest fillWith filled decodeRule noneSaid rowSaid readSaid _wrote>>=_ kindFor fitting tagged write writeRow placed encodeValue encodeOk encodeRule
+unfolding schemaRecord oneTable A B settings blank encodedAgain again outcome line limited tenBytes lines same refusal row tenRecords fourRecords sevenRecords threeRecords tenPayload outcomes ascii pick _and_ all le leAt part over order isEqual isLess form written writtenIf typeOf typeIn wireTypes widthOf endTag maximum lineOf said _then_ inOrder deep child nodeAt block earlier nameOk childrenOk recordOk recordAt blockOk nameIn treesFrom treeAt blockTree depthOf nodeRule ruleAt schemaRule notTuple rootRule nameRule childRule tableRule blockFormOk blockDepthOk blockRule referenceAt entryAt entryName lookup resolved tableSchema referenceOk ascending entryOk referenceFormOk formsOk entryDepthOk referenceDepthOk depthsOk entryRule rootOf inlineRule referenceRule rulesOrder sizesOk formatRules oneBlock encoderRules tally items values recordsOf payloadOf layout layouts valueRecordAt isRecord bit payloadBytes valueKind sizeOf contentOf headOf below heads flat _parsed>>=_ kindOf storedAt scalarAt itemsAt valuesAt nodeValue ifRecordIs valueAt ifWholeTable tableValue blobLimit _>>=_ numberOf bytesOf charged blobOf childOf pairsOf fieldsOf valueOf walk settingsOk limits start rootFrom rowAt whenAccepted door through extent skipped skipRule room roomFor roomTest fillWith filled decodeRule noneSaid rowSaid readSaid _wrote>>=_ kindFor fitting tagged write writeRow placed encodeValue encodeOk encodeRule
 rows-hold = refl

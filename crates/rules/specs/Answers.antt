@@ -4,12 +4,12 @@
 use Prim.Native.Nat.{ℕ}
 use mathlib.Core.List.{List, [], _∷_}
 use Rattle.rules.specs.Refusals.{lineOf, refusalNumber}
-use Rattle.rules.specs.declared.Refusal.{Refusal}
-use Rattle.rules.specs.declared.Checked.{Checked}
-use Rattle.rules.specs.declared.Extent.{Extent}
-use Rattle.rules.specs.declared.Read.{Read}
-use Rattle.rules.specs.declared.Stop.{Stop}
-use Rattle.rules.specs.declared.Written.{Written}
+use Rattle.rules.specs.declared.refusal.Refusal.{Refusal}
+use Rattle.rules.specs.declared.answer.Checked.{Checked}
+use Rattle.rules.specs.declared.answer.Extent.{Extent}
+use Rattle.rules.specs.declared.answer.Read.{Read}
+use Rattle.rules.specs.declared.answer.Stop.{Stop}
+use Rattle.rules.specs.declared.answer.Written.{Written}
 
 -- number, place, and then what is carried or returned
 pub record Said : Type 0 where

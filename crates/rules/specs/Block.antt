@@ -9,7 +9,7 @@ use lib.Dec.{ltb, leb, eqb}
 use Rattle.rules.specs.Choice.{pick, _and_, all}
 use Rattle.rules.specs.Bytes.{leAt, part}
 use Rattle.rules.specs.Schema.{Name, unnamed, named, Schema, node, Schemas, nil, cons, noSchema, deep}
-use Rattle.rules.specs.declared.Node.{Node}
+use Rattle.rules.specs.declared.table_record.Node.{Node}
 
 -- a schema record's bytes
 abbrev pub nodeSize : ℕ

@@ -7,8 +7,8 @@ use mathlib.Core.List.{List, [], _∷_}
 use lib.ListN.{length, getD, set}
 use lib.Dec.{ltb, eqb}
 use Rattle.rules.specs.Choice.{pick}
-use Rattle.rules.specs.declared.Order.{Order}
-use Rattle.rules.specs.declared.Order.the-variants.{Less, Equal, Greater}
+use Rattle.rules.specs.declared.answer.Order.{Order}
+use Rattle.rules.specs.declared.answer.Order.the-variants.{Less, Equal, Greater}
 
 -- each is a byte
 abbrev pub Bytes : List ℕ → Type 0

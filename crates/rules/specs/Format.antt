@@ -10,13 +10,13 @@ use Rattle.rules.specs.Bytes.{leAt, part, order, isLess, isEqual}
 use Rattle.rules.specs.Refusals.{_then_, inOrder, Setting, BadSchemaTable, TooDeep, EmptyTableSchemas, UnknownRegistryReference}
 use Rattle.rules.specs.Block.{records, wholeNodes, block, spanOk, blockOk, depthOf}
 use Rattle.rules.specs.SchemaRules.{schemaRule, tableRule}
-use Rattle.rules.specs.declared.Reference.{Reference}
-use Rattle.rules.specs.declared.Entry.{Entry}
-use Rattle.rules.specs.declared.Located.{Located}
-use Rattle.rules.specs.declared.Located.the-variants.{Block, NoTable, NoEntry}
-use Rattle.rules.specs.declared.Purpose.{Purpose}
-use Rattle.rules.specs.declared.Checked.{Checked}
-use Rattle.rules.specs.declared.Checked.the-variants.{Accepted, Refused}
+use Rattle.rules.specs.declared.table_record.Reference.{Reference}
+use Rattle.rules.specs.declared.table_record.Entry.{Entry}
+use Rattle.rules.specs.declared.table_record.Located.{Located}
+use Rattle.rules.specs.declared.table_record.Located.the-variants.{Block, NoTable, NoEntry}
+use Rattle.rules.specs.declared.answer.Purpose.{Purpose}
+use Rattle.rules.specs.declared.answer.Checked.{Checked}
+use Rattle.rules.specs.declared.answer.Checked.the-variants.{Accepted, Refused}
 
 -- the four slices
 pub record Format : Type 0 where

@@ -10,9 +10,9 @@ use Rattle.rules.specs.Schema.{Schema, deep, Valid, TableRoot}
 use Rattle.rules.specs.Block.{nodeSize, records, block, Formed, blockTree, Denotes, Closed}
 use Rattle.rules.specs.Format.{referenceSize, entrySize, entryCount, Format, referenceAt, entryAt, entryName, tables, tableSchema}
 use Rattle.rules.specs.Reading.{schemaOf}
-use Rattle.rules.specs.declared.Order.the-variants.{Less}
-use Rattle.rules.specs.declared.Reference.{Reference}
-use Rattle.rules.specs.declared.Located.the-variants.{Block}
+use Rattle.rules.specs.declared.answer.Order.the-variants.{Less}
+use Rattle.rules.specs.declared.table_record.Reference.{Reference}
+use Rattle.rules.specs.declared.table_record.Located.the-variants.{Block}
 
 -- ---- one block, given by first record and record count
 

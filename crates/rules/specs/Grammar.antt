@@ -7,7 +7,7 @@ use mathlib.Core.Bool.{Bool, true, false}
 use mathlib.Core.List.{List, [], _∷_, _++_}
 use lib.ListN.{length}
 use Rattle.rules.specs.Bytes.{le}
-use Rattle.rules.specs.Wire.{Form, empty, truth, fixed, raw, sized, choice, series, fields, form, widthOf, endTag}
+use Rattle.rules.specs.Wire.{Form, empty, truth, fixed, raw, sized, variant-form, repeated-form, tuple-form, form, widthOf, endTag}
 use Rattle.rules.specs.Schema.{Name, Schema, node, Schemas, nil, cons, count, child}
 use Rattle.rules.specs.Value.{Value, nothing, boolean, number, wide, blob, variant, repeated, tuple, Items, done, item, Values, none, more}
 use Rattle.rules.specs.ValueTable.{bit}
@@ -45,15 +45,15 @@ mutual
     -- a tag, the tagged child
     a-variant : {w k t : ℕ} {ss : Schemas} {v : Value} {x b : List ℕ} →
         t < 256 ^ w → t < count ss → Row (child ss t) v x → b ≡ le w t ++ x →
-        Body (choice w) k ss (variant t v) b
+        Body (variant-form w) k ss (variant t v) b
     -- such pairs until the end tag
     a-repeated : {w k : ℕ} {ss : Schemas} {is : Items} {b : List ℕ} →
         Pairs w ss is b →
-        Body (series w) k ss (repeated is) b
+        Body (repeated-form w) k ss (repeated is) b
     -- children in order
     a-tuple : {k : ℕ} {ss : Schemas} {vs : Values} {b : List ℕ} →
         Fields ss vs b →
-        Body fields k ss (tuple vs) b
+        Body tuple-form k ss (tuple vs) b
 
   pub data Pairs : ℕ → Schemas → Items → List ℕ → Type 0 where
     end : {w : ℕ} {ss : Schemas} {b : List ℕ} →
@@ -96,13 +96,13 @@ mutual
         Suits sized k ss (blob k x)
     s-variant : {w k t : ℕ} {ss : Schemas} {v : Value} →
         t < count ss → Conforms (child ss t) v →
-        Suits (choice w) k ss (variant t v)
+        Suits (variant-form w) k ss (variant t v)
     s-repeated : {w k : ℕ} {ss : Schemas} {is : Items} →
         SuitI ss is →
-        Suits (series w) k ss (repeated is)
+        Suits (repeated-form w) k ss (repeated is)
     s-tuple : {k : ℕ} {ss : Schemas} {vs : Values} →
         SuitV ss vs →
-        Suits fields k ss (tuple vs)
+        Suits tuple-form k ss (tuple vs)
 
   pub data SuitI : Schemas → Items → Type 0 where
     s-done : {ss : Schemas} →

@@ -10,11 +10,11 @@ use Rattle.rules.specs.Choice.{pick}
 use Rattle.rules.specs.Wire.{wireTypes}
 use Rattle.rules.specs.Names.{ascii, nameOf}
 use Rattle.rules.specs.Refusals.{lineOf, reportOf}
-use Rattle.rules.specs.declared.WireType.{WireType}
-use Rattle.rules.specs.declared.Refusal.{Refusal}
-use Rattle.rules.specs.declared.Stop.{Stop}
-use Rattle.rules.specs.declared.Stop.the-variants.{End, Refused}
-use Rattle.rules.specs.declared.Ran.{Ran}
+use Rattle.rules.specs.declared.wire_type.WireType.{WireType}
+use Rattle.rules.specs.declared.refusal.Refusal.{Refusal}
+use Rattle.rules.specs.declared.answer.Stop.{Stop}
+use Rattle.rules.specs.declared.answer.Stop.the-variants.{End, Refused}
+use Rattle.rules.specs.declared.answer.Ran.{Ran}
 
 -- the decimal digits of n, of at most so many: a number below 10 is its digit; any other has those of a tenth of it, and then its last
 unfoldable pub digits : ℕ → ℕ → List ℕ

@@ -7,10 +7,10 @@ use mathlib.Core.List.{List, [], _∷_}
 use Rattle.rules.specs.Choice.{pick}
 use Rattle.rules.specs.Bytes.{order, isEqual}
 use Rattle.rules.specs.Wire.{wireTypes}
-use Rattle.rules.specs.declared.WireType.{WireType}
-use Rattle.rules.specs.declared.WireType.the-variants.{Nothing, Boolean, Int8, Int16, Int32, Int64, Int128, Int256, Uint8, Uint16, Uint32, Uint64, Double, String32, Yson32, Variant8, Variant16, RepeatedVariant8, RepeatedVariant16, Tuple}
-use Rattle.rules.specs.declared.Known.{Known}
-use Rattle.rules.specs.declared.Known.the-variants.{Wire, Unknown}
+use Rattle.rules.specs.declared.wire_type.WireType.{WireType}
+use Rattle.rules.specs.declared.wire_type.WireType.the-variants.{Nothing, Boolean, Int8, Int16, Int32, Int64, Int128, Int256, Uint8, Uint16, Uint32, Uint64, Double, String32, Yson32, Variant8, Variant16, RepeatedVariant8, RepeatedVariant16, Tuple}
+use Rattle.rules.specs.declared.wire_type.Known.{Known}
+use Rattle.rules.specs.declared.wire_type.Known.the-variants.{Wire, Unknown}
 
 unfoldable pub spelling : WireType → String
 spelling Nothing = "nothing"

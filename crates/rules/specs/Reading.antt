@@ -13,22 +13,22 @@ use Rattle.rules.specs.Block.{block, treeAt}
 use Rattle.rules.specs.Format.{Format, shortOk, sizesOk, tables, tableSchema, formatRules}
 use Rattle.rules.specs.Value.{Value, Within, costs}
 use Rattle.rules.specs.ValueRecord.{valueRecordStart, valueRecordsIn}
-use Rattle.rules.specs.ValueTable.{flat, pays, TableOf}
+use Rattle.rules.specs.ValueTable.{flat, payloadBytes, TableOf}
 use Rattle.rules.specs.Grammar.{TableRow, Conforms}
 use Rattle.rules.specs.Walk.{Limits, blobLimit, Pos, Answer, Got, Refused, _>>=_, numberOf, walk, after}
-use Rattle.rules.specs.declared.Settings.{Settings}
-use Rattle.rules.specs.declared.Located.{Located}
-use Rattle.rules.specs.declared.Located.the-variants.{Block, NoTable, NoEntry}
-use Rattle.rules.specs.declared.Refusal.{Refusal}
+use Rattle.rules.specs.declared.settings.Settings.{Settings}
+use Rattle.rules.specs.declared.table_record.Located.{Located}
+use Rattle.rules.specs.declared.table_record.Located.the-variants.{Block, NoTable, NoEntry}
+use Rattle.rules.specs.declared.refusal.Refusal.{Refusal}
 use Rattle.rules.specs.Refusals.{Setting, UnknownRegistryReference, MissingTableSchema, NoNodeRoom, NoPayloadRoom}
-use Rattle.rules.specs.declared.Checked.{Checked}
-use Rattle.rules.specs.declared.Door.{Door}
-use Rattle.rules.specs.declared.Door.the-variants.{Open}
-use Rattle.rules.specs.declared.Extent.{Extent}
-use Rattle.rules.specs.declared.Read.{Read}
-use Rattle.rules.specs.declared.Read.the-variants.{Row, End}
-use Rattle.rules.specs.declared.Stop.{Stop}
-use Rattle.rules.specs.declared.Ran.{Ran}
+use Rattle.rules.specs.declared.answer.Checked.{Checked}
+use Rattle.rules.specs.declared.answer.Door.{Door}
+use Rattle.rules.specs.declared.answer.Door.the-variants.{Open}
+use Rattle.rules.specs.declared.answer.Extent.{Extent}
+use Rattle.rules.specs.declared.answer.Read.{Read}
+use Rattle.rules.specs.declared.answer.Read.the-variants.{Row, End}
+use Rattle.rules.specs.declared.answer.Stop.{Stop}
+use Rattle.rules.specs.declared.answer.Ran.{Ran}
 
 -- node charge 1..4,096; both limits at most 4,294,967,295
 unfoldable pub settingsOk : Settings → Bool
@@ -204,7 +204,7 @@ untouched answer rs ps = record { answer = answer; records = rs; payload = ps }
 
 -- a row that has room fills both slices from their starts with its value's table; no other answer does
 unfoldable pub fillWith : Value → List ℕ → List ℕ → Read → Decoded
-fillWith v rs ps (Row e) = record { answer = Row e; records = over rs 0 (flat v 0 0); payload = over ps 0 (pays v) }
+fillWith v rs ps (Row e) = record { answer = Row e; records = over rs 0 (flat v 0 0); payload = over ps 0 (payloadBytes v) }
 fillWith v rs ps End = untouched End rs ps
 fillWith v rs ps (Read.Refused r) = untouched (Read.Refused r) rs ps
 

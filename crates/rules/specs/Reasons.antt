@@ -6,15 +6,15 @@ use mathlib.Core.Path.{_≡_}
 use mathlib.Core.List.{List}
 use lib.ListN.{length}
 use Rattle.rules.specs.Bytes.{le, Stands}
-use Rattle.rules.specs.Wire.{Form, sized, choice, series, fields, form, endTag, fixedForm}
+use Rattle.rules.specs.Wire.{Form, sized, variant-form, repeated-form, tuple-form, form, endTag, fixedForm}
 use Rattle.rules.specs.Schema.{Name, Schema, node, Schemas, cons, count, child}
 use Rattle.rules.specs.Format.{Format, tables}
 use Rattle.rules.specs.Value.{Value, Within, costs}
 use Rattle.rules.specs.Grammar.{Row}
 use Rattle.rules.specs.Walk.{Limits, blobLimit, Pos}
 use Rattle.rules.specs.Reading.{schemaOf, Accepts}
-use Rattle.rules.specs.declared.Width.the-variants.{Fixed}
-use Rattle.rules.specs.declared.Refusal.{Refusal}
+use Rattle.rules.specs.declared.wire_type.Width.the-variants.{Fixed}
+use Rattle.rules.specs.declared.refusal.Refusal.{Refusal}
 use Rattle.rules.specs.Refusals.{MissingTableSchema, Truncated, RowTooLarge, BlobTooLarge, InvalidVariantTag}
 
 module _ (inp : List ℕ) where
@@ -72,13 +72,13 @@ module _ (inp : List ℕ) (lim : Limits) where
       -- a variant: its tag and child; a repeated one: its pairs; a tuple: its children
       of-variant : {w k at spent : ℕ} {ss : Schemas} {r : Refusal} →
           TagReason w k ss at spent r →
-          BodyReason (choice w) k ss at spent r
+          BodyReason (variant-form w) k ss at spent r
       of-repeated : {w k at spent : ℕ} {ss : Schemas} {r : Refusal} →
           PairsReason w k ss at spent r →
-          BodyReason (series w) k ss at spent r
+          BodyReason (repeated-form w) k ss at spent r
       of-tuple : {k at spent : ℕ} {ss : Schemas} {r : Refusal} →
           FieldsReason ss at spent r →
-          BodyReason fields k ss at spent r
+          BodyReason tuple-form k ss at spent r
 
     -- a tag of w bytes: 12 with context 15 or 16; not below the child count (17); and the child that it names
     pub data TagReason : ℕ → ℕ → Schemas → ℕ → ℕ → Refusal → Type 0 where

@@ -6,13 +6,13 @@ use mathlib.Core.Bool.{Bool, true, false}
 use mathlib.Core.List.{List, [], _∷_, _++_}
 use lib.ListN.{getD, take, replicate}
 use Rattle.rules.specs.Names.{ascii}
-use Rattle.rules.specs.declared.Report.{Report}
-use Rattle.rules.specs.declared.Refusal.{Refusal}
-use Rattle.rules.specs.declared.RefusalLine.{RefusalLine}
-use Rattle.rules.specs.declared.Why.{Why}
-use Rattle.rules.specs.declared.Why.the-variants as why
-use Rattle.rules.specs.declared.Checked.{Checked}
-use Rattle.rules.specs.declared.Checked.the-variants.{Accepted, Refused}
+use Rattle.rules.specs.declared.refusal.Report.{Report}
+use Rattle.rules.specs.declared.refusal.Refusal.{Refusal}
+use Rattle.rules.specs.declared.refusal.RefusalLine.{RefusalLine}
+use Rattle.rules.specs.declared.refusal.Why.{Why}
+use Rattle.rules.specs.declared.refusal.Why.the-variants as why
+use Rattle.rules.specs.declared.answer.Checked.{Checked}
+use Rattle.rules.specs.declared.answer.Checked.the-variants.{Accepted, Refused}
 
 -- A line of document 01's table of refusals: number, name, carried values, and whether the place is an offset in the stream that is read,
 -- so that it moves with the stream.

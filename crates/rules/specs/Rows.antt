@@ -12,9 +12,9 @@ use Rattle.rules.specs.ValueRecord.{valueRecordStart}
 use Rattle.rules.specs.Reading.{skipRule, Decoded, decodeRule}
 use Rattle.rules.specs.Answers.{Said, noneSaid, readSaid}
 use Rattle.rules.specs.Writing.{encodeFrom}
-use Rattle.rules.specs.declared.Settings.{Settings}
-use Rattle.rules.specs.declared.Read.{Read}
-use Rattle.rules.specs.declared.Written.{Written}
+use Rattle.rules.specs.declared.settings.Settings.{Settings}
+use Rattle.rules.specs.declared.answer.Read.{Read}
+use Rattle.rules.specs.declared.answer.Written.{Written}
 
 -- ---- the two formats
 
@@ -48,17 +48,17 @@ B = oneTable 4
 -- ---- a line of the table, and what comes out of it
 
 -- a format, the two limits, and the bytes of a stream; the charge is 48
-pub record Line : Type 0 where
+pub record RowLine : Type 0 where
   pub format : Format
   pub blob : ℕ
   pub row : ℕ
   pub bytes : List ℕ
 
-unfoldable pub settings : Line → Settings
+unfoldable pub settings : RowLine → Settings
 settings l = record { «node_charge» = 48; «max_blob_bytes» = l .blob; «max_row_bytes» = l .row }
 
 -- what skip and decode say; decode's two slices afterwards; and the bytes of the row, encoded again
-pub record Outcome : Type 0 where
+pub record RowOutcome : Type 0 where
   pub skipped : Said
   pub decoded : Said
   pub records : List ℕ
@@ -74,7 +74,7 @@ encodedAgain (Written.Row e) out = take (e .bytes) out
 encodedAgain (Written.Refused r) out = []
 
 -- the row, encoded from what decode has left
-unfoldable pub again : Line → Read → Decoded → List ℕ
+unfoldable pub again : RowLine → Read → Decoded → List ℕ
 again l Read.End d = []
 again l (Read.Refused r) d = []
 again l (Read.Row e) d =
@@ -83,7 +83,7 @@ again l (Read.Row e) d =
     encodedAgain (x .answer) (x .output)
 
 -- decode has room for four records and some bytes more, and for three payload bytes
-unfoldable pub outcome : Line → Outcome
+unfoldable pub outcome : RowLine → RowOutcome
 outcome l =
     let d = decodeRule (l .format) (settings l) (l .bytes) 0 (blank 70) (blank 3) in
     record {
@@ -97,16 +97,16 @@ outcome l =
 -- ---- the lines
 
 -- the default limits, unless a line says otherwise
-unfoldable pub line : Format → List ℕ → Line
+unfoldable pub line : Format → List ℕ → RowLine
 line f bytes = record { format = f; blob = 134217728; row = 268435456; bytes = bytes }
 
-unfoldable pub limited : ℕ → ℕ → Format → List ℕ → Line
+unfoldable pub limited : ℕ → ℕ → Format → List ℕ → RowLine
 limited blob row f bytes = record { format = f; blob = blob; row = row; bytes = bytes }
 
 unfoldable pub tenBytes : List ℕ
 tenBytes = 0x00 ∷ 0x00 ∷ 0x25 ∷ 0x01 ∷ 0x02 ∷ 0x00 ∷ 0x00 ∷ 0x00 ∷ 0xD1 ∷ 0xC5 ∷ []
 
-unfoldable pub lines : List Line
+unfoldable pub lines : List RowLine
 lines =
     line A []
     ∷ line A (0x00 ∷ [])
@@ -128,15 +128,15 @@ lines =
 -- ---- what comes out of them
 
 -- no row: both say the same, and both slices are as before
-unfoldable pub same : Said → Outcome
+unfoldable pub same : Said → RowOutcome
 same answer = record { skipped = answer; decoded = answer; records = blank 70; payload = blank 3; again = [] }
 
 -- a refusal: number, place, carried values
-unfoldable pub refusal : ℕ → ℕ → List ℕ → Outcome
+unfoldable pub refusal : ℕ → ℕ → List ℕ → RowOutcome
 refusal number place carries = same (record { number = number; place = place; carries = carries })
 
 -- a row of table 0: bytes, records, payload bytes; what decode leaves; the bytes that are encoded again
-unfoldable pub row : ℕ → ℕ → ℕ → List ℕ → List ℕ → List ℕ → Outcome
+unfoldable pub row : ℕ → ℕ → ℕ → List ℕ → List ℕ → List ℕ → RowOutcome
 row bytes records payload recs pay again =
     let answer : Said = record { number = 0; place = 0; carries = 0 ∷ bytes ∷ records ∷ payload ∷ [] } in
     record { skipped = answer; decoded = answer; records = recs; payload = pay; again = again }
@@ -178,7 +178,7 @@ threeRecords =
 unfoldable pub tenPayload : List ℕ
 tenPayload = 0xD1 ∷ 0xC5 ∷ 0xEE ∷ []
 
-unfoldable pub outcomes : List Outcome
+unfoldable pub outcomes : List RowOutcome
 outcomes =
     same noneSaid
     ∷ refusal 12 0 (17 ∷ [])

@@ -4,8 +4,8 @@ use Prim.Native.Nat.{ℕ, zero, suc, _+_, _≤_, max}
 use mathlib.Core.Path.{_≡_}
 use mathlib.Core.List.{List, [], _∷_}
 use Rattle.rules.specs.Wire.{form, maximum}
-use Rattle.rules.specs.declared.Children.{Children}
-use Rattle.rules.specs.declared.Children.the-variants.{None, UpTo, Any, Unknown}
+use Rattle.rules.specs.declared.wire_type.Children.{Children}
+use Rattle.rules.specs.declared.wire_type.Children.the-variants.{None, UpTo, Any, Unknown}
 
 pub data Name : Type 0 where
   unnamed : Name

@@ -7,14 +7,14 @@ use Rattle.rules.specs.Choice.{pick, _and_}
 use Rattle.rules.specs.Wire.{form, maximum}
 use Rattle.rules.specs.Refusals.{_then_, inOrder, BadSchemaTable, TooDeep, UnexpectedChildren, TooManyChildren, TableSchemaRootMustBeTuple, TableSchemaMustBeTuple, TableSchemaChildMissingName}
 use Rattle.rules.specs.Block.{nodeAt}
-use Rattle.rules.specs.declared.Children.{Children}
-use Rattle.rules.specs.declared.Children.the-variants.{None, UpTo, Any, Unknown}
-use Rattle.rules.specs.declared.Node.{Node}
-use Rattle.rules.specs.declared.Refusal.{Refusal}
-use Rattle.rules.specs.declared.Purpose.{Purpose}
-use Rattle.rules.specs.declared.Purpose.the-variants.{Format, Encoder}
-use Rattle.rules.specs.declared.Checked.{Checked}
-use Rattle.rules.specs.declared.Checked.the-variants.{Accepted, Refused}
+use Rattle.rules.specs.declared.wire_type.Children.{Children}
+use Rattle.rules.specs.declared.wire_type.Children.the-variants.{None, UpTo, Any, Unknown}
+use Rattle.rules.specs.declared.table_record.Node.{Node}
+use Rattle.rules.specs.declared.refusal.Refusal.{Refusal}
+use Rattle.rules.specs.declared.answer.Purpose.{Purpose}
+use Rattle.rules.specs.declared.answer.Purpose.the-variants.{Format, Encoder}
+use Rattle.rules.specs.declared.answer.Checked.{Checked}
+use Rattle.rules.specs.declared.answer.Checked.the-variants.{Accepted, Refused}
 
 -- 4 and 5 for a node by itself. (A code without a wire type is in no block of the form.)
 unfoldable pub nodeRule : ℕ → Node → Children → Checked

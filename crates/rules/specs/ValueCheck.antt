@@ -7,8 +7,8 @@ use Rattle.rules.specs.Refusals.{Setting, BadValueTable}
 use Rattle.rules.specs.Format.{shortOk}
 use Rattle.rules.specs.Value.{Value}
 use Rattle.rules.specs.ValueTable.{Parsed, Whole, Broken, tableValue}
-use Rattle.rules.specs.declared.Checked.{Checked}
-use Rattle.rules.specs.declared.Checked.the-variants.{Accepted, Refused}
+use Rattle.rules.specs.declared.answer.Checked.{Checked}
+use Rattle.rules.specs.declared.answer.Checked.the-variants.{Accepted, Refused}
 
 -- the table of a value is accepted, whatever the value; all else is refused by 18
 unfoldable pub formChecked : Parsed Value → Checked

@@ -7,7 +7,7 @@ use lib.ListN.{length, getD}
 use lib.Dec.{leb, eqb}
 use Rattle.rules.specs.Choice.{_and_}
 use Rattle.rules.specs.Bytes.{le, leAt, part, order, isEqual}
-use Rattle.rules.specs.declared.ValueRecord.{ValueRecord}
+use Rattle.rules.specs.declared.table_record.ValueRecord.{ValueRecord}
 
 -- a record's bytes
 abbrev pub valueRecordSize : ℕ

@@ -8,10 +8,10 @@ use lib.ListN.{length}
 use lib.Dec.{ltb, leb, eqb}
 use Rattle.rules.specs.Choice.{pick, _and_}
 use Rattle.rules.specs.Bytes.{part}
-use Rattle.rules.specs.Wire.{Form, empty, truth, fixed, raw, sized, choice, series, fields, unknown, form}
+use Rattle.rules.specs.Wire.{Form, empty, truth, fixed, raw, sized, variant-form, repeated-form, tuple-form, unknown, form}
 use Rattle.rules.specs.Value.{Value, nothing, boolean, number, wide, blob, variant, repeated, tuple, Items, done, item, Values, none, more, items, values, tall, Fits, payloadOf}
 use Rattle.rules.specs.ValueRecord.{valueRecordsIn, wholeValueRecords, valueRecord, layouts, valueRecordAt, isRecord}
-use Rattle.rules.specs.declared.ValueRecord.{ValueRecord}
+use Rattle.rules.specs.declared.table_record.ValueRecord.{ValueRecord}
 
 unfoldable pub bit : Bool → ℕ
 bit true = 1
@@ -21,34 +21,34 @@ bit false = 0
 
 -- the payload bytes, in preorder
 unfoldable mutual
-  pub pays : Value → List ℕ
-  pays nothing = []
-  pays (boolean x) = []
-  pays (number k x) = []
-  pays (wide k x) = x
-  pays (blob k x) = x
-  pays (variant t v) = pays v
-  pays (repeated is) = paysI is
-  pays (tuple vs) = paysV vs
+  pub payloadBytes : Value → List ℕ
+  payloadBytes nothing = []
+  payloadBytes (boolean x) = []
+  payloadBytes (number k x) = []
+  payloadBytes (wide k x) = x
+  payloadBytes (blob k x) = x
+  payloadBytes (variant t v) = payloadBytes v
+  payloadBytes (repeated is) = payloadBytesI is
+  payloadBytes (tuple vs) = payloadBytesV vs
 
-  pub paysI : Items → List ℕ
-  paysI done = []
-  paysI (item t v is) = pays v ++ paysI is
+  pub payloadBytesI : Items → List ℕ
+  payloadBytesI done = []
+  payloadBytesI (item t v is) = payloadBytes v ++ payloadBytesI is
 
-  pub paysV : Values → List ℕ
-  paysV none = []
-  paysV (more v vs) = pays v ++ paysV vs
+  pub payloadBytesV : Values → List ℕ
+  payloadBytesV none = []
+  payloadBytesV (more v vs) = payloadBytes v ++ payloadBytesV vs
 
 -- what a value's record says: its kind
-unfoldable pub kind : Value → ℕ
-kind nothing = 0
-kind (boolean x) = 1
-kind (number k x) = k
-kind (wide k x) = k
-kind (blob k x) = k
-kind (variant t v) = 15
-kind (repeated is) = 16
-kind (tuple vs) = 17
+unfoldable pub valueKind : Value → ℕ
+valueKind nothing = 0
+valueKind (boolean x) = 1
+valueKind (number k x) = k
+valueKind (wide k x) = k
+valueKind (blob k x) = k
+valueKind (variant t v) = 15
+valueKind (repeated is) = 16
+valueKind (tuple vs) = 17
 
 -- its child count or payload length
 unfoldable pub sizeOf : Value → ℕ
@@ -74,7 +74,7 @@ contentOf (tuple vs) p = 0
 
 -- the record of a value that its parent chose by `tag`, with p payload bytes before it
 unfoldable pub headOf : Value → ℕ → ℕ → ValueRecord
-headOf v tag p = valueRecord (kind v) tag (sizeOf v) (contentOf v p)
+headOf v tag p = valueRecord (valueKind v) tag (sizeOf v) (contentOf v p)
 
 -- the records below a node, in preorder: each child's own, and those below it
 unfoldable mutual
@@ -107,7 +107,7 @@ flat v tag p = layouts (heads v tag p)
 -- these records and this payload store are the table of v
 pub record TableOf (v : Value) (table store : List ℕ) : Type 0 where
   pub rows : table ≡ flat v 0 0
-  pub payload : store ≡ pays v
+  pub payload : store ≡ payloadBytes v
   pub fits : Fits v
   pub depth : tall v ≤ 64
 
@@ -129,26 +129,26 @@ Broken >>= k = Broken
 
 -- what a record's kind says of its fields
 pub data Kind : Type 0 where
-  scalar : Form → Kind
-  one : Kind
-  list : Kind
-  row : Kind
-  other : Kind
+  scalar-kind : Form → Kind
+  variant-kind : Kind
+  repeated-kind : Kind
+  tuple-kind : Kind
+  no-kind : Kind
 
 unfoldable pub kindOf : ℕ → Kind
-kindOf k = pick (ltb k 15) (scalar (form k)) (pick (eqb k 15) one (pick (eqb k 16) list (pick (eqb k 17) row other)))
+kindOf k = pick (ltb k 15) (scalar-kind (form k)) (pick (eqb k 15) variant-kind (pick (eqb k 16) repeated-kind (pick (eqb k 17) tuple-kind no-kind)))
 
 module _ (table store : List ℕ) where
   -- the next record, or the next record and n payload bytes further
   abbrev pub next : Spot → Spot
   next p = record { at = p .at + 1; from = p .from }
 
-  abbrev pub past : ℕ → Spot → Spot
-  past n p = record { at = p .at + 1; from = p .from + n }
+  abbrev pub pastPayload : ℕ → Spot → Spot
+  pastPayload n p = record { at = p .at + 1; from = p .from + n }
 
   -- n payload bytes, as a value
   unfoldable pub storedAt : (List ℕ → Value) → ℕ → Spot → Parsed Value
-  storedAt make n p = pick (leb (p .from + n) (length store)) (Whole (make (part store (p .from) n)) (past n p)) Broken
+  storedAt make n p = pick (leb (p .from + n) (length store)) (Whole (make (part store (p .from) n)) (pastPayload n p)) Broken
 
   -- the value of a record of a scalar kind
   unfoldable pub scalarAt : Form → ValueRecord → Spot → Parsed Value
@@ -157,9 +157,9 @@ module _ (table store : List ℕ) where
   scalarAt (fixed w) r p = pick (ltb (r .content) (256 ^ w)) (Whole (number (r .kind) (r .content)) (next p)) Broken
   scalarAt (raw w) r p = storedAt (wide (r .kind)) w p
   scalarAt sized r p = storedAt (blob (r .kind)) (r .size) p
-  scalarAt (choice w) r p = Broken
-  scalarAt (series w) r p = Broken
-  scalarAt fields r p = Broken
+  scalarAt (variant-form w) r p = Broken
+  scalarAt (repeated-form w) r p = Broken
+  scalarAt tuple-form r p = Broken
   scalarAt unknown r p = Broken
 
   -- the tag that record i bears
@@ -182,37 +182,37 @@ module _ (table store : List ℕ) where
     Whole (more v vs) r
 
   -- the value of a record of this kind, and of those below it
-  unfoldable pub nodeOf : (ℕ → Spot → Parsed Value) → Kind → ValueRecord → Spot → Parsed Value
-  nodeOf child (scalar f) r p = scalarAt f r p
-  nodeOf child one r p = do
+  unfoldable pub nodeValue : (ℕ → Spot → Parsed Value) → Kind → ValueRecord → Spot → Parsed Value
+  nodeValue child (scalar-kind f) r p = scalarAt f r p
+  nodeValue child variant-kind r p = do
     (v, q) ← child (tagAt (p .at + 1)) (next p)
     Whole (variant (tagAt (p .at + 1)) v) q
-  nodeOf child list r p = do
+  nodeValue child repeated-kind r p = do
     (is, q) ← itemsAt child (r .size) (next p)
     Whole (repeated is) q
-  nodeOf child row r p = do
+  nodeValue child tuple-kind r p = do
     (vs, q) ← valuesAt child (r .size) (next p)
     Whole (tuple vs) q
-  nodeOf child other r p = Broken
+  nodeValue child no-kind r p = Broken
 
   -- the record there is that of the value, chosen by `tag`
-  unfoldable pub headed : ℕ → Spot → Parsed Value → Parsed Value
-  headed tag p (Whole v q) = pick (isRecord table (p .at) (headOf v tag (p .from))) (Whole v q) Broken
-  headed tag p Broken = Broken
+  unfoldable pub ifRecordIs : ℕ → Spot → Parsed Value → Parsed Value
+  ifRecordIs tag p (Whole v q) = pick (isRecord table (p .at) (headOf v tag (p .from))) (Whole v q) Broken
+  ifRecordIs tag p Broken = Broken
 
   -- the value whose records begin at a spot, at most so many levels deep
   unfoldable pub valueAt : ℕ → ℕ → Spot → Parsed Value
   valueAt zero tag p = Broken
-  valueAt (suc d) tag p = let r = valueRecordAt table (p .at) in headed tag p (nodeOf (valueAt d) (kindOf (r .kind)) r p)
+  valueAt (suc d) tag p = let r = valueRecordAt table (p .at) in ifRecordIs tag p (nodeValue (valueAt d) (kindOf (r .kind)) r p)
 
   -- the records are exactly one tree, at most 64 deep, and the payload store is exactly filled
-  unfoldable pub exactly : Parsed Value → Parsed Value
-  exactly (Whole v q) = pick (eqb (q .at) (valueRecordsIn (length table)) and eqb (q .from) (length store)) (Whole v q) Broken
-  exactly Broken = Broken
+  unfoldable pub ifWholeTable : Parsed Value → Parsed Value
+  ifWholeTable (Whole v q) = pick (eqb (q .at) (valueRecordsIn (length table)) and eqb (q .from) (length store)) (Whole v q) Broken
+  ifWholeTable Broken = Broken
 
   -- the end of a table: all records, and all bytes of the store
-  abbrev pub ends : Spot
-  ends = record { at = valueRecordsIn (length table); from = length store }
+  abbrev pub tableEnd : Spot
+  tableEnd = record { at = valueRecordsIn (length table); from = length store }
 
   unfoldable pub tableValue : Parsed Value
-  tableValue = pick (wholeValueRecords (length table)) (exactly (valueAt 64 0 (record { at = 0; from = 0 }))) Broken
+  tableValue = pick (wholeValueRecords (length table)) (ifWholeTable (valueAt 64 0 (record { at = 0; from = 0 }))) Broken

@@ -6,11 +6,11 @@ use lib.ListN.{length}
 use lib.Dec.{ltb, leb, eqb}
 use Rattle.rules.specs.Choice.{pick}
 use Rattle.rules.specs.Bytes.{leAt, part}
-use Rattle.rules.specs.Wire.{Form, empty, truth, fixed, raw, sized, choice, series, fields, unknown, form, endTag}
+use Rattle.rules.specs.Wire.{Form, empty, truth, fixed, raw, sized, variant-form, repeated-form, tuple-form, unknown, form, endTag}
 use Rattle.rules.specs.Block.{nodeAt}
 use Rattle.rules.specs.Value.{Value, nothing, boolean, number, wide, blob, variant, repeated, tuple, Items, done, item, Values, none, more, costs, recordsOf, payloadOf}
-use Rattle.rules.specs.declared.Node.{Node}
-use Rattle.rules.specs.declared.Refusal.{Refusal}
+use Rattle.rules.specs.declared.table_record.Node.{Node}
+use Rattle.rules.specs.declared.refusal.Refusal.{Refusal}
 use Rattle.rules.specs.Refusals.{Setting, BadSchemaTable, TooDeep, Truncated, RowTooLarge, BlobTooLarge, InvalidVariantTag}
 
 -- what a node costs, how long a blob may be, and how much a row may cost
@@ -115,14 +115,14 @@ valueOf inp lim rec n (raw w) p = do
   (b, q) ← bytesOf inp w (n .code) p
   Got (wide (n .code) b) q
 valueOf inp lim rec n sized p = blobOf inp lim (n .code) p
-valueOf inp lim rec n (choice w) p = do
+valueOf inp lim rec n (variant-form w) p = do
   (tag, q) ← numberOf inp w (14 + w) p
   (v, r) ← childOf rec n tag (p .at) q
   Got (variant tag v) r
-valueOf inp lim rec n (series w) p = do
+valueOf inp lim rec n (repeated-form w) p = do
   (is, q) ← pairsOf inp rec n w (suc (length inp - p .at)) p
   Got (repeated is) q
-valueOf inp lim rec n fields p = do
+valueOf inp lim rec n tuple-form p = do
   (vs, q) ← fieldsOf rec (n .first) (n .children) p
   Got (tuple vs) q
 valueOf inp lim rec n unknown p = Refused BadSchemaTable

@@ -11,11 +11,11 @@ use Rattle.rules.specs.Refusals.{Setting, lineOf, refusalNumber}
 use Rattle.rules.specs.Walk.{Answer, Got, onward}
 use Rattle.rules.specs.Format.{Format}
 use Rattle.rules.specs.Reading.{RowSpan, Run, byteCount, ranOf, refusedRun, runRule}
-use Rattle.rules.specs.declared.Refusal.{Refusal}
-use Rattle.rules.specs.declared.Stop.{Stop}
-use Rattle.rules.specs.declared.Stop.the-variants.{End, Refused}
-use Rattle.rules.specs.declared.Ran.{Ran}
-use Rattle.rules.specs.declared.Settings.{Settings}
+use Rattle.rules.specs.declared.refusal.Refusal.{Refusal}
+use Rattle.rules.specs.declared.answer.Stop.{Stop}
+use Rattle.rules.specs.declared.answer.Stop.the-variants.{End, Refused}
+use Rattle.rules.specs.declared.answer.Ran.{Ran}
+use Rattle.rules.specs.declared.settings.Settings.{Settings}
 
 -- A refusal of a slice, told of a stream in which the slice starts at n: in reading, places count from the slice's start, and the table of
 -- refusals says which do.
@@ -23,8 +23,8 @@ unfoldable pub moved : ℕ → Refusal → Refusal
 moved n r = record { why = r .why; place = pick (lineOf (r .why) .moves) (r .place + n) (r .place) }
 
 -- a place that moves with the stream lies in a stream of n bytes
-abbrev pub Inside : ℕ → Refusal → Type 0
-Inside n r = lineOf (r .why) .moves ≡ true → r .place ≤ n
+abbrev pub PlaceInside : ℕ → Refusal → Type 0
+PlaceInside n r = lineOf (r .why) .moves ≡ true → r .place ≤ n
 
 unfoldable pub movedAnswer : {A : Type 0} → ℕ → Answer A → Answer A
 movedAnswer n (Got a q) = Got a (onward n q)

@@ -2,14 +2,14 @@
 -- Assumes nothing: these are definitions.
 use Prim.Native.Nat.{ℕ, zero, suc, _-_, _^_}
 use mathlib.Core.List.{List, [], _∷_}
-use Rattle.rules.specs.declared.WireType.{WireType}
-use Rattle.rules.specs.declared.WireType.the-variants.{Nothing, Boolean, Int8, Int16, Int32, Int64, Int128, Int256, Uint8, Uint16, Uint32, Uint64, Double, String32, Yson32, Variant8, Variant16, RepeatedVariant8, RepeatedVariant16, Tuple}
-use Rattle.rules.specs.declared.Known.{Known}
-use Rattle.rules.specs.declared.Known.the-variants.{Wire, Unknown}
-use Rattle.rules.specs.declared.Width.{Width}
-use Rattle.rules.specs.declared.Width.the-variants.{Fixed, Variable}
-use Rattle.rules.specs.declared.Children.{Children}
-use Rattle.rules.specs.declared.Children.the-variants.{None, UpTo, Any}
+use Rattle.rules.specs.declared.wire_type.WireType.{WireType}
+use Rattle.rules.specs.declared.wire_type.WireType.the-variants.{Nothing, Boolean, Int8, Int16, Int32, Int64, Int128, Int256, Uint8, Uint16, Uint32, Uint64, Double, String32, Yson32, Variant8, Variant16, RepeatedVariant8, RepeatedVariant16, Tuple}
+use Rattle.rules.specs.declared.wire_type.Known.{Known}
+use Rattle.rules.specs.declared.wire_type.Known.the-variants.{Wire, Unknown}
+use Rattle.rules.specs.declared.wire_type.Width.{Width}
+use Rattle.rules.specs.declared.wire_type.Width.the-variants.{Fixed, Variable}
+use Rattle.rules.specs.declared.wire_type.Children.{Children}
+use Rattle.rules.specs.declared.wire_type.Children.the-variants.{None, UpTo, Any}
 
 -- in the order of the wire codes, from 0 on
 unfoldable pub wireTypes : List WireType
@@ -54,9 +54,9 @@ pub data Form : Type 0 where
   fixed : ℕ → Form  -- a number in so many bytes
   raw : ℕ → Form  -- so many bytes as they are
   sized : Form  -- a blob: a length in 4 bytes, and so many bytes
-  choice : ℕ → Form  -- a tag in so many bytes, and the child that it names
-  series : ℕ → Form  -- such pairs until the end tag
-  fields : Form  -- the children in order
+  variant-form : ℕ → Form  -- a tag in so many bytes, and the child that it names
+  repeated-form : ℕ → Form  -- such pairs until the end tag
+  tuple-form : Form  -- the children in order
   unknown : Form
 
 unfoldable pub written : WireType → Form
@@ -75,11 +75,11 @@ written Uint64 = fixed 8
 written Double = fixed 8
 written String32 = sized
 written Yson32 = sized
-written Variant8 = choice 1
-written Variant16 = choice 2
-written RepeatedVariant8 = series 1
-written RepeatedVariant16 = series 2
-written Tuple = fields
+written Variant8 = variant-form 1
+written Variant16 = variant-form 2
+written RepeatedVariant8 = repeated-form 1
+written RepeatedVariant16 = repeated-form 2
+written Tuple = tuple-form
 
 unfoldable pub writtenIf : Known → Form
 writtenIf (Wire t) = written t
@@ -96,12 +96,12 @@ widthOf truth = 1
 widthOf (fixed w) = w
 widthOf (raw w) = w
 widthOf sized = 4
-widthOf (choice w) = w
-widthOf (series w) = w
-widthOf fields = 0
+widthOf (variant-form w) = w
+widthOf (repeated-form w) = w
+widthOf tuple-form = 0
 widthOf unknown = 0
 
--- the tag that ends a series: 255, or 65,535
+-- the tag that ends a repeated value: 255, or 65,535
 unfoldable pub endTag : ℕ → ℕ
 endTag w = 256 ^ w - 1
 
@@ -112,22 +112,22 @@ fixedForm truth = Fixed 1
 fixedForm (fixed w) = Fixed w
 fixedForm (raw w) = Fixed w
 fixedForm sized = Variable
-fixedForm (choice w) = Variable
-fixedForm (series w) = Variable
-fixedForm fields = Variable
+fixedForm (variant-form w) = Variable
+fixedForm (repeated-form w) = Variable
+fixedForm tuple-form = Variable
 fixedForm unknown = Variable
 
 unfoldable pub fixedWidth : WireType → Width
 fixedWidth t = fixedForm (written t)
 
--- how many children a node may have: a tag of w bytes names 256 ^ w, and one less where one tag ends the series
+-- how many children a node may have: a tag of w bytes names 256 ^ w, and one less where one tag ends a repeated value
 unfoldable pub maximum : Form → Children
 maximum empty = None
 maximum truth = None
 maximum (fixed w) = None
 maximum (raw w) = None
 maximum sized = None
-maximum (choice w) = UpTo (256 ^ w)
-maximum (series w) = UpTo (endTag w)
-maximum fields = Any
+maximum (variant-form w) = UpTo (256 ^ w)
+maximum (repeated-form w) = UpTo (endTag w)
+maximum tuple-form = Any
 maximum unknown = Children.Unknown

@@ -7,18 +7,18 @@ use lib.ListN.{length}
 use lib.Dec.{ltb, leb, eqb}
 use Rattle.rules.specs.Choice.{pick, _and_}
 use Rattle.rules.specs.Bytes.{le, over}
-use Rattle.rules.specs.Wire.{Form, empty, truth, fixed, raw, sized, choice, series, fields, unknown, form, widthOf, endTag}
+use Rattle.rules.specs.Wire.{Form, empty, truth, fixed, raw, sized, variant-form, repeated-form, tuple-form, unknown, form, widthOf, endTag}
 use Rattle.rules.specs.Block.{nodeAt, block}
 use Rattle.rules.specs.Format.{Format, shortOk, encoderRules}
 use Rattle.rules.specs.Value.{Value, nothing, boolean, number, wide, blob, variant, repeated, tuple, Items, done, item, Values, none, more, values, recordsOf, payloadOf}
 use Rattle.rules.specs.ValueTable.{bit, Parsed, Whole, Broken, tableValue}
 use Rattle.rules.specs.Walk.{Limits, blobLimit}
 use Rattle.rules.specs.Reading.{settingsOk, limits, room, whenAccepted}
-use Rattle.rules.specs.declared.Settings.{Settings}
-use Rattle.rules.specs.declared.Refusal.{Refusal}
+use Rattle.rules.specs.declared.settings.Settings.{Settings}
+use Rattle.rules.specs.declared.refusal.Refusal.{Refusal}
 use Rattle.rules.specs.Refusals.{Setting, BlobTooLarge, ValueDoesNotMatchSchema, TupleLength, InvalidVariantTag, BadValueTable, NoOutputRoom}
-use Rattle.rules.specs.declared.Written.{Written}
-use Rattle.rules.specs.declared.Written.the-variants.{Row}
+use Rattle.rules.specs.declared.answer.Written.{Written}
+use Rattle.rules.specs.declared.answer.Written.the-variants.{Row}
 
 -- bytes, or why not
 pub data Wrote : Type 0 where
@@ -37,9 +37,9 @@ kindFor code truth = code
 kindFor code (fixed w) = code
 kindFor code (raw w) = code
 kindFor code sized = code
-kindFor code (choice w) = 15
-kindFor code (series w) = 16
-kindFor code fields = 17
+kindFor code (variant-form w) = 15
+kindFor code (repeated-form w) = 16
+kindFor code tuple-form = 17
 kindFor code unknown = 18
 
 module _ (sch : List ℕ) (lim : Limits) where

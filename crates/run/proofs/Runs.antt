@@ -11,13 +11,13 @@ use Rattle.rules.specs.Bytes.{Bytes}
 use Rattle.rules.specs.Format.{Format}
 use Rattle.rules.specs.Walk.{Limits}
 use Rattle.rules.specs.Reading.{rowAt, skipped, skipFrom, Run, goOn, runFrom, rowCount, byteCount, ranOf}
-use Rattle.rules.specs.declared.Refusal.{Refusal}
-use Rattle.rules.specs.declared.Extent.{Extent}
-use Rattle.rules.specs.declared.Read.{Read}
-use Rattle.rules.specs.declared.Read.the-variants.{Row, End}
-use Rattle.rules.specs.declared.Stop.{Stop}
-use Rattle.rules.specs.declared.Ran.{Ran}
-use Rattle.rows.proofs.Running.{skip-goes}
+use Rattle.rules.specs.declared.refusal.Refusal.{Refusal}
+use Rattle.rules.specs.declared.answer.Extent.{Extent}
+use Rattle.rules.specs.declared.answer.Read.{Read}
+use Rattle.rules.specs.declared.answer.Read.the-variants.{Row, End}
+use Rattle.rules.specs.declared.answer.Stop.{Stop}
+use Rattle.rules.specs.declared.answer.Ran.{Ran}
+use Rattle.row_laws.proofs.Running.{skip-goes}
 
 -- so many rows and bytes, and then a run
 unfoldable pub upon : ℕ → ℕ → Run → Ran

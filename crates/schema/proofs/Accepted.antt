@@ -4,7 +4,7 @@ use Prim.Native.Nat.{ℕ}
 use mathlib.Core.Path.{_≡_}
 use mathlib.Core.List.{List}
 use Rattle.rules.specs.Format.{formatRules, formatRule}
-use Rattle.rules.specs.declared.Checked.the-variants.{Accepted}
+use Rattle.rules.specs.declared.answer.Checked.the-variants.{Accepted}
 use Rattle.rules.proofs.Checks.{pick-accepted}
 use Rattle.schema.specs.Slices.{slices, Forms}
 use Rattle.schema.proofs.Tables.{forms}

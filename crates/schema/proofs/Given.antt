@@ -12,15 +12,15 @@ use Rattle.rules.specs.Choice.{pick, _and_, all}
 use Rattle.rules.specs.Bytes.{part, order, isLess}
 use Rattle.rules.specs.Block.{wholeNodes}
 use Rattle.rules.specs.Format.{wholeReferences, entryCount, wholeEntries, blockDepthOk, blockRule, entryAt, referenceAt, entryName, referenceOk, ascending, entryOk, referenceFormOk, formsOk, entryDepthOk, referenceDepthOk, depthsOk, entryRule}
-use Rattle.rules.specs.declared.Entry.{Entry}
-use Rattle.rules.specs.declared.Reference.{Reference}
-use Rattle.rules.specs.declared.Order.{Order}
-use Rattle.rules.specs.declared.Checked.{Checked}
+use Rattle.rules.specs.declared.table_record.Entry.{Entry}
+use Rattle.rules.specs.declared.table_record.Reference.{Reference}
+use Rattle.rules.specs.declared.answer.Order.{Order}
+use Rattle.rules.specs.declared.answer.Checked.{Checked}
 use Rattle.rules.proofs.Tests.{and-both, all-each}
-use Rattle.blocks.proofs.Forms.{ascending-iff}
-use Rattle.flat.specs.Sound.{Sound}
+use Rattle.block_laws.proofs.Forms.{ascending-iff}
+use Rattle.block.specs.Sound.{SoundBlock}
 use Rattle.schema.specs.Slices.{slices, entriesOk, referencesOk, entriesShallow, referencesShallow, EntriesSound, InlineSound, EntriesNamed, ReferencesNamed}
-use Rattle.flat.proofs.Parts.{form-sound}
+use Rattle.block.proofs.Parts.{form-sound}
 
 all-same : (f g : ℕ → Bool) → ((i : ℕ) → f i ≡ g i) → (n : ℕ) → all f n ≡ all g n
 unfolding all
@@ -77,7 +77,7 @@ module _ (table references : List ℕ) (t : ℕ) (r : Reference) (is : r ≡ ref
 
 -- ---- what the forms give
 module _ (table names registry : List ℕ) where
-  pub entry-gives : (j : ℕ) → entryOk (slices table names [] registry) j ≡ true → (entryAt registry j .start + entryAt registry j .len ≤ length names) × Sound table (entryAt registry j .first) (entryAt registry j .count)
+  pub entry-gives : (j : ℕ) → entryOk (slices table names [] registry) j ≡ true → (entryAt registry j .start + entryAt registry j .len ≤ length names) × SoundBlock table (entryAt registry j .first) (entryAt registry j .count)
   unfolding entryOk
   entry-gives j e =
       let p = and-both _ _ (and-both _ _ e .0) in

@@ -9,12 +9,12 @@ use native.Mathlib.Decide.{decLt}
 use Rattle.rules.specs.Choice.{pick}
 use Rattle.rules.specs.Bytes.{part, order, isEqual}
 use Rattle.rules.specs.Format.{entryCount, entryAt, entryName, lookup}
-use Rattle.rules.specs.declared.Entry.{Entry}
-use Rattle.rules.specs.declared.Order.{Order}
-use Rattle.rules.specs.declared.Order.the-variants.{Less, Equal, Greater}
-use Rattle.rules.specs.declared.Located.the-variants.{Block, NoEntry}
+use Rattle.rules.specs.declared.table_record.Entry.{Entry}
+use Rattle.rules.specs.declared.answer.Order.{Order}
+use Rattle.rules.specs.declared.answer.Order.the-variants.{Less, Equal, Greater}
+use Rattle.rules.specs.declared.table_record.Located.the-variants.{Block, NoEntry}
 use Rattle.rules.proofs.Orders.{order-equal, order-same, order-less-trans}
-use Rattle.blocks.proofs.Lookup.{less-self, less-than, lookup-finds, lookup-misses}
+use Rattle.block_laws.proofs.Lookup.{less-self, less-than, lookup-finds, lookup-misses}
 use Rattle.schema.specs.Slices.{EntriesNamed}
 
 -- an entry with the name lies from `low` on and below `high`

@@ -11,12 +11,12 @@ use Rattle.rules.specs.Choice.{pick}
 use Rattle.rules.specs.Refusals.{_then_, inOrder, EmptyTableSchemas}
 use Rattle.rules.specs.Bytes.{part}
 use Rattle.rules.specs.Format.{referenceCount, entryCount, Format, referenceAt, entryAt, lookup, resolved, formsOk, inlineRule, rootOf, referenceRule, entryRule, rulesOrder}
-use Rattle.rules.specs.declared.Reference.{Reference}
-use Rattle.rules.specs.declared.Refusal.{Refusal}
-use Rattle.rules.specs.declared.Checked.{Checked}
-use Rattle.rules.specs.declared.Checked.the-variants.{Accepted, Refused}
-use Rattle.rules.specs.declared.Located.{Located}
-use Rattle.rules.specs.declared.Located.the-variants.{Block, NoTable, NoEntry}
+use Rattle.rules.specs.declared.table_record.Reference.{Reference}
+use Rattle.rules.specs.declared.refusal.Refusal.{Refusal}
+use Rattle.rules.specs.declared.answer.Checked.{Checked}
+use Rattle.rules.specs.declared.answer.Checked.the-variants.{Accepted, Refused}
+use Rattle.rules.specs.declared.table_record.Located.{Located}
+use Rattle.rules.specs.declared.table_record.Located.the-variants.{Block, NoTable, NoEntry}
 use Rattle.rules.proofs.Tests.{and-both}
 use Rattle.schema.specs.Slices.{slices, entriesRule, Forms}
 use Rattle.schema.proofs.Lookups.{lookup-in}

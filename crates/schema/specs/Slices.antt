@@ -10,9 +10,9 @@ use Rattle.rules.specs.Choice.{all}
 use Rattle.rules.specs.Refusals.{inOrder}
 use Rattle.rules.specs.Bytes.{order}
 use Rattle.rules.specs.Format.{referenceCount, entryCount, Format, entryAt, entryName, referenceAt, entryOk, referenceFormOk, entryDepthOk, referenceDepthOk, entryRule}
-use Rattle.rules.specs.declared.Checked.{Checked}
-use Rattle.rules.specs.declared.Order.the-variants.{Less}
-use Rattle.flat.specs.Sound.{Sound}
+use Rattle.rules.specs.declared.answer.Checked.{Checked}
+use Rattle.rules.specs.declared.answer.Order.the-variants.{Less}
+use Rattle.block.specs.Sound.{SoundBlock}
 
 abbrev pub slices : List ℕ → List ℕ → List ℕ → List ℕ → Format
 slices table names references registry = record { table = table; names = names; references = references; registry = registry }
@@ -38,10 +38,10 @@ entriesRule table registry = inOrder (entryRule (slices table [] [] registry)) 0
 
 -- the blocks of the registry, and the inline ones
 abbrev pub EntriesSound : List ℕ → List ℕ → Type 0
-EntriesSound table registry = (j : ℕ) → j < entryCount registry → Sound table (entryAt registry j .first) (entryAt registry j .count)
+EntriesSound table registry = (j : ℕ) → j < entryCount registry → SoundBlock table (entryAt registry j .first) (entryAt registry j .count)
 
 abbrev pub InlineSound : List ℕ → List ℕ → Type 0
-InlineSound table references = (t : ℕ) → t < referenceCount references → referenceAt references t .kind ≡ 0 → Sound table (referenceAt references t .start) (referenceAt references t .len)
+InlineSound table references = (t : ℕ) → t < referenceCount references → referenceAt references t .kind ≡ 0 → SoundBlock table (referenceAt references t .start) (referenceAt references t .len)
 
 -- the names of the registry lie in the store, and ascend
 pub record EntriesNamed (names registry : List ℕ) : Type 0 where

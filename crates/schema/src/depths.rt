@@ -5,9 +5,9 @@ ghost use mathlib.Core.List.{[]};
 ghost use lib.Dec.{eqb};
 ghost use Rattle.rules.specs.Choice.{pick};
 ghost use Rattle.rules.specs.Format.{blockDepthOk, depthsOk};
-ghost use Rattle.flat.specs.Sound.{Sound};
+ghost use Rattle.block.specs.Sound.{SoundBlock};
 ghost use Rattle.schema.specs.Slices.{slices, entriesShallow, referencesShallow, EntriesSound, InlineSound};
-use flat::table::block_depth_ok;
+use block::table::block_depth_ok;
 use record::entry::ENTRY_SIZE;
 use record::entry::entry_at;
 use record::reference::REFERENCE_SIZE;
@@ -32,7 +32,7 @@ fn entries_shallow(table: &[u8], registry: &[u8]) -> bool
 
 // A registry's schema was looked at with the registry.
 fn reference_shallow(table: &[u8], r: Reference) -> bool
-    requires { ⌜ (r .kind ≡ 0 → Sound (now table) (r .start) (r .len)) ⌝ }
+    requires { ⌜ (r .kind ≡ 0 → SoundBlock (now table) (r .start) (r .len)) ⌝ }
     ensures { λ b. ⌜ b ≡ pick (eqb (r .kind) 0) (blockDepthOk (now (table .entry)) (r .start) (r .len)) true ⌝ }
 {
     let kind = r.kind;

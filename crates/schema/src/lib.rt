@@ -9,10 +9,10 @@ pub mod format;
 pub mod forms;
 pub mod order;
 
+use block::table::block_root;
+use block::table::block_rule;
+use block::table::block_stands;
 use depths::depths_ok;
-use flat::table::block_root;
-use flat::table::block_rule;
-use flat::table::block_stands;
 use forms::forms_ok;
 use order::rules_order;
 use rules::Checked;

@@ -4,11 +4,11 @@ ghost use mathlib.Core.List.{[]};
 ghost use Prim.Native.Nat.{ℕ, _<_};
 ghost use Rattle.rules.specs.Refusals.{inOrder};
 ghost use Rattle.rules.specs.Format.{referenceCount, inlineRule, rootOf, referenceRule, rulesOrder};
-ghost use Rattle.flat.specs.Sound.{Sound};
+ghost use Rattle.block.specs.Sound.{SoundBlock};
 ghost use Rattle.schema.specs.Slices.{slices, entriesRule, EntriesSound, Forms};
 use super::format::resolve;
-use flat::table::block_root;
-use flat::table::block_rule;
+use block::table::block_root;
+use block::table::block_rule;
 use record::entry::ENTRY_SIZE;
 use record::entry::entry_at;
 use record::reference::REFERENCE_SIZE;
@@ -39,7 +39,7 @@ fn entries_rule(table: &[u8], registry: &[u8]) -> Checked
 
 // A registry's schema was checked with the registry.
 fn inline_rule(table: &[u8], r: Reference) -> Checked
-    requires { ⌜ (r .kind ≡ 0 → Sound (now table) (r .start) (r .len)) ⌝ }
+    requires { ⌜ (r .kind ≡ 0 → SoundBlock (now table) (r .start) (r .len)) ⌝ }
     ensures { λ a. ⌜ a ≡ inlineRule (slices (now (table .entry)) [] [] []) r ⌝ }
 {
     let kind = r.kind;
@@ -51,7 +51,7 @@ fn inline_rule(table: &[u8], r: Reference) -> Checked
 
 // Table t's root and names, in the block that was found for it.
 fn root_of(table: &[u8], t: u64, found: Located) -> Checked
-    requires { ⌜ ((first n : ℕ) → found ≡ Located.Block first n → Sound (now table) first n) ⌝ }
+    requires { ⌜ ((first n : ℕ) → found ≡ Located.Block first n → SoundBlock (now table) first n) ⌝ }
     ensures { λ r. ⌜ r ≡ rootOf (slices (now (table .entry)) [] [] []) t found ⌝ }
 {
     match found {

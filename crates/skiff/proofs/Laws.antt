@@ -9,11 +9,11 @@ use lib.ListN.{length, length-append}
 use Rattle.rules.specs.Choice.{pick}
 use Rattle.rules.specs.Bytes.{le, over}
 use Rattle.rules.specs.Reading.{Decoded, untouched}
-use Rattle.rules.specs.declared.Read.{Read}
+use Rattle.rules.specs.declared.answer.Read.{Read}
 use Rattle.rules.proofs.Over.{over-at}
 use Rattle.rules.proofs.Stands.{length-le}
-use Rattle.skiff.specs.declared.answer.Answer.{Answer}
-use Rattle.skiff.specs.Answers.{words, layout, answerOfRead}
+use Rattle.skiff.specs.declared.answer.AnswerNumbers.{AnswerNumbers}
+use Rattle.skiff.specs.Answers.{words, answerLayout, answerOfRead}
 use Rattle.skiff.specs.Calls.{given, givenRow}
 
 -- ---- numbers, one after another
@@ -58,11 +58,11 @@ eleven s s₁ s₂ s₃ x xs ys l p₁ p₂ p₃ =
 
 -- ---- what a call gives
 
-pub short-given : (s : List ℕ) (a : Answer) → length s < 88 → record { number = 1; answer = s } ≡ given s a
+pub short-given : (s : List ℕ) (a : AnswerNumbers) → length s < 88 → record { number = 1; answer = s } ≡ given s a
 unfolding given pick
 short-given s a h = rw (lt-leb 88 (length s) h)
 
-pub room-given : {A : Type 0} (f : A → Answer) (x y : A) (a : Answer) (s s′ : List ℕ) (n : ℕ) → 88 ≤ length s → a ≡ f x → x ≡ y → (n ≡ a .why .number) × (s′ ≡ over s 0 (layout a)) → record { number = n; answer = s′ } ≡ given s (f y)
+pub room-given : {A : Type 0} (f : A → AnswerNumbers) (x y : A) (a : AnswerNumbers) (s s′ : List ℕ) (n : ℕ) → 88 ≤ length s → a ≡ f x → x ≡ y → (n ≡ a .why .number) × (s′ ≡ over s 0 (answerLayout a)) → record { number = n; answer = s′ } ≡ given s (f y)
 unfolding given pick
 room-given f x y a s s′ n h p q g = rw (← q, ← p, le-leb 88 (length s) h, g .0, g .1)
 
@@ -72,7 +72,7 @@ pub short-row : (s : List ℕ) (d : Decoded) (rs ps : List ℕ) → length s < 8
 unfolding givenRow pick
 short-row s d rs ps h = rw (lt-leb 88 (length s) h)
 
-pub room-row : (x : Read) (d : Decoded) (a : Answer) (s s′ rs rs′ ps ps′ : List ℕ) (n : ℕ) → 88 ≤ length s → a ≡ answerOfRead x → untouched x rs′ ps′ ≡ d → (n ≡ a .why .number) × (s′ ≡ over s 0 (layout a)) →
+pub room-row : (x : Read) (d : Decoded) (a : AnswerNumbers) (s s′ rs rs′ ps ps′ : List ℕ) (n : ℕ) → 88 ≤ length s → a ≡ answerOfRead x → untouched x rs′ ps′ ≡ d → (n ≡ a .why .number) × (s′ ≡ over s 0 (answerLayout a)) →
     record { number = n; answer = s′; records = rs′; payload = ps′ } ≡ givenRow s d rs ps
 unfolding givenRow pick
 room-row x d a s s′ rs rs′ ps ps′ n h p q g = rw (← q, ← p, le-leb 88 (length s) h, g .0, g .1)

@@ -4,14 +4,14 @@ use Prim.Native.Nat.{ℕ}
 use mathlib.Core.List.{List, [], _∷_, _++_}
 use Rattle.rules.specs.Bytes.{le}
 use Rattle.rules.specs.Refusals.{reportOf}
-use Rattle.rules.specs.declared.Report.{Report}
-use Rattle.rules.specs.declared.Extent.{Extent}
-use Rattle.rules.specs.declared.Read.{Read}
-use Rattle.rules.specs.declared.Read.the-variants.{Row, End, Refused}
-use Rattle.rules.specs.declared.Ran.{Ran}
-use Rattle.rules.specs.declared.Stop.{Stop}
-use Rattle.rules.specs.declared.Stop.the-variants as stop
-use Rattle.skiff.specs.declared.answer.Answer.{Answer}
+use Rattle.rules.specs.declared.refusal.Report.{Report}
+use Rattle.rules.specs.declared.answer.Extent.{Extent}
+use Rattle.rules.specs.declared.answer.Read.{Read}
+use Rattle.rules.specs.declared.answer.Read.the-variants.{Row, End, Refused}
+use Rattle.rules.specs.declared.answer.Ran.{Ran}
+use Rattle.rules.specs.declared.answer.Stop.{Stop}
+use Rattle.rules.specs.declared.answer.Stop.the-variants as stop
+use Rattle.skiff.specs.declared.answer.AnswerNumbers.{AnswerNumbers}
 
 -- numbers, one after another
 unfoldable pub words : List ℕ → List ℕ
@@ -19,8 +19,8 @@ words [] = []
 words (x ∷ xs) = le 8 x ++ words xs
 
 -- the order of the eleven
-unfoldable pub layout : Answer → List ℕ
-layout a =
+unfoldable pub answerLayout : AnswerNumbers → List ℕ
+answerLayout a =
     words
     (a .what
     ∷ a .why .number ∷ a .why .place ∷ a .why .a ∷ a .why .b ∷ a .why .c
@@ -36,7 +36,7 @@ abbrev pub extentOfBytes : ℕ → Extent
 extentOfBytes n = record { table = 0; bytes = n; records = 0; payload = 0 }
 
 -- what: 0 a row, 1 an end, 2 a refusal
-unfoldable pub answerOfRead : Read → Answer
+unfoldable pub answerOfRead : Read → AnswerNumbers
 answerOfRead (Row e) = record { what = 0; why = noRefusal; rows = 1; row = e }
 answerOfRead End = record { what = 1; why = noRefusal; rows = 0; row = extentOfBytes 0 }
 answerOfRead (Refused r) = record { what = 2; why = reportOf r; rows = 0; row = extentOfBytes 0 }
@@ -49,5 +49,5 @@ unfoldable pub whyOf : Stop → Report
 whyOf stop.End = noRefusal
 whyOf (stop.Refused r) = reportOf r
 
-unfoldable pub answerOfRan : Ran → Answer
+unfoldable pub answerOfRan : Ran → AnswerNumbers
 answerOfRan r = record { what = whatOf (r .stop); why = whyOf (r .stop); rows = r .rows; row = extentOfBytes (r .bytes) }

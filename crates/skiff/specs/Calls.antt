@@ -8,9 +8,9 @@ use Rattle.rules.specs.Choice.{pick}
 use Rattle.rules.specs.Bytes.{over}
 use Rattle.rules.specs.Format.{Format}
 use Rattle.rules.specs.Reading.{skipRule, runRule, ranOf, Decoded, decodeRule}
-use Rattle.rules.specs.declared.Settings.{Settings}
-use Rattle.skiff.specs.declared.answer.Answer.{Answer}
-use Rattle.skiff.specs.Answers.{layout, answerOfRead, answerOfRan}
+use Rattle.rules.specs.declared.settings.Settings.{Settings}
+use Rattle.skiff.specs.declared.answer.AnswerNumbers.{AnswerNumbers}
+use Rattle.skiff.specs.Answers.{answerLayout, answerOfRead, answerOfRan}
 
 abbrev pub settingsOf : ℕ → ℕ → ℕ → Settings
 settingsOf charge blob row = record { «node_charge» = charge; «max_blob_bytes» = blob; «max_row_bytes» = row }
@@ -21,8 +21,8 @@ pub record Given : Type 0 where
   pub answer : List ℕ
 
 -- a slice of at least 88 bytes has the answer at its start, and the refusal's number is returned; a shorter one stays, and 1 is returned
-unfoldable pub given : List ℕ → Answer → Given
-given slice a = pick (leb 88 (length slice)) (record { number = a .why .number; answer = over slice 0 (layout a) }) (record { number = 1; answer = slice })
+unfoldable pub given : List ℕ → AnswerNumbers → Given
+given slice a = pick (leb 88 (length slice)) (record { number = a .why .number; answer = over slice 0 (answerLayout a) }) (record { number = 1; answer = slice })
 
 unfoldable pub skipGiven : Format → Settings → List ℕ → ℕ → List ℕ → Given
 skipGiven f s inp at slice = given slice (answerOfRead (skipRule f s inp at))
@@ -42,7 +42,7 @@ unfoldable pub givenRow : List ℕ → Decoded → List ℕ → List ℕ → Giv
 givenRow slice d rs ps =
     let a = answerOfRead (d .answer) in
     pick (leb 88 (length slice))
-    (record { number = a .why .number; answer = over slice 0 (layout a); records = d .records; payload = d .payload })
+    (record { number = a .why .number; answer = over slice 0 (answerLayout a); records = d .records; payload = d .payload })
     (record { number = 1; answer = slice; records = rs; payload = ps })
 
 unfoldable pub decodeGiven : Format → Settings → List ℕ → ℕ → List ℕ → List ℕ → List ℕ → GivenRow

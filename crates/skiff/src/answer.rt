@@ -4,7 +4,7 @@ ghost use Prim.Native.Nat.{_+_, _≤_};
 ghost use mathlib.Core.List.{_∷_, []};
 ghost use lib.ListN.{length};
 ghost use Rattle.rules.specs.Bytes.{over};
-ghost use Rattle.skiff.specs.Answers.{words, layout, noRefusal, extentOfBytes, answerOfRead, answerOfRan};
+ghost use Rattle.skiff.specs.Answers.{words, answerLayout, noRefusal, extentOfBytes, answerOfRead, answerOfRan};
 use rules::Extent;
 use rules::Read;
 use rules::Report;
@@ -15,7 +15,7 @@ use wire::store::put64;
 pub const ANSWER: usize = 88;
 
 // An answer in numbers: 0 a row, 1 an end, 2 a refusal; why it is refused; the rows, and what they or the one row take.
-pub struct Answer {
+pub struct AnswerNumbers {
     pub what: u64,
     pub why: Report,
     pub rows: u64,
@@ -48,23 +48,23 @@ fn extent_of_bytes(bytes: u64) -> Extent
 }
 
 // A read in numbers.
-pub fn answer_of_read(answer: Read) -> Answer
+pub fn answer_of_read(answer: Read) -> AnswerNumbers
     ensures { λ r. ⌜ r ≡ answerOfRead answer ⌝ }
 {
     match answer {
-        Read::Row(row) => Answer {
+        Read::Row(row) => AnswerNumbers {
             what: 0,
             why: no_refusal(),
             rows: 1,
             row,
         },
-        Read::End => Answer {
+        Read::End => AnswerNumbers {
             what: 1,
             why: no_refusal(),
             rows: 0,
             row: extent_of_bytes(0),
         },
-        Read::Refused(refusal) => Answer {
+        Read::Refused(refusal) => AnswerNumbers {
             what: 2,
             why: refusal.in_numbers(),
             rows: 0,
@@ -74,17 +74,17 @@ pub fn answer_of_read(answer: Read) -> Answer
 }
 
 // A run in numbers.
-pub fn answer_of_ran(rows: u64, bytes: u64, stop: Stop) -> Answer
+pub fn answer_of_ran(rows: u64, bytes: u64, stop: Stop) -> AnswerNumbers
     ensures { λ r. ⌜ r ≡ answerOfRan (record { rows = rows; bytes = bytes; stop = stop }) ⌝ }
 {
     match stop {
-        Stop::End => Answer {
+        Stop::End => AnswerNumbers {
             what: 1,
             why: no_refusal(),
             rows,
             row: extent_of_bytes(bytes),
         },
-        Stop::Refused(refusal) => Answer {
+        Stop::Refused(refusal) => AnswerNumbers {
             what: 2,
             why: refusal.in_numbers(),
             rows,
@@ -106,9 +106,9 @@ fn put_five(s: &mut [u8], at: usize, a: u64, b: u64, c: u64, d: u64, e: u64)
 }
 
 // The answer at the start of a slice that has room for it.
-fn put_answer(s: &mut [u8], answer: Answer)
+fn put_answer(s: &mut [u8], answer: AnswerNumbers)
     requires { ⌜ 88 ≤ length (now s) ⌝ }
-    ensures { λ _. ⌜ now (s .exit) ≡ over (now (s .entry)) 0 (layout answer) ⌝ }
+    ensures { λ _. ⌜ now (s .exit) ≡ over (now (s .entry)) 0 (answerLayout answer) ⌝ }
 {
     let why = answer.why;
     let row = answer.row;
@@ -126,9 +126,9 @@ fn put_answer(s: &mut [u8], answer: Answer)
 }
 
 // Gives an answer to the host: in its slice, and the refusal's number.
-pub fn give(s: &mut [u8], answer: Answer) -> u32
+pub fn give(s: &mut [u8], answer: AnswerNumbers) -> u32
     requires { ⌜ 88 ≤ length (now s) ⌝ }
-    ensures { λ r. ⌜ (r ≡ answer .why .number) × (now (s .exit) ≡ over (now (s .entry)) 0 (layout answer)) ⌝ }
+    ensures { λ r. ⌜ (r ≡ answer .why .number) × (now (s .exit) ≡ over (now (s .entry)) 0 (answerLayout answer)) ⌝ }
 {
     put_answer(s, answer);
     answer.why.number

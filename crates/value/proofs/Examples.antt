@@ -9,14 +9,14 @@ use Rattle.rules.specs.Bytes.{le, leAt, part, order, isEqual}
 use Rattle.rules.specs.Wire.{form, written, writtenIf, typeOf, typeIn, wireTypes}
 use Rattle.rules.specs.Value.{items, values}
 use Rattle.rules.specs.ValueRecord.{valueRecord, layout, valueRecordAt, isRecord}
-use Rattle.rules.specs.ValueTable.{bit, kind, sizeOf, contentOf, headOf, _>>=_, kindOf, storedAt, scalarAt, itemsAt, valuesAt, nodeOf, headed, valueAt, exactly, tableValue}
+use Rattle.rules.specs.ValueTable.{bit, valueKind, sizeOf, contentOf, headOf, _>>=_, kindOf, storedAt, scalarAt, itemsAt, valuesAt, nodeValue, ifRecordIs, valueAt, ifWholeTable, tableValue}
 use Rattle.rules.specs.ValueCheck.{formChecked, tableForm, valueTableRule}
 use Rattle.rules.specs.Refusals.{lineOf}
 use Rattle.rules.specs.Answers.{said, noneSaid, checkedSaid}
 
 -- a record's bytes: kind, tag, size, content
 unfoldable pub rec : ℕ → ℕ → ℕ → ℕ → List ℕ
-rec kind tag size content = layout (valueRecord kind tag size content)
+rec valueKind tag size content = layout (valueRecord valueKind tag size content)
 
 -- nothing below so many variants
 unfoldable pub below : ℕ → List ℕ
@@ -82,5 +82,5 @@ lines =
     ∷ []
 
 pub examples-hold : map (λ l. checkedSaid (valueTableRule (l .records) (l .payload)) .number) lines ≡ map (λ l. l .number) lines
-unfolding rec below lines pick _and_ le leAt part order isEqual form written writtenIf typeOf typeIn wireTypes items values layout valueRecordAt isRecord bit kind sizeOf contentOf headOf _>>=_ kindOf storedAt scalarAt itemsAt valuesAt nodeOf headed valueAt exactly tableValue formChecked tableForm valueTableRule lineOf said noneSaid checkedSaid
+unfolding rec below lines pick _and_ le leAt part order isEqual form written writtenIf typeOf typeIn wireTypes items values layout valueRecordAt isRecord bit valueKind sizeOf contentOf headOf _>>=_ kindOf storedAt scalarAt itemsAt valuesAt nodeValue ifRecordIs valueAt ifWholeTable tableValue formChecked tableForm valueTableRule lineOf said noneSaid checkedSaid
 examples-hold = refl

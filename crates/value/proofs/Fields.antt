@@ -10,8 +10,8 @@ use borrow.Author.Tests.{eqb-true, ltb-true, leb-true, lt-ltb, ne-eqb}
 use lib.Dec.{ltb, leb, eqb}
 use lib.ListN.{getD}
 use Rattle.rules.specs.Choice.{pick, _and_, all}
-use Rattle.rules.specs.Wire.{Form, empty, truth, fixed, raw, sized, choice, series, fields, unknown, form, widthOf, wireTypes, typeIn, typeOf, written, writtenIf}
-use Rattle.rules.specs.declared.ValueRecord.{ValueRecord}
+use Rattle.rules.specs.Wire.{Form, empty, truth, fixed, raw, sized, variant-form, repeated-form, tuple-form, unknown, form, widthOf, wireTypes, typeIn, typeOf, written, writtenIf}
+use Rattle.rules.specs.declared.table_record.ValueRecord.{ValueRecord}
 use Rattle.rules.proofs.Tests.{all-each, and-both}
 use Rattle.rules.proofs.Codes.{every-form}
 use Rattle.wire.proofs.CodeTable.{two}
@@ -31,9 +31,9 @@ heldOk truth k = eqb k 1
 heldOk (fixed w) k = leb w 8
 heldOk (raw w) k = ltb 8 w
 heldOk sized k = false
-heldOk (choice w) k = false
-heldOk (series w) k = false
-heldOk fields k = false
+heldOk (variant-form w) k = false
+heldOk (repeated-form w) k = false
+heldOk tuple-form k = false
 heldOk unknown k = false
 
 held-ok : (k : ℕ) → k < 13 → heldOk (form k) k ≡ true
@@ -47,9 +47,9 @@ rawOk truth k = true
 rawOk (fixed w) k = true
 rawOk (raw w) k = leb w 32
 rawOk sized k = true
-rawOk (choice w) k = true
-rawOk (series w) k = true
-rawOk fields k = true
+rawOk (variant-form w) k = true
+rawOk (repeated-form w) k = true
+rawOk tuple-form k = true
 rawOk unknown k = true
 
 pub raw-width : (k w : ℕ) → form k ≡ raw w → w ≤ 32
@@ -72,9 +72,9 @@ module _ (size content from store : ℕ) where
   wide-form (fixed w) k c l = absurd (omega (arith, leb-true w 8 c))
   wide-form (raw w) k c l = refl
   wide-form sized k c l = false-not c
-  wide-form (choice w) k c l = false-not c
-  wide-form (series w) k c l = false-not c
-  wide-form fields k c l = false-not c
+  wide-form (variant-form w) k c l = false-not c
+  wide-form (repeated-form w) k c l = false-not c
+  wide-form tuple-form k c l = false-not c
   wide-form unknown k c l = false-not c
 
   narrow-form : (f : Form) (k : ℕ) → heldOk f k ≡ true → widthOf f ≤ 8 → (k ≡ 1 → ⊥) → scalarOk f size content from store ≡ eqb size 0 and ltb content (256 ^ widthOf f)
@@ -84,9 +84,9 @@ module _ (size content from store : ℕ) where
   narrow-form (fixed w) k c l n = refl
   narrow-form (raw w) k c l n = absurd (omega (arith, ltb-true 8 w c))
   narrow-form sized k c l n = false-not c
-  narrow-form (choice w) k c l n = false-not c
-  narrow-form (series w) k c l n = false-not c
-  narrow-form fields k c l n = false-not c
+  narrow-form (variant-form w) k c l n = false-not c
+  narrow-form (repeated-form w) k c l n = false-not c
+  narrow-form tuple-form k c l n = false-not c
   narrow-form unknown k c l n = false-not c
 
   long-form : (f : Form) (k : ℕ) → heldOk f k ≡ true → widthOf f ≤ 8 → eqb size 0 ≡ false → false ≡ scalarOk f size content from store
@@ -96,9 +96,9 @@ module _ (size content from store : ℕ) where
   long-form (fixed w) k c l e = rw e
   long-form (raw w) k c l e = absurd (omega (arith, ltb-true 8 w c))
   long-form sized k c l e = false-not c
-  long-form (choice w) k c l e = false-not c
-  long-form (series w) k c l e = false-not c
-  long-form fields k c l e = false-not c
+  long-form (variant-form w) k c l e = false-not c
+  long-form (repeated-form w) k c l e = false-not c
+  long-form tuple-form k c l e = false-not c
   long-form unknown k c l e = false-not c
 
   module _ (k w : ℕ) (h : k ≤ 12) (e : w ≡ widthOf (form k)) where
@@ -134,9 +134,9 @@ module _ (size content from store : ℕ) where
   scalar-in (fixed w) l c = none-in _ l c
   scalar-in (raw w) l c = stored-in l (and-both _ _ c .1)
   scalar-in sized l c = stored-in l c
-  scalar-in (choice w) l c = false-not c
-  scalar-in (series w) l c = false-not c
-  scalar-in fields l c = false-not c
+  scalar-in (variant-form w) l c = false-not c
+  scalar-in (repeated-form w) l c = false-not c
+  scalar-in tuple-form l c = false-not c
   scalar-in unknown l c = false-not c
 
 -- so does that of a record of a scalar kind

@@ -15,11 +15,11 @@ use Rattle.rules.specs.Value.{Value}
 use Rattle.rules.specs.ValueTable.{TableOf, Parsed, Whole, Broken, tableValue}
 use Rattle.rules.specs.ValueCheck.{formChecked, tableForm, valueTableRule}
 use Rattle.rules.specs.Answers.{said, noneSaid, checkedSaid}
-use Rattle.rules.specs.declared.Checked.{Checked}
-use Rattle.rules.specs.declared.Checked.the-variants.{Accepted, Refused}
+use Rattle.rules.specs.declared.answer.Checked.{Checked}
+use Rattle.rules.specs.declared.answer.Checked.the-variants.{Accepted, Refused}
 use Rattle.rules.proofs.Tests.{and-both, and-true}
-use Rattle.values.proofs.Parse.{is-table}
-use Rattle.values.proofs.Flat.{accepted, no-table}
+use Rattle.value_laws.proofs.Parse.{is-table}
+use Rattle.value_laws.proofs.Flat.{accepted, no-table}
 
 -- both slices are inside the bounds
 pub record Short (records payload : List ℕ) : Type 0 where

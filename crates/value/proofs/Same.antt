@@ -11,19 +11,19 @@ use lib.Dec.{ltb, leb, eqb}
 use lib.ListN.{length}
 use Rattle.rules.specs.Choice.{pick, _and_}
 use Rattle.rules.specs.Bytes.{Bytes, part}
-use Rattle.rules.specs.Wire.{Form, empty, truth, fixed, raw, sized, choice, series, fields, unknown, form}
+use Rattle.rules.specs.Wire.{Form, empty, truth, fixed, raw, sized, variant-form, repeated-form, tuple-form, unknown, form}
 use Rattle.rules.specs.Value.{Value, nothing, boolean, number, variant, repeated, tuple, Items, Values, items, values, wide, blob}
 use Rattle.rules.specs.ValueRecord.{valueRecordsIn, valueRecord, valueRecordAt}
 use Rattle.rules.specs.ValueTable as rule
-use Rattle.rules.specs.ValueTable.{bit, kind, sizeOf, contentOf, headOf, Parsed, Whole, kindOf, storedAt, scalarAt, tagAt, itemsAt, valuesAt, nodeOf, headed, valueAt}
-use Rattle.rules.specs.declared.ValueRecord.{ValueRecord}
+use Rattle.rules.specs.ValueTable.{bit, valueKind, sizeOf, contentOf, headOf, Parsed, Whole, kindOf, storedAt, scalarAt, tagAt, itemsAt, valuesAt, nodeValue, ifRecordIs, valueAt}
+use Rattle.rules.specs.declared.table_record.ValueRecord.{ValueRecord}
 use Rattle.rules.proofs.Tests.{and-both, and-false, span-leb}
 use Rattle.rules.proofs.Stands.{leAt-lt, length-part}
-use Rattle.values.proofs.Codes.{empty-code, truth-code}
-use Rattle.values.proofs.Parse.{Holds, holds, fails, then, when}
+use Rattle.value_laws.proofs.Codes.{empty-code, truth-code}
+use Rattle.value_laws.proofs.Parse.{Holds, holds, fails, then, when}
 use Rattle.value.specs.Records.{tagOk, storedOk, scalarOk, parentOk, recordOk}
 use Rattle.value.specs.Walk.{_>>=_, past, next, children, onward, walk}
-use Rattle.value.specs.declared.Spot.{Spot}
+use Rattle.value.specs.declared.TablePos.{TablePos}
 use Rattle.value.specs.declared.Walked.{Walked}
 use Rattle.value.specs.declared.Walked.the-variants.{At, Broken}
 use Rattle.value.proofs.Standing.{same-test, isEach, record-test}
@@ -33,7 +33,7 @@ use Rattle.value.proofs.Fields.{raw-width}
 -- ---- forgetting
 
 -- a spot of the rules, as the code has it
-abbrev pub spot : rule.Spot → Spot
+abbrev pub spot : rule.Spot → TablePos
 spot p = record { at = p .at; from = p .from }
 
 -- where a value ends, without the value
@@ -42,7 +42,7 @@ forgot (Whole a q) = At (spot q)
 forgot rule.Broken = Broken
 
 -- a step, and what follows where it ends
-drops : {A B : Type 0} (x : Parsed A) (k : A × rule.Spot → Parsed B) (w : Walked) (g : Spot → Walked) → forgot x ≡ w → ((a : A) (q : rule.Spot) → w ≡ At (spot q) → forgot (k (a, q)) ≡ g (spot q)) →
+drops : {A B : Type 0} (x : Parsed A) (k : A × rule.Spot → Parsed B) (w : Walked) (g : TablePos → Walked) → forgot x ≡ w → ((a : A) (q : rule.Spot) → w ≡ At (spot q) → forgot (k (a, q)) ≡ g (spot q)) →
     forgot (rule._>>=_ x k) ≡ w >>= g
 unfolding rule._>>=_ forgot _>>=_
 drops (Whole a q) k w g e f = rw (← e) (f a q (sym e))
@@ -147,9 +147,9 @@ module _ (table store : List ℕ) (bs : Bytes table) (short : length store < 2 ^
 
     -- so it is for a node whose every value has one record
     heads : (s c : ℕ) → s < 256 ^ 4 → c < 256 ^ 8 → (x : Parsed Value) → Holds (λ v q. headOf v (tagFor b (p .at)) (p .from) ≡ valueRecord (r .kind) (tagFor b (p .at)) s c) x →
-        forgot (headed table store (tagFor b (p .at)) p x)
+        forgot (ifRecordIs table store (tagFor b (p .at)) p x)
         ≡ pick (ltb (p .at) (valueRecordsIn (length table)) and ((eqb (r .spare) 0 and tagOk b (r .tag)) and (eqb (r .size) s and eqb (r .content) c))) (forgot x) Broken
-    unfolding headed
+    unfolding ifRecordIs
     heads s c l m (Whole v q) (holds h) = rw (h, record-test table (p .at) bs (valueRecord (r .kind) (tagFor b (p .at)) s c) (tag-lt b (p .at)) l m, own-test s c) (picked _)
       where
         picked : (t : Bool) → forgot (pick t (Whole v q) rule.Broken) ≡ pick t (forgot (Whole v q)) Broken
@@ -173,7 +173,7 @@ module _ (table store : List ℕ) (bs : Bytes table) (short : length store < 2 ^
       -- n payload bytes are there just if they end in the store
       stored-same : (make : List ℕ → Value) (n : ℕ) (a : Bool) → pick a (forgot (storedAt table store make n p)) Broken ≡ pick (a and leb n (length store - p .from)) (At (past n (spot p))) Broken
       unfolding storedAt
-      stored-same make n a = rw (span-leb (p .from) n (length store) l) (nested a (leb n (length store - p .from)) (make (part store (p .from) n)) (rule.past table store n p))
+      stored-same make n a = rw (span-leb (p .from) n (length store) l) (nested a (leb n (length store - p .from)) (make (part store (p .from) n)) (rule.pastPayload table store n p))
 
       -- a scalar's size and content are tested, and its value follows
       record Scalar (f : Form) : Type 0 where
@@ -198,7 +198,7 @@ module _ (table store : List ℕ) (bs : Bytes table) (short : length store < 2 ^
           none false = refl
 
       scalar-is : (f : Form) → form (r .kind) ≡ f → Scalar f
-      unfolding scalarAt scalarOk storedOk _and_ forgot headOf kind sizeOf contentOf
+      unfolding scalarAt scalarOk storedOk _and_ forgot headOf valueKind sizeOf contentOf
       scalar-is empty e = record {
         size = 0;
         content = 0;
@@ -239,9 +239,9 @@ module _ (table store : List ℕ) (bs : Bytes table) (short : length store < 2 ^
         each = stored-heads (blob (r .kind)) (r .size) _ (λ x h. rw h);
         same = rw (eq-eqb (r .size) (r .size) refl) (stored-same (blob (r .kind)) (r .size) (eqb (r .content) (p .from)));
       }
-      scalar-is (choice w) e = no-scalar (choice w) refl refl
-      scalar-is (series w) e = no-scalar (series w) refl refl
-      scalar-is fields e = no-scalar fields refl refl
+      scalar-is (variant-form w) e = no-scalar (variant-form w) refl refl
+      scalar-is (repeated-form w) e = no-scalar (repeated-form w) refl refl
+      scalar-is tuple-form e = no-scalar tuple-form refl refl
       scalar-is unknown e = no-scalar unknown refl refl
 
     -- ---- nodes with children
@@ -282,17 +282,17 @@ module _ (table store : List ℕ) (bs : Bytes table) (short : length store < 2 ^
 
       -- the node, by its kind
       unfoldable Node : Type 0
-      Node = forgot (headed table store (tagFor b (p .at)) p (nodeOf table store (valueAt table store d) (kindOf (r .kind)) r p))
+      Node = forgot (ifRecordIs table store (tagFor b (p .at)) p (nodeValue table store (valueAt table store d) (kindOf (r .kind)) r p))
           ≡ pick (ltb (p .at) (valueRecordsIn (length table)) and recordOk r b (p .from) (length store)) (onward (walk table (length store) d) r (spot p)) Broken
 
       scalar-node : r .kind < 15 → Node
-      unfolding Node recordOk onward nodeOf kindOf pick
+      unfolding Node recordOk onward nodeValue kindOf pick
       scalar-node h =
           let z = scalar-is l (form (r .kind)) refl in
           rw (lt-ltb (r .kind) 15 h) (heads (z .size) (z .content) (z .size-fits) (z .content-fits) _ (z .each) ∙ under _ _ _ _ _ (under _ _ _ _ _ (z .same)))
 
       -- one with children: size and content are tested, and its children follow
-      parent-node : {A : Type 0} (s : ℕ) (x : Parsed A) (f : A → Value) → s < 256 ^ 4 → 15 ≤ r .kind → nodeOf table store (valueAt table store d) (kindOf (r .kind)) r p ≡ rule._>>=_ x (λ z. Whole (f (z .0)) (z .1)) →
+      parent-node : {A : Type 0} (s : ℕ) (x : Parsed A) (f : A → Value) → s < 256 ^ 4 → 15 ≤ r .kind → nodeValue table store (valueAt table store d) (kindOf (r .kind)) r p ≡ rule._>>=_ x (λ z. Whole (f (z .0)) (z .1)) →
           Holds (λ a q. headOf (f a) (tagFor b (p .at)) (p .from) ≡ valueRecord (r .kind) (tagFor b (p .at)) s 0) x →
           pick (eqb (r .size) s and eqb (r .content) 0) (forgot x) Broken ≡ pick (parentOk (r .kind) (r .size) (r .content)) (children (walk table (length store) d (ltb (r .kind) 17)) (r .size) (next (spot p))) Broken → Node
       unfolding Node recordOk onward pick
@@ -300,7 +300,7 @@ module _ (table store : List ℕ) (bs : Bytes table) (short : length store < 2 ^
           (heads s 0 l (omega arith) (rule._>>=_ x (λ z. Whole (f (z .0)) (z .1))) (then each (λ z g. holds {a = f (z .0)} g)) ∙ under _ _ _ _ _ (under _ _ _ _ _ (rw (wraps x f) same)))
 
       variant-node : r .kind ≡ 15 → Node
-      unfolding nodeOf kindOf parentOk pick _and_ headOf kind sizeOf contentOf
+      unfolding nodeValue kindOf parentOk pick _and_ headOf valueKind sizeOf contentOf
       variant-node k =
           let t = tagAt table store (p .at + 1) in
           let q = rule.next table store p in
@@ -312,7 +312,7 @@ module _ (table store : List ℕ) (bs : Bytes table) (short : length store < 2 ^
           each rule.Broken = fails
 
       repeated-node : r .kind ≡ 16 → Node
-      unfolding nodeOf kindOf parentOk pick _and_ headOf kind sizeOf contentOf
+      unfolding nodeValue kindOf parentOk pick _and_ headOf valueKind sizeOf contentOf
       repeated-node k =
           let q = rule.next table store p in
           parent-node (r .size) (itemsAt table store (valueAt table store d) (r .size) q) repeated (size-lt (p .at)) (omega (arith, k)) (rw k) (each _ (items-count (r .size) q))
@@ -323,7 +323,7 @@ module _ (table store : List ℕ) (bs : Bytes table) (short : length store < 2 ^
           each rule.Broken h = fails
 
       tuple-node : r .kind ≡ 17 → Node
-      unfolding nodeOf kindOf parentOk pick _and_ headOf kind sizeOf contentOf
+      unfolding nodeValue kindOf parentOk pick _and_ headOf valueKind sizeOf contentOf
       tuple-node k =
           let q = rule.next table store p in
           parent-node (r .size) (valuesAt table store (valueAt table store d) (r .size) q) tuple (size-lt (p .at)) (omega (arith, k)) (rw k) (each _ (values-count (r .size) q))
@@ -334,7 +334,7 @@ module _ (table store : List ℕ) (bs : Bytes table) (short : length store < 2 ^
           each rule.Broken h = fails
 
       other-node : 17 < r .kind → Node
-      unfolding rule._>>=_ nodeOf kindOf parentOk pick _and_ forgot
+      unfolding rule._>>=_ nodeValue kindOf parentOk pick _and_ forgot
       other-node h = parent-node 0 rule.Broken (λ (v : Value). v) (omega arith) (omega arith)
           (rw (le-ltb (r .kind) 15 (omega arith), ne-eqb (r .kind) 15 (λ e. omega arith), ne-eqb (r .kind) 16 (λ e. omega arith), ne-eqb (r .kind) 17 (λ e. omega arith)))
           fails

@@ -12,10 +12,10 @@ use lib.ListN.{length}
 use Rattle.rules.specs.Choice.{_and_}
 use Rattle.rules.specs.Bytes.{Bytes, le, leAt, Stands}
 use Rattle.rules.specs.ValueRecord.{valueRecordStart, valueRecordsIn, layout, valueRecordAt, isRecord}
-use Rattle.rules.specs.declared.ValueRecord.{ValueRecord}
+use Rattle.rules.specs.declared.table_record.ValueRecord.{ValueRecord}
 use Rattle.rules.proofs.Tests.{and-both, and-true}
 use Rattle.rules.proofs.Stands.{length-le, leAt-stands, stands-both}
-use Rattle.values.proofs.Records.{RecordIs, is-record, record-in, kind-is, tag-is, size-is, content-is}
+use Rattle.value_laws.proofs.Records.{RecordIs, is-record, record-in, kind-is, tag-is, size-is, content-is}
 
 -- two tests that follow from each other are one
 pub same-test : (a b : Bool) → (a ≡ true → b ≡ true) → (b ≡ true → a ≡ true) → a ≡ b

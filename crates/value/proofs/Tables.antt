@@ -13,12 +13,12 @@ use Rattle.rules.specs.Refusals.{BadValueTable}
 use Rattle.rules.specs.Value.{Value}
 use Rattle.rules.specs.ValueRecord.{valueRecordsIn, wholeValueRecords}
 use Rattle.rules.specs.ValueTable as rule
-use Rattle.rules.specs.ValueTable.{Parsed, Whole, valueAt, exactly, tableValue}
+use Rattle.rules.specs.ValueTable.{Parsed, Whole, valueAt, ifWholeTable, tableValue}
 use Rattle.rules.specs.ValueCheck.{formChecked, tableForm}
-use Rattle.rules.specs.declared.Checked.{Checked}
-use Rattle.rules.specs.declared.Checked.the-variants.{Accepted, Refused}
+use Rattle.rules.specs.declared.answer.Checked.{Checked}
+use Rattle.rules.specs.declared.answer.Checked.the-variants.{Accepted, Refused}
 use Rattle.value.specs.Walk.{walk}
-use Rattle.value.specs.declared.Spot.{Spot}
+use Rattle.value.specs.declared.TablePos.{TablePos}
 use Rattle.value.specs.declared.Walked.{Walked}
 use Rattle.value.specs.declared.Walked.the-variants.{At, Broken}
 use Rattle.value.proofs.Same.{forgot, root-same}
@@ -29,8 +29,8 @@ module _ (table store : List ℕ) where
   ended (At q) = pick (eqb (q .at) (valueRecordsIn (length table)) and eqb (q .from) (length store)) Accepted (Refused BadValueTable)
   ended Broken = Refused BadValueTable
 
-  exact-ended : (x : Parsed Value) → formChecked (exactly table store x) ≡ ended (forgot x)
-  unfolding exactly ended forgot
+  exact-ended : (x : Parsed Value) → formChecked (ifWholeTable table store x) ≡ ended (forgot x)
+  unfolding ifWholeTable ended forgot
   exact-ended (Whole v q) = by _
     where
       by : (t : Bool) → formChecked (pick t (Whole v q) rule.Broken) ≡ pick t Accepted (Refused BadValueTable)
@@ -54,7 +54,7 @@ module _ (table store : List ℕ) where
     unfolding ended
     form-broken b = rw (← form-walked, b)
 
-    module _ (q : Spot) (b : w ≡ At q) where
+    module _ (q : TablePos) (b : w ≡ At q) where
       -- records after the tree
       pub form-more : (q .at ≡ n → ⊥) → Refused BadValueTable ≡ tableForm table store
       unfolding ended pick _and_

@@ -10,11 +10,11 @@ use lib.Dec.{ltb}
 use lib.ListN.{length}
 use Rattle.rules.specs.Choice.{pick, _and_}
 use Rattle.rules.specs.ValueRecord.{valueRecordsIn, valueRecordAt}
-use Rattle.rules.specs.declared.ValueRecord.{ValueRecord}
+use Rattle.rules.specs.declared.table_record.ValueRecord.{ValueRecord}
 use Rattle.rules.proofs.Tests.{and-both, either}
 use Rattle.value.specs.Records.{recordOk}
 use Rattle.value.specs.Walk.{_>>=_, past, next, children, onward, walk}
-use Rattle.value.specs.declared.Spot.{Spot}
+use Rattle.value.specs.declared.TablePos.{TablePos}
 use Rattle.value.specs.declared.Walked.{Walked}
 use Rattle.value.specs.declared.Walked.the-variants.{At, Broken}
 use Rattle.value.proofs.Fields.{record-in}
@@ -22,29 +22,29 @@ use Rattle.value.proofs.Fields.{record-in}
 -- ---- the children step
 
 -- the first of some children, and the others
-pub children-more : (child : Spot → Walked) (n : ℕ) (p : Spot) → 0 < n → children child n p ≡ child p >>= (λ q. children child (n - 1) q)
+pub children-more : (child : TablePos → Walked) (n : ℕ) (p : TablePos) → 0 < n → children child n p ≡ child p >>= (λ q. children child (n - 1) q)
 unfolding children
 children-more child zero p h = absurd (omega arith)
 children-more child (suc n) p h = let e : suc n - 1 ≡ n = omega arith in rw e
 
-pub children-none : (child : Spot → Walked) (n : ℕ) (p : Spot) → n ≤ 0 → children child n p ≡ At p
+pub children-none : (child : TablePos → Walked) (n : ℕ) (p : TablePos) → n ≤ 0 → children child n p ≡ At p
 unfolding children
 children-none child zero p h = refl
 children-none child (suc n) p h = absurd (omega arith)
 
 -- a child that is none breaks them
-pub children-break : (child : Spot → Walked) (n : ℕ) (p : Spot) (w : Walked) → 0 < n → w ≡ child p → w ≡ Broken → w ≡ children child n p
+pub children-break : (child : TablePos → Walked) (n : ℕ) (p : TablePos) (w : Walked) → 0 < n → w ≡ child p → w ≡ Broken → w ≡ children child n p
 unfolding _>>=_
 children-break child n p w h e b = rw (children-more child n p h, ← e, b)
 
 -- one that ends leaves the others
-pub children-on : (child : Spot → Walked) (n : ℕ) (p q : Spot) (w : Walked) → 0 < n → w ≡ child p → w ≡ At q → children child (n - 1) q ≡ children child n p
+pub children-on : (child : TablePos → Walked) (n : ℕ) (p q : TablePos) (w : Walked) → 0 < n → w ≡ child p → w ≡ At q → children child (n - 1) q ≡ children child n p
 unfolding _>>=_
 children-on child n p q w h e b = rw (children-more child n p h, ← e, b)
 
 -- ---- the node step
 
-module _ (table : List ℕ) (store d : ℕ) (tagged : Bool) (p : Spot) where
+module _ (table : List ℕ) (store d : ℕ) (tagged : Bool) (p : TablePos) where
   pub walk-none : d ≤ 0 → Broken ≡ walk table store d tagged p
   walk-none h = by d h
     where
@@ -92,20 +92,20 @@ module _ (table : List ℕ) (store d : ℕ) (tagged : Bool) (p : Spot) where
 -- ---- the walk stays in the store
 
 pub data Stays (store : ℕ) : Walked → Type 0 where
-  ends : {q : Spot} → q .from ≤ store → Stays store (At q)
+  ends : {q : TablePos} → q .from ≤ store → Stays store (At q)
   breaks : Stays store Broken
 
-then : {store : ℕ} {w : Walked} {k : Spot → Walked} → Stays store w → ((q : Spot) → q .from ≤ store → Stays store (k q)) → Stays store (w >>= k)
+then : {store : ℕ} {w : Walked} {k : TablePos → Walked} → Stays store w → ((q : TablePos) → q .from ≤ store → Stays store (k q)) → Stays store (w >>= k)
 unfolding _>>=_
 then (ends {q = q} l) f = f q l
 then breaks f = breaks
 
-children-stay : (store : ℕ) (child : Spot → Walked) → ((q : Spot) → q .from ≤ store → Stays store (child q)) → (n : ℕ) (p : Spot) → p .from ≤ store → Stays store (children child n p)
+children-stay : (store : ℕ) (child : TablePos → Walked) → ((q : TablePos) → q .from ≤ store → Stays store (child q)) → (n : ℕ) (p : TablePos) → p .from ≤ store → Stays store (children child n p)
 unfolding children
 children-stay store child ok zero p l = ends l
 children-stay store child ok (suc n) p l = then (ok p l) (children-stay store child ok n)
 
-walk-stays : (table : List ℕ) (store d : ℕ) (tagged : Bool) (p : Spot) → p .from ≤ store → Stays store (walk table store d tagged p)
+walk-stays : (table : List ℕ) (store d : ℕ) (tagged : Bool) (p : TablePos) → p .from ≤ store → Stays store (walk table store d tagged p)
 unfolding walk onward
 walk-stays table store zero tagged p l = breaks
 walk-stays table store (suc d) tagged p l =
@@ -117,7 +117,7 @@ walk-stays table store (suc d) tagged p l =
     (λ t. breaks)
 
 -- where a value ends is in the store
-pub walk-ends : (table : List ℕ) (store d : ℕ) (tagged : Bool) (p q : Spot) (w : Walked) → p .from ≤ store → w ≡ walk table store d tagged p → w ≡ At q → q .from ≤ store
+pub walk-ends : (table : List ℕ) (store d : ℕ) (tagged : Bool) (p q : TablePos) (w : Walked) → p .from ≤ store → w ≡ walk table store d tagged p → w ≡ At q → q .from ≤ store
 walk-ends table store d tagged p q w l e b = out (rw (← e, b) at (walk-stays table store d tagged p l))
   where
     out : Stays store (At q) → q .from ≤ store

@@ -4,8 +4,8 @@ use Prim.Native.Nat.{ℕ, _-_, _^_}
 use mathlib.Core.Bool.{Bool, true, false}
 use lib.Dec.{ltb, leb, eqb}
 use Rattle.rules.specs.Choice.{pick, _and_}
-use Rattle.rules.specs.Wire.{Form, empty, truth, fixed, raw, sized, choice, series, fields, unknown, form}
-use Rattle.rules.specs.declared.ValueRecord.{ValueRecord}
+use Rattle.rules.specs.Wire.{Form, empty, truth, fixed, raw, sized, variant-form, repeated-form, tuple-form, unknown, form}
+use Rattle.rules.specs.declared.table_record.ValueRecord.{ValueRecord}
 
 -- the tag of a node: any where its parent chose it by a tag, else 0
 unfoldable pub tagOk : Bool → ℕ → Bool
@@ -23,9 +23,9 @@ scalarOk truth size content from store = eqb size 0 and ltb content 2
 scalarOk (fixed w) size content from store = eqb size 0 and ltb content (256 ^ w)
 scalarOk (raw w) size content from store = eqb size w and storedOk size content from store
 scalarOk sized size content from store = storedOk size content from store
-scalarOk (choice w) size content from store = false
-scalarOk (series w) size content from store = false
-scalarOk fields size content from store = false
+scalarOk (variant-form w) size content from store = false
+scalarOk (repeated-form w) size content from store = false
+scalarOk tuple-form size content from store = false
 scalarOk unknown size content from store = false
 
 -- a variant, a repeated value or a tuple

@@ -7,37 +7,37 @@ use lib.ListN.{length}
 use lib.Dec.{ltb}
 use Rattle.rules.specs.Choice.{pick, _and_}
 use Rattle.rules.specs.ValueRecord.{valueRecordsIn, valueRecordAt}
-use Rattle.rules.specs.declared.ValueRecord.{ValueRecord}
+use Rattle.rules.specs.declared.table_record.ValueRecord.{ValueRecord}
 use Rattle.value.specs.Records.{recordOk}
-use Rattle.value.specs.declared.Spot.{Spot}
+use Rattle.value.specs.declared.TablePos.{TablePos}
 use Rattle.value.specs.declared.Walked.{Walked}
 use Rattle.value.specs.declared.Walked.the-variants.{At, Broken}
 
 infixl 20 _>>=_
-unfoldable pub _>>=_ : Walked → (Spot → Walked) → Walked
+unfoldable pub _>>=_ : Walked → (TablePos → Walked) → Walked
 At q >>= k = k q
 Broken >>= k = Broken
 
 -- the next record, n payload bytes further
-abbrev pub past : ℕ → Spot → Spot
+abbrev pub past : ℕ → TablePos → TablePos
 past n p = record { at = p .at + 1; from = p .from + n }
 
-abbrev pub next : Spot → Spot
+abbrev pub next : TablePos → TablePos
 next p = record { at = p .at + 1; from = p .from }
 
 -- so many values, one after another
-unfoldable pub children : (Spot → Walked) → ℕ → Spot → Walked
+unfoldable pub children : (TablePos → Walked) → ℕ → TablePos → Walked
 children child zero p = At p
 children child (suc n) p = do
   q ← child p
   children child n q
 
 -- what follows a record that is right where it stands: its payload, or its children, which bear tags in all but a tuple
-unfoldable pub onward : (Bool → Spot → Walked) → ValueRecord → Spot → Walked
+unfoldable pub onward : (Bool → TablePos → Walked) → ValueRecord → TablePos → Walked
 onward child r p = pick (ltb (r .kind) 15) (At (past (r .size) p)) (children (child (ltb (r .kind) 17)) (r .size) (next p))
 
 -- a value, at most so many levels deep, in a store of so many bytes
-unfoldable pub walk : List ℕ → ℕ → ℕ → Bool → Spot → Walked
+unfoldable pub walk : List ℕ → ℕ → ℕ → Bool → TablePos → Walked
 walk table store zero tagged p = Broken
 walk table store (suc d) tagged p =
     let r = valueRecordAt table (p .at) in

@@ -19,14 +19,14 @@ use rules::Why;
 use wire::codes::fixed_width;
 
 // Where the walk stands: the next record, and the next byte of the payload store.
-pub struct Spot {
+pub struct TablePos {
     pub at: usize,
     pub from: usize,
 }
 
 // What walking over a value answers: where its records and its payload end, or that there is no value.
 pub enum Walked {
-    At(Spot),
+    At(TablePos),
     Broken,
 }
 
@@ -139,7 +139,7 @@ fn record_ok(r: ValueRecord, tagged: bool, from: usize, store: usize) -> bool
 // ---- a value
 
 // The node step. What has no children has its payload's length in the field for the size, or 0.
-fn walk_value(records: &[u8], store: usize, depth: usize, tagged: bool, p: Spot) -> Walked
+fn walk_value(records: &[u8], store: usize, depth: usize, tagged: bool, p: TablePos) -> Walked
     requires { ⌜ p .from ≤ store ⌝ }
     ensures { λ r. ⌜ r ≡ walk (now (records .entry)) store depth tagged p ⌝ }
 {
@@ -158,12 +158,12 @@ fn walk_value(records: &[u8], store: usize, depth: usize, tagged: bool, p: Spot)
     let kind = r.kind;
     let size = r.size;
     if kind < 15 {
-        return Walked::At(Spot {
+        return Walked::At(TablePos {
             at: at + 1,
             from: from + size as usize,
         });
     }
-    let below = Spot { at: at + 1, from };
+    let below = TablePos { at: at + 1, from };
     let s = walk_children(records, store, depth - 1, kind < 17, size, below);
     let Walked::At(q) = s else {
         return s;
@@ -178,7 +178,7 @@ fn walk_children(
     depth: usize,
     tagged: bool,
     count: u64,
-    p: Spot,
+    p: TablePos,
 ) -> Walked
     requires { ⌜ p .from ≤ store ⌝ }
     ensures { λ r. ⌜ r ≡ children (walk (now (records .entry)) store depth tagged) count p ⌝ }
@@ -216,7 +216,7 @@ pub fn table_form(records: &[u8], payload: &[u8]) -> Checked
     if !whole_records(bytes) {
         return no_table();
     }
-    let s = walk_value(records, store, 64, false, Spot { at: 0, from: 0 });
+    let s = walk_value(records, store, 64, false, TablePos { at: 0, from: 0 });
     let Walked::At(end) = s else {
         return no_table();
     };

@@ -11,13 +11,13 @@ use Rattle.rules.specs.Choice.{pick, _and_}
 use Rattle.rules.specs.Refusals.{Setting, lineOf, inBytes}
 use Rattle.rules.specs.Format.{Format}
 use Rattle.rules.specs.Reading.{refusedRun, runRule, rowCount, byteCount, ranOf}
-use Rattle.rules.specs.Windows.{moved, Inside, movedStop, added, runAfter}
-use Rattle.rules.specs.declared.Settings.{Settings}
+use Rattle.rules.specs.Windows.{moved, PlaceInside, movedStop, added, runAfter}
+use Rattle.rules.specs.declared.settings.Settings.{Settings}
 use Rattle.rules.proofs.Tests.{and-false}
-use Rattle.rules.specs.declared.Refusal.{Refusal}
-use Rattle.rules.specs.declared.RefusalLine.{RefusalLine}
-use Rattle.rules.specs.declared.Stop.{Stop}
-use Rattle.rules.specs.declared.Ran.{Ran}
+use Rattle.rules.specs.declared.refusal.Refusal.{Refusal}
+use Rattle.rules.specs.declared.refusal.RefusalLine.{RefusalLine}
+use Rattle.rules.specs.declared.answer.Stop.{Stop}
+use Rattle.rules.specs.declared.answer.Ran.{Ran}
 
 -- a refusal by its line's word on its place
 module _ (n : ℕ) (r : Refusal) (l : RefusalLine) (e : l ≡ inBytes (lineOf (r .why))) where
@@ -33,7 +33,7 @@ module _ (n : ℕ) (r : Refusal) (l : RefusalLine) (e : l ≡ inBytes (lineOf (r
   unfolding moved pick
   place-moves t = rw (moves-as, t)
 
-  pub place-fits : l .moves ≡ true → Inside n r → r .place ≤ n
+  pub place-fits : l .moves ≡ true → PlaceInside n r → r .place ≤ n
   place-fits t i = i (moves-as ∙ t)
 
 -- what a window adds to what was counted before it, by how the window's run stops

@@ -13,11 +13,11 @@ use Rattle.rules.specs.Bytes.{part, over}
 use Rattle.rules.specs.Format.{Format}
 use Rattle.rules.specs.Reading.{runRule, ranOf}
 use Rattle.rules.specs.Windows.{goesOn, added}
-use Rattle.rules.specs.declared.Ran.{Ran}
-use Rattle.rules.specs.declared.Settings.{Settings}
+use Rattle.rules.specs.declared.answer.Ran.{Ran}
+use Rattle.rules.specs.declared.settings.Settings.{Settings}
 use Rattle.rules.proofs.Over.{over-is}
 use Rattle.rules.proofs.Stands.{length-part}
-use Rattle.rows.proofs.Windows.{bytes-front, refused-in-windows, ran-in-windows, ran-inside}
+use Rattle.row_laws.proofs.Windows.{bytes-front, refused-in-windows, ran-in-windows, ran-inside}
 use Rattle.windows.specs.Steps.{cut, GoesOver}
 
 module _ (f : Format) (s : Settings) (ran : Ran) (window : List ℕ) where

@@ -15,13 +15,13 @@ use Rattle.rules.specs.Format.{Format, sizesOk}
 use Rattle.rules.specs.Reading.{settingsOk, door, through, refusedRun, runRule, rowCount, byteCount, ranOf}
 use Rattle.rules.specs.Windows.{movedStop, added}
 use Rattle.rules.specs.Refusals.{Setting}
-use Rattle.rules.specs.declared.Stop.{Stop}
-use Rattle.rules.specs.declared.Ran.{Ran}
-use Rattle.rules.specs.declared.Settings.{Settings}
+use Rattle.rules.specs.declared.answer.Stop.{Stop}
+use Rattle.rules.specs.declared.answer.Ran.{Ran}
+use Rattle.rules.specs.declared.settings.Settings.{Settings}
 use Rattle.rules.proofs.Tests.{and-false}
 use Rattle.rules.proofs.Stands.{length-part}
 use Rattle.rules.proofs.Over.{over-is}
-use Rattle.rows.proofs.Parts.{moved-none}
+use Rattle.row_laws.proofs.Parts.{moved-none}
 use Rattle.windows.specs.Bounds.{Laid}
 use Rattle.windows.specs.Steps.{cut, tables, GoesOver, Stream}
 use Rattle.windows.specs.declared.space.Ends.{Ends}

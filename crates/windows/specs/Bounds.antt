@@ -1,7 +1,7 @@
 -- Where the tables and the window lie in the space, and how much may be counted.
 -- Assumes nothing: these are definitions.
 use Prim.Native.Nat.{ℕ, _+_, _-_, _≤_}
-use Rattle.rules.specs.declared.Ran.{Ran}
+use Rattle.rules.specs.declared.answer.Ran.{Ran}
 use Rattle.windows.specs.declared.space.Ends.{Ends}
 
 -- in a space of n bytes the tables end one behind the other, and the window behind them at `end`

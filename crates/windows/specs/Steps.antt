@@ -9,8 +9,8 @@ use Rattle.rules.specs.Bytes.{Bytes}
 use Rattle.rules.specs.Format.{Format}
 use Rattle.rules.specs.Reading.{runRule, ranOf}
 use Rattle.rules.specs.Windows.{goesOn}
-use Rattle.rules.specs.declared.Ran.{Ran}
-use Rattle.rules.specs.declared.Settings.{Settings}
+use Rattle.rules.specs.declared.answer.Ran.{Ran}
+use Rattle.rules.specs.declared.settings.Settings.{Settings}
 use Rattle.schema.specs.Slices.{slices}
 use Rattle.windows.specs.declared.space.Ends.{Ends}
 

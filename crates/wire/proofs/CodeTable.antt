@@ -14,15 +14,15 @@ use lib.ListN.{length, getD, replicate, List·getD-map, List·getD-append, getD-
 use lib.Seq.{getD-append-add}
 use Rattle.rules.specs.Choice.{_and_}
 use Rattle.rules.specs.Wire.{wireTypes, typeIn, typeOf, codeOf, written, writtenIf, form, widthOf, endTag, fixedForm, fixedWidth, maximum}
-use Rattle.rules.specs.declared.WireType.{WireType}
-use Rattle.rules.specs.declared.WireType.the-variants.{Nothing, Boolean, Int8, Int16, Int32, Int64, Int128, Int256, Uint8, Uint16, Uint32, Uint64, Double, String32, Yson32, Variant8, Variant16, RepeatedVariant8, RepeatedVariant16, Tuple}
-use Rattle.rules.specs.declared.Known.{Known}
-use Rattle.rules.specs.declared.Width.the-variants.{Fixed, Variable}
-use Rattle.rules.specs.declared.Children.{Children}
-use Rattle.rules.specs.declared.Children.the-variants.{None, UpTo, Any}
+use Rattle.rules.specs.declared.wire_type.WireType.{WireType}
+use Rattle.rules.specs.declared.wire_type.WireType.the-variants.{Nothing, Boolean, Int8, Int16, Int32, Int64, Int128, Int256, Uint8, Uint16, Uint32, Uint64, Double, String32, Yson32, Variant8, Variant16, RepeatedVariant8, RepeatedVariant16, Tuple}
+use Rattle.rules.specs.declared.wire_type.Known.{Known}
+use Rattle.rules.specs.declared.wire_type.Width.the-variants.{Fixed, Variable}
+use Rattle.rules.specs.declared.wire_type.Children.{Children}
+use Rattle.rules.specs.declared.wire_type.Children.the-variants.{None, UpTo, Any}
 use Rattle.rules.proofs.Tests.{and-both}
 use Rattle.rules.proofs.Codes.{no-type}
-use Rattle.rules.specs.declared.Known.the-variants.{Wire, Unknown}
+use Rattle.rules.specs.declared.wire_type.Known.the-variants.{Wire, Unknown}
 
 pub type-in : (ts : List WireType) (d : WireType) (code : ℕ) → code < length ts → Wire (getD ts code d) ≡ typeIn ts code
 unfolding typeIn

@@ -13,11 +13,11 @@ use Rattle.rules.specs.Choice.{pick, _and_, all}
 use Rattle.rules.specs.Bytes.{part, order, isEqual}
 use Rattle.rules.specs.Wire.{wireTypes, typeIn, typeOf, codeOf}
 use Rattle.rules.specs.Names.{spelling, ascii, nameOf, parseIn, parsed}
-use Rattle.rules.specs.declared.Order.{Order}
-use Rattle.rules.specs.declared.WireType.{WireType}
-use Rattle.rules.specs.declared.WireType.the-variants.{Nothing}
-use Rattle.rules.specs.declared.Known.{Known}
-use Rattle.rules.specs.declared.Known.the-variants.{Wire, Unknown}
+use Rattle.rules.specs.declared.answer.Order.{Order}
+use Rattle.rules.specs.declared.wire_type.WireType.{WireType}
+use Rattle.rules.specs.declared.wire_type.WireType.the-variants.{Nothing}
+use Rattle.rules.specs.declared.wire_type.Known.{Known}
+use Rattle.rules.specs.declared.wire_type.Known.the-variants.{Wire, Unknown}
 use Rattle.wire.specs.declared.names.Span.{Span}
 use Rattle.wire.specs.Table.{joined, names, Spells}
 use Rattle.rules.proofs.Tests.{and-both, all-each}

@@ -8,9 +8,9 @@ use mathlib.Core.List.{List}
 use Rattle.rules.specs.Bytes.{order, isLess}
 use Rattle.rules.specs.Wire.{typeOf, codeOf}
 use Rattle.rules.specs.Names.{nameOf, parsed}
-use Rattle.rules.specs.declared.Order.the-variants.{Equal}
-use Rattle.rules.specs.declared.WireType.{WireType}
-use Rattle.rules.specs.declared.Known.the-variants.{Wire}
+use Rattle.rules.specs.declared.answer.Order.the-variants.{Equal}
+use Rattle.rules.specs.declared.wire_type.WireType.{WireType}
+use Rattle.rules.specs.declared.wire_type.Known.the-variants.{Wire}
 use Rattle.rules.proofs.Orders as orders
 use Rattle.wire.proofs.CodeTable as codes
 use Rattle.wire.proofs.NameTable as names

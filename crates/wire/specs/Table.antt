@@ -7,7 +7,7 @@ use lib.ListN.{length}
 use Rattle.rules.specs.Bytes.{part}
 use Rattle.rules.specs.Wire.{wireTypes}
 use Rattle.rules.specs.Names.{nameOf}
-use Rattle.rules.specs.declared.WireType.{WireType}
+use Rattle.rules.specs.declared.wire_type.WireType.{WireType}
 use Rattle.wire.specs.declared.names.Span.{Span}
 
 unfoldable pub joined : List WireType → List ℕ

@@ -36,7 +36,7 @@ pub fn tag_width(code: u8) -> usize
     if code % 2 == 1 { 1 } else { 2 }
 }
 
-// How many children a node of this code may have: a tag has to name each, and in a series one tag is the end.
+// How many children a node of this code may have: a tag has to name each, and of a repeated type one tag is the end.
 pub fn maximum_of(code: u8) -> Children
     ensures { λ r. ⌜ r ≡ maximum (form code) ⌝ }
 {

@@ -8,7 +8,7 @@ use borrow.Author.Tests.{lt-ltb, le-ltb, ne-eqb}
 use lib.ListN.{length, getD, List·getD-eq-default}
 use Rattle.rules.specs.Choice.{pick}
 use Rattle.rules.specs.Wire.{wireTypes}
-use Rattle.rules.specs.declared.WireType.{WireType}
+use Rattle.rules.specs.declared.wire_type.WireType.{WireType}
 use Rattle.rules.specs.Lines.{codeWords, codeWord, contextWords, contextWord, wordOf, labelTable, labelsOf}
 
 past-codes : (ts : List WireType) (code : ℕ) → length ts ≤ code → codeWords ts code ≡ []

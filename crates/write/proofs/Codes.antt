@@ -8,13 +8,13 @@ use native.Mathlib.Omega.{arith}
 use borrow.Author.Tests.{lt-ltb, ltb-true, leb-true, eqb-true}
 use lib.Dec.{ltb, leb, eqb}
 use Rattle.rules.specs.Choice.{pick, _and_, all}
-use Rattle.rules.specs.Wire.{Form, empty, truth, fixed, raw, sized, choice, series, fields, unknown, wireTypes, typeIn, typeOf, written, writtenIf, form, widthOf, endTag}
+use Rattle.rules.specs.Wire.{Form, empty, truth, fixed, raw, sized, variant-form, repeated-form, tuple-form, unknown, wireTypes, typeIn, typeOf, written, writtenIf, form, widthOf, endTag}
 use Rattle.rules.specs.Bytes.{le}
 use Rattle.rules.specs.Writing.{kindFor}
 use Rattle.rules.proofs.Tests.{and-both, all-each}
 use Rattle.rules.proofs.Codes.{every-form}
-use Rattle.values.proofs.Codes.{variant-taken, repeated-taken, tuple-taken}
-use Rattle.read.specs.Children.{variant, repeated, tuple, shapeOf}
+use Rattle.value_laws.proofs.Codes.{variant-taken, repeated-taken, tuple-taken}
+use Rattle.read.specs.Children.{as-variant, as-repeated, as-tuple, shapeOf}
 use Rattle.read.proofs.Codes.{shape-variant, shape-repeated, shape-tuple}
 use Rattle.write.specs.Judging.{taggedOf, pickedOf, countOk}
 use Rattle.write.specs.Putting.{tagBytes, closing, childOf}
@@ -31,7 +31,7 @@ pub picked-tag : (code first count i tag r : ℕ) → code ≤ 18 → pickedOf c
 unfolding shapeOf pick pickedOf
 picked-tag code first count i tag r h = rw (lt-ltb code 19 (omega arith)) (either (ltb code 17))
   where
-    either : (b : Bool) → pickedOf code first count (pick b (variant (widthOf (form code))) (repeated (widthOf (form code)))) i tag r ≡ taggedOf code first count (widthOf (form code)) tag r
+    either : (b : Bool) → pickedOf code first count (pick b (as-variant (widthOf (form code))) (as-repeated (widthOf (form code)))) i tag r ≡ taggedOf code first count (widthOf (form code)) tag r
     either true = refl
     either false = refl
 
@@ -41,9 +41,9 @@ ranged truth k = eqb k 1
 ranged (fixed w) k = ltb k 13 and leb w 8
 ranged (raw w) k = ltb k 13 and ltb 8 w
 ranged sized k = leb 13 k and ltb k 15
-ranged (choice w) k = ltb k 17
-ranged (series w) k = leb 17 k and ltb k 19
-ranged fields k = leb 19 k
+ranged (variant-form w) k = ltb k 17
+ranged (repeated-form w) k = leb 17 k and ltb k 19
+ranged tuple-form k = leb 19 k
 ranged unknown k = true
 
 range : (k : ℕ) → ranged (form k) k ≡ true
@@ -63,15 +63,15 @@ unfolding ranged
 sized-range k e = let h = and-both _ _ (rw e at (range k)) in (leb-true 13 k (h .0), ltb-true k 15 (h .1))
 
 -- a code that takes kind 15, 16 or 17 has the shape of that kind
-pub variant-shape : (c : ℕ) → 15 ≡ kindFor c (form c) → shapeOf c ≡ variant (widthOf (form c))
+pub variant-shape : (c : ℕ) → 15 ≡ kindFor c (form c) → shapeOf c ≡ as-variant (widthOf (form c))
 unfolding ranged
 variant-shape c q = shape-variant c (ltb-true c 17 (rw (variant-taken c q) at (range c)))
 
-pub repeated-shape : (c : ℕ) → 16 ≡ kindFor c (form c) → shapeOf c ≡ repeated (widthOf (form c))
+pub repeated-shape : (c : ℕ) → 16 ≡ kindFor c (form c) → shapeOf c ≡ as-repeated (widthOf (form c))
 unfolding ranged
 repeated-shape c q = let h = and-both _ _ (rw (repeated-taken c q) at (range c)) in shape-repeated c (leb-true 17 c (h .0)) (ltb-true c 19 (h .1))
 
-pub tuple-shape : (c : ℕ) → 17 ≡ kindFor c (form c) → shapeOf c ≡ tuple
+pub tuple-shape : (c : ℕ) → 17 ≡ kindFor c (form c) → shapeOf c ≡ as-tuple
 unfolding ranged
 tuple-shape c q = shape-tuple c (leb-true 19 c (rw (tuple-taken c q) at (range c)))
 
@@ -88,7 +88,7 @@ pub uncounted : (code size count : ℕ) → code < 19 → true ≡ countOk (shap
 unfolding shapeOf pick countOk
 uncounted code size count h = rw (lt-ltb code 19 h) (either (ltb code 17))
   where
-    either : (b : Bool) → true ≡ countOk (pick b (variant (widthOf (form code))) (repeated (widthOf (form code)))) size count
+    either : (b : Bool) → true ≡ countOk (pick b (as-variant (widthOf (form code))) (as-repeated (widthOf (form code)))) size count
     either true = refl
     either false = refl
 
@@ -97,7 +97,7 @@ pub tagged-child : (code first i tag : ℕ) → code < 19 → first + tag ≡ ch
 unfolding shapeOf pick childOf
 tagged-child code first i tag h = rw (lt-ltb code 19 h) (either (ltb code 17))
   where
-    either : (b : Bool) → first + tag ≡ childOf (pick b (variant (widthOf (form code))) (repeated (widthOf (form code)))) first i tag
+    either : (b : Bool) → first + tag ≡ childOf (pick b (as-variant (widthOf (form code))) (as-repeated (widthOf (form code)))) first i tag
     either true = refl
     either false = refl
 
@@ -106,7 +106,7 @@ tag-bytes : (code tag : ℕ) → code < 19 → tagBytes (shapeOf code) tag ≡ l
 unfolding shapeOf pick tagBytes
 tag-bytes code tag h = rw (lt-ltb code 19 h) (either (ltb code 17))
   where
-    either : (b : Bool) → tagBytes (pick b (variant (widthOf (form code))) (repeated (widthOf (form code)))) tag ≡ le (widthOf (form code)) tag
+    either : (b : Bool) → tagBytes (pick b (as-variant (widthOf (form code))) (as-repeated (widthOf (form code)))) tag ≡ le (widthOf (form code)) tag
     either true = refl
     either false = refl
 

@@ -14,17 +14,17 @@ use Rattle.rules.specs.Wire.{form, widthOf}
 use Rattle.rules.specs.Block.{nodeAt, Closed}
 use Rattle.rules.specs.Value.{Value, Items, done, item, items, recordsOf, payloadOf}
 use Rattle.rules.specs.ValueRecord.{valueRecordAt, ValueRecordIn}
-use Rattle.rules.specs.ValueTable.{paysI, belowI, kind, sizeOf, Spot, tagAt}
+use Rattle.rules.specs.ValueTable.{payloadBytesI, belowI, valueKind, sizeOf, Spot, tagAt}
 use Rattle.rules.specs.Refusals.{TupleLength, InvalidVariantTag, ValueDoesNotMatchSchema}
 use Rattle.rules.specs.Writing as rule
 use Rattle.rules.specs.Writing.{Wrote, Put, _>>=_, kindFor, write}
-use Rattle.rules.specs.declared.Refusal.{Refusal}
-use Rattle.rules.specs.declared.ValueRecord.{ValueRecord}
+use Rattle.rules.specs.declared.refusal.Refusal.{Refusal}
+use Rattle.rules.specs.declared.table_record.ValueRecord.{ValueRecord}
 use Rattle.rules.proofs.Stands.{length-le}
-use Rattle.values.proofs.Parse.{Reads, ReadsI}
-use Rattle.values.proofs.Span.{span-in, lands-here}
-use Rattle.read.specs.Children.{Shape, variant, repeated, tuple, shapeOf}
-use Rattle.read.specs.Ready.{Sound}
+use Rattle.value_laws.proofs.Parse.{Reads, ReadsI}
+use Rattle.value_laws.proofs.Span.{span-in, lands-here}
+use Rattle.read.specs.Children.{Shape, as-variant, as-repeated, as-tuple, shapeOf}
+use Rattle.read.specs.Ready.{SoundNodes}
 use Rattle.read.proofs.Codes.{form-choice, form-series, form-fields}
 use Rattle.write.specs.Table.{IsWhole, valueOf, endOf, standing}
 use Rattle.write.specs.Judging.{only, passed, judged, taggedOf, pickedOf, countOk, closingBytes, Judgeable, Opened, judgedAt}
@@ -62,7 +62,7 @@ tag-short : (code t : ℕ) → length (tagBytes (shapeOf code) t) ≤ 32
 unfolding shapeOf
 tag-short code t = by (ltb code 17) (ltb code 19)
   where
-    by : (a b : Bool) → length (tagBytes (pick a (variant (widthOf (form code))) (pick b (repeated (widthOf (form code))) tuple)) t) ≤ 32
+    by : (a b : Bool) → length (tagBytes (pick a (as-variant (widthOf (form code))) (pick b (as-repeated (widthOf (form code))) as-tuple)) t) ≤ 32
     by true b = unfold pick tagBytes in rw length-le (widest code)
     by false true = unfold pick tagBytes in rw length-le (widest code)
     by false false = unfold pick tagBytes in omega arith
@@ -72,15 +72,15 @@ tag-of s code t e = rw e (tag-short code t)
 
 closing-length : (s : Shape) → length (closing s) ≡ closingBytes s
 unfolding closing closingBytes
-closing-length (variant w) = refl
-closing-length (repeated w) = length-le w _
-closing-length tuple = refl
+closing-length (as-variant w) = refl
+closing-length (as-repeated w) = length-le w _
+closing-length as-tuple = refl
 
 pub closing-short : (code : ℕ) → closingBytes (shapeOf code) ≤ 32
 unfolding shapeOf
 closing-short code = by (ltb code 17) (ltb code 19)
   where
-    by : (a b : Bool) → closingBytes (pick a (variant (widthOf (form code))) (pick b (repeated (widthOf (form code))) tuple)) ≤ 32
+    by : (a b : Bool) → closingBytes (pick a (as-variant (widthOf (form code))) (pick b (as-repeated (widthOf (form code))) as-tuple)) ≤ 32
     by true b = unfold pick closingBytes in omega arith
     by false true = unfold pick closingBytes in widest code
     by false false = unfold pick closingBytes in omega arith
@@ -98,11 +98,11 @@ tagged-choice code first count w t r c u e = by (ltb t count) refl e
     by true h f = let g : c ≡ first + t = unfold pick in cc in (omega (arith, ltb-true t count h), unfold pick in cc)
     by false h f = absurd (let z : _≡_ {A = ℕ} 0 1 = unfold pick in cc in omega arith)
 
-pub choice : (code first count : ℕ) (s : Shape) (j t r c w : ℕ) → (s ≡ tuple → j < count) → pickedOf code first count s j t r ≡ pick-is.Child c w → Choice first count s t c w
+pub choice : (code first count : ℕ) (s : Shape) (j t r c w : ℕ) → (s ≡ as-tuple → j < count) → pickedOf code first count s j t r ≡ pick-is.Child c w → Choice first count s t c w
 unfolding pickedOf tagBytes
-choice code first count (variant u) j t r c w h e = let g = tagged-choice code first count u t r c w e in record { low = g .0; tag = length-le u t ∙ g .1 }
-choice code first count (repeated u) j t r c w h e = let g = tagged-choice code first count u t r c w e in record { low = g .0; tag = length-le u t ∙ g .1 }
-choice code first count tuple j t r c w h e = let f : c ≡ first + j = cc in record { low = omega (arith, h refl); tag = (cc) }
+choice code first count (as-variant u) j t r c w h e = let g = tagged-choice code first count u t r c w e in record { low = g .0; tag = length-le u t ∙ g .1 }
+choice code first count (as-repeated u) j t r c w h e = let g = tagged-choice code first count u t r c w e in record { low = g .0; tag = length-le u t ∙ g .1 }
+choice code first count as-tuple j t r c w h e = let f : c ≡ first + j = cc in record { low = omega (arith, h refl); tag = (cc) }
 
 -- ---- a turn
 
@@ -161,11 +161,11 @@ module _ (sch : List ℕ) (blob i : ℕ) (table store : List ℕ) where
     pub misfit : (code has : ℕ) → code ≡ nodeAt sch i .code → has ≡ valueRecordAt table (p .at) .kind → (has ≡ kindFor code (form code) → ⊥) → Refused (ValueDoesNotMatchSchema code has (p .at)) ≡ judgedAt sch blob i depth table store p
     unfolding judgedAt judged
     misfit code has a b h =
-        let e : has ≡ kind (valueOf (standing table store depth (p .at) (p .from))) = b ∙ kind-told table store (omega (arith, k .short)) whole-reads in
+        let e : has ≡ valueKind (valueOf (standing table store depth (p .at) (p .from))) = b ∙ kind-told table store (omega (arith, k .short)) whole-reads in
         rw (a, e, unfit sch (only blob) i (valueOf (standing table store depth (p .at) (p .from))) (p .at) (λ x. h (e ∙ x ∙ ap (λ (c : ℕ). kindFor c (form c)) (sym a))))
 
     module _ (code size : ℕ) (o : Opened sch i code table p size) where
-      is-compound : 15 ≤ kind (valueOf (standing table store depth (p .at) (p .from)))
+      is-compound : 15 ≤ valueKind (valueOf (standing table store depth (p .at) (p .from)))
       is-compound = omega (arith, compound-kind code (o .compound) (rw (o .is) (k .sound .codes i (k .inside))), o .kind, kind-told table store (omega (arith, k .short)) whole-reads)
 
       is-size : size ≡ sizeOf (valueOf (standing table store depth (p .at) (p .from)))
@@ -199,7 +199,7 @@ module _ (sch : List ℕ) (blob i : ℕ) (table store : List ℕ) where
 
     -- no child is left
     pub going-end : size ≤ j → Fits (passed (q .at) (q .from) (q .bytes + closingBytes s)) ≡ whole
-    unfolding kids judged belowI paysI items
+    unfolding kids judged belowI payloadBytesI items
     going-end h = of (g .rest) (g .reads) (omega (arith, g .counted)) (g .comes)
       where
         of : (is : Items) → ReadsI table store d (spot (q .at) (q .from)) is z → items is ≡ 0 → judged (q .bytes) z (kids sch (only blob) i s is j (q .at)) ≡ whole → Fits (passed (q .at) (q .from) (q .bytes + closingBytes s)) ≡ whole
@@ -226,7 +226,7 @@ module _ (sch : List ℕ) (blob i : ℕ) (table store : List ℕ) where
         pub going-unpicked : (x : Refusal) → pk ≡ pick-is.Refused x → Refused x ≡ whole
         going-unpicked x f = sym (pick-refused sch blob i s j (the-turn .tag) (the-turn .value) (the-turn .rest) (q .at) (q .bytes) z pk picks x f) ∙ came
 
-        module _ (x w : ℕ) (f : pk ≡ pick-is.Child x w) (choose : s ≡ tuple → j < count) where
+        module _ (x w : ℕ) (f : pk ≡ pick-is.Child x w) (choose : s ≡ as-tuple → j < count) where
           the-choice : Choice first count s (the-turn .tag) x w
           the-choice = choice code first count s j (the-turn .tag) (q .at) x w choose (sym (e ∙ rw (the-turn .bears)) ∙ f)
 
@@ -235,7 +235,7 @@ module _ (sch : List ℕ) (blob i : ℕ) (table store : List ℕ) where
           tag-few l = omega (arith, the-choice .tag, tag-of s code (the-turn .tag) l)
 
           -- the child may be judged
-          pub child-judgeable : Sound sch → (first + count) * 16 ≤ length sch → w ≤ 32 → length store < 2 ^ 32 → Judgeable sch x d table store (passed (q .at) (q .from) (q .bytes + w))
+          pub child-judgeable : SoundNodes sch → (first + count) * 16 ≤ length sch → w ≤ 32 → length store < 2 ^ 32 → Judgeable sch x d table store (passed (q .at) (q .from) (q .bytes + w))
           unfolding IsWhole
           child-judgeable k l m n = record {
             sound = k;
@@ -286,7 +286,7 @@ module _ (sch : List ℕ) (i depth : ℕ) (table store : List ℕ) (p : Passed) 
   whole-deep = deep table store (omega (arith, k .short)) (whole-reads sch 0 i table store depth p k)
 
 -- a tuple's children are as many as its node's
-pub counted-tuple : (code size count j : ℕ) → countOk (shapeOf code) size count ≡ true → j < size → shapeOf code ≡ tuple → j < count
+pub counted-tuple : (code size count j : ℕ) → countOk (shapeOf code) size count ≡ true → j < size → shapeOf code ≡ as-tuple → j < count
 unfolding countOk
 counted-tuple code size count j f h e = omega (arith, eqb-true size count (rw e at f), h)
 
@@ -344,7 +344,7 @@ module _ (sch : List ℕ) (blob i depth : ℕ) (table store : List ℕ) (p : Pas
         no-pick x f = going-unpicked sch blob i table store short g h code first count (o .is) the-first the-count pk asked x f
 
         module _ (x w : ℕ) (f : pk ≡ pick-is.Child x w) where
-          chooses : shapeOf code ≡ tuple → j < count
+          chooses : shapeOf code ≡ as-tuple → j < count
           chooses n = counted-tuple code size count j (sym t ∙ y) h n
 
           pub narrow : w ≤ 32

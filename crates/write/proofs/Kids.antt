@@ -15,11 +15,11 @@ use Rattle.rules.specs.Wire.{form, widthOf}
 use Rattle.rules.specs.Block.{nodeAt}
 use Rattle.rules.specs.Value as value
 use Rattle.rules.specs.Value.{Value, nothing, boolean, number, wide, blob, Items, done, item, Values, none, more, recordsOf, Fits}
-use Rattle.rules.specs.ValueTable.{kind, sizeOf}
+use Rattle.rules.specs.ValueTable.{valueKind, sizeOf}
 use Rattle.rules.specs.Walk.{Limits}
 use Rattle.rules.specs.Refusals.{ValueDoesNotMatchSchema, TupleLength, InvalidVariantTag}
 use Rattle.rules.specs.Writing.{Wrote, Put, Refused, _>>=_, kindFor, fitting, tagged, write, writeI, writeV}
-use Rattle.read.specs.Children.{Shape, variant, repeated, tuple, shapeOf}
+use Rattle.read.specs.Children.{Shape, as-variant, as-repeated, as-tuple, shapeOf}
 use Rattle.write.specs.Judging.{taggedOf, pickedOf, countOk}
 use Rattle.write.specs.Putting.{tagBytes, closing}
 use Rattle.write.specs.declared.judge.Pick.{Pick}
@@ -75,16 +75,16 @@ module _ (sch : List ℕ) (lim : Limits) (i : ℕ) where
   last-bytes b (Refused r) = refl
 
   variant-kids : (w t : ℕ) (v : Value) (r : ℕ) →
-      tagged sch lim t i r (write sch lim v (nodeAt sch i .first + t) r >>= (λ x. Put (le w t ++ x))) ≡ kids (variant w) (item t v done) 0 r
+      tagged sch lim t i r (write sch lim v (nodeAt sch i .first + t) r >>= (λ x. Put (le w t ++ x))) ≡ kids (as-variant w) (item t v done) 0 r
   unfolding kids pickedOf tagBytes closing _>>=_
   variant-kids w t v r = by-tag w t r _ _ (last-bytes (le w t) (write sch lim v (nodeAt sch i .first + t) r))
 
-  items-kids : (w : ℕ) → widthOf (form (nodeAt sch i .code)) ≡ w → (is : Items) (j r : ℕ) → writeI sch lim is i r ≡ kids (repeated w) is j r
+  items-kids : (w : ℕ) → widthOf (form (nodeAt sch i .code)) ≡ w → (is : Items) (j r : ℕ) → writeI sch lim is i r ≡ kids (as-repeated w) is j r
   unfolding write kids pickedOf tagBytes closing
   items-kids w e done j r = rw e
   items-kids w e (item t v is) j r = by-tag w t r _ _ (rw (e, items-kids w e is (j + 1) (r + recordsOf v)))
 
-  values-kids : (vs : Values) (j r : ℕ) → writeV sch lim vs (nodeAt sch i .first + j) r ≡ kids tuple (untagged vs) j r
+  values-kids : (vs : Values) (j r : ℕ) → writeV sch lim vs (nodeAt sch i .first + j) r ≡ kids as-tuple (untagged vs) j r
   unfolding write kids pickedOf tagBytes closing untagged choosing
   values-kids none j r = refl
   values-kids (more v vs) j r =
@@ -92,8 +92,8 @@ module _ (sch : List ℕ) (lim : Limits) (i : ℕ) where
       rw (e, values-kids vs (j + 1) (r + recordsOf v))
 
   -- a value of another kind is refused (15)
-  pub unfit : (v : Value) (r : ℕ) → (kind v ≡ kindFor (nodeAt sch i .code) (form (nodeAt sch i .code)) → ⊥) → write sch lim v i r ≡ Refused (ValueDoesNotMatchSchema (nodeAt sch i .code) (kind v) r)
-  unfolding write fitting kind pick
+  pub unfit : (v : Value) (r : ℕ) → (valueKind v ≡ kindFor (nodeAt sch i .code) (form (nodeAt sch i .code)) → ⊥) → write sch lim v i r ≡ Refused (ValueDoesNotMatchSchema (nodeAt sch i .code) (valueKind v) r)
+  unfolding write fitting valueKind pick
   unfit nothing r h = rw (ne-eqb _ _ h)
   unfit (boolean x) r h = rw (ne-eqb _ _ h)
   unfit (number k x) r h = rw (ne-eqb _ _ h)
@@ -104,9 +104,9 @@ module _ (sch : List ℕ) (lim : Limits) (i : ℕ) where
   unfit (value.tuple vs) r h = rw (ne-eqb _ _ h)
 
   -- a value with children that is of the right kind: a tuple's count is tested (16), then come the children
-  pub opens : (v : Value) (r : ℕ) → 15 ≤ kind v → kind v ≡ kindFor (nodeAt sch i .code) (form (nodeAt sch i .code)) → Fits v →
+  pub opens : (v : Value) (r : ℕ) → 15 ≤ valueKind v → valueKind v ≡ kindFor (nodeAt sch i .code) (form (nodeAt sch i .code)) → Fits v →
       write sch lim v i r ≡ pick (countOk (shapeOf (nodeAt sch i .code)) (sizeOf v) (nodeAt sch i .children)) (kids (shapeOf (nodeAt sch i .code)) (children v) 0 (r + 1)) (Refused (TupleLength (nodeAt sch i .children) (sizeOf v) r))
-  unfolding write fitting kind pick countOk children sizeOf Fits
+  unfolding write fitting valueKind pick countOk children sizeOf Fits
   opens nothing r l e f = absurd (omega arith)
   opens (boolean x) r l e f = absurd (omega arith)
   opens (number k x) r l e f = absurd (omega (arith, fixed-range k (f .0) (f .1 .0)))

@@ -14,15 +14,15 @@ use Rattle.rules.specs.Wire.{fixed, raw, form, widthOf}
 use Rattle.rules.specs.Block.{nodeAt}
 use Rattle.rules.specs.Value.{Value, nothing, boolean, number, wide, blob, variant, repeated, tuple, Fits, tally, recordsOf, payloadOf}
 use Rattle.rules.specs.ValueRecord.{valueRecordAt}
-use Rattle.rules.specs.ValueTable.{bit, kind, Spot}
+use Rattle.rules.specs.ValueTable.{bit, valueKind, Spot}
 use Rattle.rules.specs.Walk.{blobLimit}
 use Rattle.rules.specs.Refusals.{BlobTooLarge, ValueDoesNotMatchSchema}
 use Rattle.rules.specs.Writing as rule
 use Rattle.rules.specs.Writing.{Put, kindFor, fitting, write}
-use Rattle.rules.specs.declared.ValueRecord.{ValueRecord}
+use Rattle.rules.specs.declared.table_record.ValueRecord.{ValueRecord}
 use Rattle.rules.proofs.Stands.{length-le}
-use Rattle.values.proofs.Parse.{Reads}
-use Rattle.values.proofs.Codes.{nothing-taken, boolean-taken}
+use Rattle.value_laws.proofs.Parse.{Reads}
+use Rattle.value_laws.proofs.Codes.{nothing-taken, boolean-taken}
 use Rattle.read.specs.Fields.{payloadOfFixed}
 use Rattle.write.specs.Table.{valueOf, standing}
 use Rattle.write.specs.Judging.{only, passed, judged, leafOf, Judgeable, Opened, judgedAt}
@@ -72,9 +72,9 @@ module _ (sch : List ℕ) (lim i : ℕ) (table store : List ℕ) (short : length
       by true = rw (blob-ends x r .0, blob-ends x r .1, blob-bytes x)
       by false = refl
 
-  pub leaf-judged : (v : Value) → Reads table store d tag (spot (p .at) (p .from)) v z → code < 15 → kind v ≡ kindFor code (form code) →
+  pub leaf-judged : (v : Value) → Reads table store d tag (spot (p .at) (p .from)) v z → code < 15 → valueKind v ≡ kindFor code (form code) →
       leafOf lim code (valueRecordAt table (p .at) .size) p ≡ judged (p .bytes) z (write sch (only lim) v i (p .at))
-  unfolding kind Fits recordsOf payloadOf tally widthOf
+  unfolding valueKind Fits recordsOf payloadOf tally widthOf
   leaf-judged nothing r l e =
       let f = nothing-taken code e in
       fixed-leaf nothing [] r (unfold write fitting pick in rw (← is, eq-eqb _ _ e)) (omega (arith, e, leaf-kind code l)) refl (rw f (sym (kept-none 0 (omega arith)))) (rw f) _

@@ -15,17 +15,17 @@ use Rattle.rules.specs.Block.{nodeAt, Closed}
 use Rattle.rules.specs.Value.{Value, Items, done, item, items, recordsOf, payloadOf}
 use Rattle.rules.specs.ValueRecord.{valueRecordAt, ValueRecordIn}
 use Rattle.rules.specs.ValueTable as table-of
-use Rattle.rules.specs.ValueTable.{paysI, belowI, kind, sizeOf, tagAt}
+use Rattle.rules.specs.ValueTable.{payloadBytesI, belowI, valueKind, sizeOf, tagAt}
 use Rattle.rules.specs.Walk.{Limits}
 use Rattle.rules.specs.Refusals.{InvalidVariantTag}
 use Rattle.rules.specs.Writing.{Wrote, Put, Refused, _>>=_, kindFor, write}
-use Rattle.rules.specs.declared.Refusal.{Refusal}
-use Rattle.rules.specs.declared.ValueRecord.{ValueRecord}
+use Rattle.rules.specs.declared.refusal.Refusal.{Refusal}
+use Rattle.rules.specs.declared.table_record.ValueRecord.{ValueRecord}
 use Rattle.rules.proofs.Over.{length-over, over-at}
-use Rattle.values.proofs.Parse.{Reads, ReadsI}
-use Rattle.values.proofs.Span.{span-in, lands-here}
-use Rattle.read.specs.Children.{Shape, variant, repeated, tuple, shapeOf}
-use Rattle.read.specs.Ready.{Sound}
+use Rattle.value_laws.proofs.Parse.{Reads, ReadsI}
+use Rattle.value_laws.proofs.Span.{span-in, lands-here}
+use Rattle.read.specs.Children.{Shape, as-variant, as-repeated, as-tuple, shapeOf}
+use Rattle.read.specs.Ready.{SoundNodes}
 use Rattle.write.specs.Table.{IsWhole, valueOf, endOf, standing}
 use Rattle.write.specs.Judging.{taggedOf, pickedOf, countOk}
 use Rattle.write.specs.Putting.{tagBytes, closing, childOf, IsPut, putOf, unlimited, written, Writable, Parted, Placed}
@@ -87,15 +87,15 @@ tagged-node code first count w t r c u e = by (ltb t count) e
 
 picked-node : (code first count : ℕ) (s : Shape) (j t r c w : ℕ) → pickedOf code first count s j t r ≡ pick-is.Child c w → c ≡ childOf s first j t
 unfolding pickedOf childOf
-picked-node code first count (variant u) j t r c w e = tagged-node code first count u t r c w e
-picked-node code first count (repeated u) j t r c w e = tagged-node code first count u t r c w e
-picked-node code first count tuple j t r c w e = (cc)
+picked-node code first count (as-variant u) j t r c w e = tagged-node code first count u t r c w e
+picked-node code first count (as-repeated u) j t r c w e = tagged-node code first count u t r c w e
+picked-node code first count as-tuple j t r c w e = (cc)
 
 -- a value that was written is of the right kind
-pub fitted : (sch : List ℕ) (lim : Limits) (v : Value) (i r : ℕ) (b : List ℕ) → write sch lim v i r ≡ Put b → kind v ≡ kindFor (nodeAt sch i .code) (form (nodeAt sch i .code))
-fitted sch lim v i r b e = by (eqb (kind v) (kindFor (nodeAt sch i .code) (form (nodeAt sch i .code)))) refl
+pub fitted : (sch : List ℕ) (lim : Limits) (v : Value) (i r : ℕ) (b : List ℕ) → write sch lim v i r ≡ Put b → valueKind v ≡ kindFor (nodeAt sch i .code) (form (nodeAt sch i .code))
+fitted sch lim v i r b e = by (eqb (valueKind v) (kindFor (nodeAt sch i .code) (form (nodeAt sch i .code)))) refl
   where
-    by : (t : Bool) → eqb (kind v) (kindFor (nodeAt sch i .code) (form (nodeAt sch i .code))) ≡ t → kind v ≡ kindFor (nodeAt sch i .code) (form (nodeAt sch i .code))
+    by : (t : Bool) → eqb (valueKind v) (kindFor (nodeAt sch i .code) (form (nodeAt sch i .code))) ≡ t → valueKind v ≡ kindFor (nodeAt sch i .code) (form (nodeAt sch i .code))
     by true h = eqb-true _ _ h
     by false h = refused-not _ b (sym (unfit sch lim i v r (eqb-false _ _ h)) ∙ e)
 
@@ -122,7 +122,7 @@ module _ (sch : List ℕ) (i : ℕ) (table store : List ℕ) where
 
   module _ {s : Shape} {d size : ℕ} {z : table-of.Spot} {to₀ : ℕ} {all out₀ out : List ℕ} {q : Spot} {j : ℕ} (short : length table ≤ 4294967295) (g : Filling s d size z to₀ all out₀ out q j) where
     pub all-written : size ≤ j → (q .at ≡ z .at) × ((q .from ≡ z .from) × (g .bytes ≡ closing s))
-    unfolding kids belowI paysI items
+    unfolding kids belowI payloadBytesI items
     all-written h = of (g .rest) (g .reads) (omega (arith, g .counted)) (g .puts)
       where
         of : (is : Items) → ReadsI table store d (spot (q .at) (q .from)) is z → items is ≡ 0 → kids sch unlimited i s is j (q .at) ≡ Put (g .bytes) → (q .at ≡ z .at) × ((q .from ≡ z .from) × (g .bytes ≡ closing s))
@@ -143,7 +143,7 @@ module _ (sch : List ℕ) (i : ℕ) (table store : List ℕ) where
       tag-is = picked-node (nodeAt sch i .code) (nodeAt sch i .first) (nodeAt sch i .children) s j (the-turn .tag) (q .at) (the-part .node) (the-part .width) (the-part .picks) ∙ ap (childOf s (nodeAt sch i .first) j) (sym (the-turn .bears))
 
       -- in the block
-      pub child-low : (s ≡ tuple → j < nodeAt sch i .children) → childOf s (nodeAt sch i .first) j (valueRecordAt table (q .at) .tag) < nodeAt sch i .first + nodeAt sch i .children
+      pub child-low : (s ≡ as-tuple → j < nodeAt sch i .children) → childOf s (nodeAt sch i .first) j (valueRecordAt table (q .at) .tag) < nodeAt sch i .first + nodeAt sch i .children
       child-low c = rw tag-is at (choice (nodeAt sch i .code) (nodeAt sch i .first) (nodeAt sch i .children) s j (the-turn .tag) (q .at) (the-part .node) (the-part .width) c (the-part .picks) .low)
 
       -- the sizes of the three parts
@@ -157,7 +157,7 @@ module _ (sch : List ℕ) (i : ℕ) (table store : List ℕ) where
       unfolding written valueOf
       child-written = rw (turn-stands table store short d (q .at) (q .from) z (g .rest) the-turn, ← tag-is) (the-part .puts)
 
-      pub child-writable : Sound sch → (nodeAt sch i .first + nodeAt sch i .children) * 16 ≤ length sch → (s ≡ tuple → j < nodeAt sch i .children) → to₀ + length all ≤ length out₀ → Writable sch (childOf s (nodeAt sch i .first) j (valueRecordAt table (q .at) .tag)) d table store start (length out)
+      pub child-writable : SoundNodes sch → (nodeAt sch i .first + nodeAt sch i .children) * 16 ≤ length sch → (s ≡ as-tuple → j < nodeAt sch i .children) → to₀ + length all ≤ length out₀ → Writable sch (childOf s (nodeAt sch i .first) j (valueRecordAt table (q .at) .tag)) d table store start (length out)
       unfolding IsWhole IsPut putOf Closed
       child-writable k m c l = record {
         sound = k;
@@ -208,14 +208,14 @@ module _ (sch : List ℕ) (i depth : ℕ) (table store : List ℕ) (p : Spot) (r
   unfolding written
   all-put = put-is _ (k .accepted)
 
-  pub right-kind : kind (valueOf (standing table store depth (p .at) (p .from))) ≡ kindFor (nodeAt sch i .code) (form (nodeAt sch i .code))
+  pub right-kind : valueKind (valueOf (standing table store depth (p .at) (p .from))) ≡ kindFor (nodeAt sch i .code) (form (nodeAt sch i .code))
   right-kind = fitted sch unlimited _ i (p .at) _ all-put
 
   module _ (code size : ℕ) (o : Parted sch i code table p size) where
     pub code-in : code ≤ 19
     code-in = rw (o .is) (k .sound .codes i (k .inside))
 
-    is-compound : 15 ≤ kind (valueOf (standing table store depth (p .at) (p .from)))
+    is-compound : 15 ≤ valueKind (valueOf (standing table store depth (p .at) (p .from)))
     is-compound = rw (right-kind, ← (o .is)) (compound-kind code (o .compound) code-in)
 
     is-size : size ≡ sizeOf (valueOf (standing table store depth (p .at) (p .from)))
@@ -271,7 +271,7 @@ module _ (sch : List ℕ) (i depth : ℕ) (table store : List ℕ) (p : Spot) (r
           pub tag-room : q .to + length (tagBytes (shapeOf code) (v .tag)) ≤ length out
           tag-room = rw told (omega (arith, sizes sch i table store short g h, g .room, g .same, same₀, k .fits))
 
-          chooses : shapeOf code ≡ tuple → j < nodeAt sch i .children
+          chooses : shapeOf code ≡ as-tuple → j < nodeAt sch i .children
           chooses e = counted-tuple code size (nodeAt sch i .children) j (tested .0) h e
 
           module _ (c to : ℕ) (x : c ≡ childOf (shapeOf code) first j (v .tag)) (y : to ≡ q .to + length (tagBytes (shapeOf code) (v .tag))) where

@@ -13,16 +13,16 @@ use Rattle.rules.specs.Block.{nodeAt}
 use Rattle.rules.specs.Value.{Value, nothing, boolean, number, wide, blob, variant, repeated, tuple, Items, done, item, Values, none, more, recordsOf}
 use Rattle.rules.specs.ValueRecord.{valueRecordsIn, wholeValueRecords}
 use Rattle.rules.specs.ValueTable as table-of
-use Rattle.rules.specs.ValueTable.{headOf, Parsed, Whole, Broken, tagAt, valueAt, exactly, tableValue}
+use Rattle.rules.specs.ValueTable.{headOf, Parsed, Whole, Broken, tagAt, valueAt, ifWholeTable, tableValue}
 use Rattle.rules.specs.Walk.{Limits, blobLimit}
 use Rattle.rules.specs.Reading.{limits}
-use Rattle.rules.specs.declared.Settings.{Settings}
+use Rattle.rules.specs.declared.settings.Settings.{Settings}
 use Rattle.rules.specs.Writing as rule
 use Rattle.rules.specs.Writing.{Wrote, Put, _>>=_, fitting, tagged, write, writeI, writeV, writeRow}
 use Rattle.rules.proofs.Over.{over-at}
 use Rattle.rules.proofs.Stands.{length-le}
-use Rattle.values.proofs.Records.{tag-is}
-use Rattle.values.proofs.Parse.{Holds, holds, Reads, reads}
+use Rattle.value_laws.proofs.Records.{tag-is}
+use Rattle.value_laws.proofs.Parse.{Holds, holds, Reads, reads}
 use Rattle.write.specs.Table.{IsWhole, valueOf, endOf, standing}
 use Rattle.write.specs.Judging.{only, passed, judged, Judgeable, judgedAt, RowJudgeable, judgedRow}
 use Rattle.write.specs.Putting.{IsPut, putOf, written, Writable, Placed, RowWritable, rowBytes}
@@ -35,10 +35,10 @@ module _ (table store : List ℕ) (short : length table ≤ 4294967295) where
   unfolding tableValue
   from-first h = by (wholeValueRecords (length table)) (valueAt table store 64 0 (spot 0 0)) h
     where
-      by : (w : Bool) (x : Parsed Value) → IsWhole (pick w (exactly table store x) Broken) → pick w (exactly table store x) Broken ≡ x
+      by : (w : Bool) (x : Parsed Value) → IsWhole (pick w (ifWholeTable table store x) Broken) → pick w (ifWholeTable table store x) Broken ≡ x
       by false x g = absurd (unfold pick IsWhole in g)
-      by true Broken g = absurd (unfold pick exactly IsWhole in g)
-      by true (Whole v q) g = unfold pick exactly in ends (eqb (q .at) (valueRecordsIn (length table)) and eqb (q .from) (length store)) (unfold pick exactly in g)
+      by true Broken g = absurd (unfold pick ifWholeTable IsWhole in g)
+      by true (Whole v q) g = unfold pick ifWholeTable in ends (eqb (q .at) (valueRecordsIn (length table)) and eqb (q .from) (length store)) (unfold pick ifWholeTable in g)
         where
           ends : (b : Bool) → IsWhole (pick b (Whole v q) Broken) → pick b (Whole v q) Broken ≡ Whole v q
           ends true k = unfold pick in refl

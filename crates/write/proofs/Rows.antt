@@ -16,12 +16,12 @@ use Rattle.rules.specs.Reading as reading
 use Rattle.rules.specs.Reading.{limits}
 use Rattle.rules.specs.Refusals.{NoOutputRoom}
 use Rattle.rules.specs.Writing.{Put, writeRow, Encoded, unwritten, placed}
-use Rattle.rules.specs.declared.Refusal.{Refusal}
-use Rattle.rules.specs.declared.Settings.{Settings}
-use Rattle.rules.specs.declared.Extent.{Extent}
-use Rattle.rules.specs.declared.Written.{Written}
-use Rattle.rules.specs.declared.Written.the-variants.{Row, Refused}
-use Rattle.values.proofs.Parse.{Reads}
+use Rattle.rules.specs.declared.refusal.Refusal.{Refusal}
+use Rattle.rules.specs.declared.settings.Settings.{Settings}
+use Rattle.rules.specs.declared.answer.Extent.{Extent}
+use Rattle.rules.specs.declared.answer.Written.{Written}
+use Rattle.rules.specs.declared.answer.Written.the-variants.{Row, Refused}
+use Rattle.value_laws.proofs.Parse.{Reads}
 use Rattle.write.specs.Table.{valueOf, endOf, standing}
 use Rattle.write.specs.Judging.{RowJudgeable, judgedRow}
 use Rattle.write.specs.Putting.{IsPut, putOf, unlimited, RowWritable, rowBytes}

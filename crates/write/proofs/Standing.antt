@@ -7,12 +7,12 @@ use native.Mathlib.Omega.{arith}
 use lib.ListN.{length}
 use Rattle.rules.specs.Value.{Value, nothing, boolean, number, wide, blob, variant, repeated, tuple, Items, done, item, Values, none, more, items, values, tall, tallI, tallV, Fits, FitsI, FitsV, recordsOf, payloadOf}
 use Rattle.rules.specs.ValueRecord.{valueRecordStart, ValueRecordIn, valueRecordAt}
-use Rattle.rules.specs.ValueTable.{pays, paysI, paysV, kind, sizeOf, headOf, below, belowI, belowV, heads, Spot, Parsed, Whole, Broken, tagAt}
-use Rattle.values.proofs.Records.{RecordIs, record-in, kind-is, tag-is, size-is, tag-fits, size-fits, shows-in}
-use Rattle.values.proofs.Sizes.{length-pays, length-heads, length-belowI, items-within}
-use Rattle.values.proofs.Span.{Span, left, right, onward, the-record, rest-span, span-in}
-use Rattle.values.proofs.Parse.{Holds, holds, Reads, ReadsI, reads}
-use Rattle.values.proofs.Flat.{count-fits, parses}
+use Rattle.rules.specs.ValueTable.{payloadBytes, payloadBytesI, payloadBytesV, valueKind, sizeOf, headOf, below, belowI, belowV, heads, Spot, Parsed, Whole, Broken, tagAt}
+use Rattle.value_laws.proofs.Records.{RecordIs, record-in, kind-is, tag-is, size-is, tag-fits, size-fits, shows-in}
+use Rattle.value_laws.proofs.Sizes.{length-pays, length-heads, length-belowI, items-within}
+use Rattle.value_laws.proofs.Span.{Span, left, right, onward, the-record, rest-span, span-in}
+use Rattle.value_laws.proofs.Parse.{Holds, holds, Reads, ReadsI, reads}
+use Rattle.value_laws.proofs.Flat.{count-fits, parses}
 use Rattle.write.specs.Table.{IsWhole, valueOf, endOf, standing}
 use Rattle.write.proofs.Codes.{fixed-range, raw-range, sized-range}
 use Rattle.write.proofs.Kids.{untagged, children}
@@ -32,8 +32,8 @@ unfolding untagged below
 below-untagged none p = refl
 below-untagged (more v vs) p = rw (below-untagged vs (p + payloadOf v))
 
-pays-untagged : (vs : Values) → paysV vs ≡ paysI (untagged vs)
-unfolding untagged pays
+pays-untagged : (vs : Values) → payloadBytesV vs ≡ payloadBytesI (untagged vs)
+unfolding untagged payloadBytes
 pays-untagged none = refl
 pays-untagged (more v vs) = rw (pays-untagged vs)
 
@@ -55,13 +55,13 @@ count-untagged (more v vs) = rw (count-untagged vs)
 -- a value with children
 pub record Parent (v : Value) : Type 0 where
   pub table : (p : ℕ) → below v p ≡ belowI (children v) p
-  pub bytes : pays v ≡ paysI (children v)
+  pub bytes : payloadBytes v ≡ payloadBytesI (children v)
   pub fits : FitsI (children v)
   pub depth : tall v ≡ suc (tallI (children v))
   pub count : sizeOf v ≡ items (children v)
 
-pub parent : (v : Value) → 15 ≤ kind v → Fits v → Parent v
-unfolding kind below pays children Fits tall sizeOf items
+pub parent : (v : Value) → 15 ≤ valueKind v → Fits v → Parent v
+unfolding valueKind below payloadBytes children Fits tall sizeOf items
 parent nothing l f = absurd (omega arith)
 parent (boolean x) l f = absurd (omega arith)
 parent (number k x) l f = absurd (omega (arith, fixed-range k (f .0) (f .1 .0)))
@@ -97,16 +97,16 @@ module _ (table store : List ℕ) (short : length table ≤ 4294967295) where
   module _ {d tag at from : ℕ} {v : Value} {z : Spot} (r : Reads table store d tag (spot at from) v z) where
     pub head : RecordIs table at (headOf v tag from)
     unfolding heads
-    head = the-record table store (headOf v tag from) (below v from) (pays v) (r .span)
+    head = the-record table store (headOf v tag from) (below v from) (payloadBytes v) (r .span)
 
-    under : Span table store (spot (at + 1) from) z (below v from) (pays v)
+    under : Span table store (spot (at + 1) from) z (below v from) (payloadBytes v)
     unfolding heads
-    under = rest-span table store (headOf v tag from) (below v from) (pays v) (r .span)
+    under = rest-span table store (headOf v tag from) (below v from) (payloadBytes v) (r .span)
 
     pub inside : ValueRecordIn at (length table)
     inside = record-in table at _ head
 
-    pub kind-told : valueRecordAt table at .kind ≡ kind v
+    pub kind-told : valueRecordAt table at .kind ≡ valueKind v
     unfolding headOf
     kind-told = kind-is table at (headOf v tag from) head
 
@@ -133,13 +133,13 @@ module _ (table store : List ℕ) (short : length table ≤ 4294967295) where
     deep = omega (arith, one-tall v, r .depth)
 
     -- the children of a value that has some
-    pub below-reads : 15 ≤ kind v → ReadsI table store (d - 1) (spot (at + 1) from) (children v) z
+    pub below-reads : 15 ≤ valueKind v → ReadsI table store (d - 1) (spot (at + 1) from) (children v) z
     below-reads l =
         let p = parent v l (r .fits) in
         record { span = rw (← (p .table from), ← (p .bytes)) under; fits = p .fits; depth = omega (arith, p .depth, r .depth) }
 
     -- and how many they are
-    pub count-told : 15 ≤ kind v → valueRecordAt table at .size ≡ sizeOf v
+    pub count-told : 15 ≤ valueKind v → valueRecordAt table at .size ≡ sizeOf v
     unfolding headOf
     count-told l =
         let p = parent v l (r .fits) in
@@ -163,17 +163,17 @@ module _ (table store : List ℕ) (short : length table ≤ 4294967295) where
     pub follows : ReadsI table store d (onward table store (recordsOf value) (payloadOf value) p) rest z
 
   pub turn : (d : ℕ) (p z : Spot) (is : Items) → ReadsI table store d p is z → 0 < items is → Turn d p z is
-  unfolding items belowI heads paysI FitsI tallI headOf
+  unfolding items belowI heads payloadBytesI FitsI tallI headOf
   turn d p z done r h = absurd (omega arith)
   turn d p z (item t v is) r h =
-      let a = left table store (heads v t (p .from)) (belowI is (p .from + payloadOf v)) (pays v) (paysI is) (recordsOf v) (payloadOf v) (length-heads v t (p .from)) (length-pays v) (r .span) in
-      let b = right table store (heads v t (p .from)) (belowI is (p .from + payloadOf v)) (pays v) (paysI is) (recordsOf v) (payloadOf v) (length-heads v t (p .from)) (length-pays v) (r .span) in
+      let a = left table store (heads v t (p .from)) (belowI is (p .from + payloadOf v)) (payloadBytes v) (payloadBytesI is) (recordsOf v) (payloadOf v) (length-heads v t (p .from)) (length-pays v) (r .span) in
+      let b = right table store (heads v t (p .from)) (belowI is (p .from + payloadOf v)) (payloadBytes v) (payloadBytesI is) (recordsOf v) (payloadOf v) (length-heads v t (p .from)) (length-pays v) (r .span) in
       record {
         tag = t;
         value = v;
         rest = is;
         first = refl;
-        bears = tag-is table (p .at) (headOf v t (p .from)) (the-record table store (headOf v t (p .from)) (below v (p .from)) (pays v) a) (r .fits .0);
+        bears = tag-is table (p .at) (headOf v t (p .from)) (the-record table store (headOf v t (p .from)) (below v (p .from)) (payloadBytes v) a) (r .fits .0);
         here = record { span = a; fits = r .fits .1 .0; depth = omega (arith, r .depth) };
         follows = record { span = b; fits = r .fits .1 .1; depth = omega (arith, r .depth) };
       }

@@ -15,14 +15,14 @@ use Rattle.rules.specs.Block.{nodeAt}
 use Rattle.rules.specs.Value.{Value, nothing, boolean, number, wide, blob, variant, repeated, tuple, Fits, tally, recordsOf, payloadOf}
 use Rattle.rules.specs.ValueRecord.{valueRecordAt}
 use Rattle.rules.specs.ValueTable as table-of
-use Rattle.rules.specs.ValueTable.{bit, pays, kind, contentOf, headOf}
+use Rattle.rules.specs.ValueTable.{bit, payloadBytes, valueKind, contentOf, headOf}
 use Rattle.rules.specs.Walk.{blobLimit}
 use Rattle.rules.specs.Writing.{Put, kindFor, fitting, write}
-use Rattle.rules.specs.declared.ValueRecord.{ValueRecord}
+use Rattle.rules.specs.declared.table_record.ValueRecord.{ValueRecord}
 use Rattle.rules.proofs.Stands.{length-le, stands-part}
-use Rattle.values.proofs.Records.{content-is}
-use Rattle.values.proofs.Parse.{Reads}
-use Rattle.values.proofs.Codes.{nothing-taken, boolean-taken}
+use Rattle.value_laws.proofs.Records.{content-is}
+use Rattle.value_laws.proofs.Parse.{Reads}
+use Rattle.value_laws.proofs.Codes.{nothing-taken, boolean-taken}
 use Rattle.write.specs.Table.{valueOf, standing}
 use Rattle.write.specs.Putting.{leafKept, leafSize, leafBytes, putOf, unlimited, written, Writable, Parted, Placed}
 use Rattle.write.specs.declared.put.Spot.{Spot}
@@ -56,8 +56,8 @@ module _ (table store : List ℕ) (code at from : ℕ) where
   leaf-from v b c k n l e m p o = record { kept = l .kept ∙ p; long = l .long ∙ m ∙ ap length e; bytes = l .bytes-are ∙ e; one = o }
 
 module _ (sch : List ℕ) (i : ℕ) (table store : List ℕ) (short : length table ≤ 4294967295) (code : ℕ) (is : code ≡ nodeAt sch i .code) (at from : ℕ) {d tag : ℕ} {z : table-of.Spot} where
-  pub leaf-stored : (v : Value) (b : List ℕ) → Reads table store d tag (spot at from) v z → code < 15 → kind v ≡ kindFor code (form code) → write sch unlimited v i at ≡ Put b → Leaf table store code at from v b
-  unfolding kind Fits recordsOf payloadOf tally widthOf write fitting pick contentOf headOf pays blobLimit
+  pub leaf-stored : (v : Value) (b : List ℕ) → Reads table store d tag (spot at from) v z → code < 15 → valueKind v ≡ kindFor code (form code) → write sch unlimited v i at ≡ Put b → Leaf table store code at from v b
+  unfolding valueKind Fits recordsOf payloadOf tally widthOf write fitting pick contentOf headOf payloadBytes blobLimit
   leaf-stored nothing b r l e w =
       let f = nothing-taken code e in
       let c : [] ≡ b = let g : Put [] ≡ Put b = rw (← is, eq-eqb _ _ e) at w in cc in

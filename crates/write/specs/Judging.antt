@@ -16,8 +16,8 @@ use Rattle.rules.specs.Writing as rule
 use Rattle.rules.specs.Writing.{Wrote, Put, kindFor, write, writeRow}
 use Rattle.rules.specs.Refusals.{BlobTooLarge, InvalidVariantTag}
 use Rattle.read.specs.Fields.{payloadOfFixed}
-use Rattle.read.specs.Children.{Shape, variant, repeated, tuple}
-use Rattle.read.specs.Ready.{Inside, Sound}
+use Rattle.read.specs.Children.{Shape, as-variant, as-repeated, as-tuple}
+use Rattle.read.specs.Ready.{HasNode, SoundNodes}
 use Rattle.write.specs.Table.{IsWhole, valueOf, endOf, standing}
 use Rattle.write.specs.declared.judge.Passed.{Passed}
 use Rattle.write.specs.declared.judge.Judged.{Judged}
@@ -53,28 +53,28 @@ module _ (code first count : ℕ) where
 
   -- the child after i others, whose record r bears a tag
   unfoldable pub pickedOf : Shape → ℕ → ℕ → ℕ → Pick
-  pickedOf (variant w) i tag r = taggedOf w tag r
-  pickedOf (repeated w) i tag r = taggedOf w tag r
-  pickedOf tuple i tag r = pick-is.Child (first + i) 0
+  pickedOf (as-variant w) i tag r = taggedOf w tag r
+  pickedOf (as-repeated w) i tag r = taggedOf w tag r
+  pickedOf as-tuple i tag r = pick-is.Child (first + i) 0
 
 -- a tuple has as many children as its node
 unfoldable pub countOk : Shape → ℕ → ℕ → Bool
-countOk (variant w) size count = true
-countOk (repeated w) size count = true
-countOk tuple size count = eqb size count
+countOk (as-variant w) size count = true
+countOk (as-repeated w) size count = true
+countOk as-tuple size count = eqb size count
 
 -- the end tag's bytes
 unfoldable pub closingBytes : Shape → ℕ
-closingBytes (variant w) = 0
-closingBytes (repeated w) = w
-closingBytes tuple = 0
+closingBytes (as-variant w) = 0
+closingBytes (as-repeated w) = w
+closingBytes as-tuple = 0
 
 -- ---- a value
 
 -- node i of a sound block, and a value that stands in the table; the bytes so far are few, so that their count does not wrap
 pub record Judgeable (sch : List ℕ) (i depth : ℕ) (table store : List ℕ) (p : Passed) : Type 0 where
-  pub sound : Sound sch
-  pub inside : Inside sch i
+  pub sound : SoundNodes sch
+  pub inside : HasNode sch i
   pub whole : IsWhole (standing table store depth (p .at) (p .from))
   pub short : length table < 2 ^ 32
   pub small : length store < 2 ^ 32
@@ -98,8 +98,8 @@ judgedAt sch blob i depth table store p =
 
 -- a sound block, and a value table whose form was accepted
 pub record RowJudgeable (sch table store : List ℕ) : Type 0 where
-  pub sound : Sound sch
-  pub root : Inside sch 0
+  pub sound : SoundNodes sch
+  pub root : HasNode sch 0
   pub whole : IsWhole (tableValue table store)
   pub short : length table < 2 ^ 32
   pub small : length store < 2 ^ 32

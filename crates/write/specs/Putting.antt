@@ -14,8 +14,8 @@ use Rattle.rules.specs.ValueRecord.{valueRecordAt}
 use Rattle.rules.specs.ValueTable.{tableValue}
 use Rattle.rules.specs.Writing.{Wrote, Put, Refused, write, writeRow}
 use Rattle.read.specs.Fields.{payloadOfFixed}
-use Rattle.read.specs.Children.{Shape, variant, repeated, tuple}
-use Rattle.read.specs.Ready.{Inside, Sound}
+use Rattle.read.specs.Children.{Shape, as-variant, as-repeated, as-tuple}
+use Rattle.read.specs.Ready.{HasNode, SoundNodes}
 use Rattle.write.specs.Table.{IsWhole, valueOf, endOf, standing}
 use Rattle.write.specs.Judging.{only}
 use Rattle.write.specs.declared.put.Spot.{Spot}
@@ -24,20 +24,20 @@ use Rattle.write.specs.declared.put.Spot.{Spot}
 
 -- the bytes of a tag, and those after the last child
 unfoldable pub tagBytes : Shape → ℕ → List ℕ
-tagBytes (variant w) t = le w t
-tagBytes (repeated w) t = le w t
-tagBytes tuple t = []
+tagBytes (as-variant w) t = le w t
+tagBytes (as-repeated w) t = le w t
+tagBytes as-tuple t = []
 
 unfoldable pub closing : Shape → List ℕ
-closing (variant w) = []
-closing (repeated w) = le w (endTag w)
-closing tuple = []
+closing (as-variant w) = []
+closing (as-repeated w) = le w (endTag w)
+closing as-tuple = []
 
 -- the child after i others, whose record bears a tag
 unfoldable pub childOf : Shape → ℕ → ℕ → ℕ → ℕ
-childOf (variant w) first i tag = first + tag
-childOf (repeated w) first i tag = first + tag
-childOf tuple first i tag = first + i
+childOf (as-variant w) first i tag = first + tag
+childOf (as-repeated w) first i tag = first + tag
+childOf as-tuple first i tag = first + i
 
 -- a value without children: its payload bytes, the row's bytes for it, and these
 unfoldable pub leafKept : ℕ → ℕ → ℕ
@@ -73,8 +73,8 @@ written sch i depth table store at from = write sch unlimited (valueOf (standing
 
 -- node i of a sound block, a value that stands in the table and was accepted, and room for its bytes
 pub record Writable (sch : List ℕ) (i depth : ℕ) (table store : List ℕ) (p : Spot) (room : ℕ) : Type 0 where
-  pub sound : Sound sch
-  pub inside : Inside sch i
+  pub sound : SoundNodes sch
+  pub inside : HasNode sch i
   pub whole : IsWhole (standing table store depth (p .at) (p .from))
   pub short : length table < 2 ^ 32
   pub within : p .from ≤ length store
@@ -102,8 +102,8 @@ rowBytes sch table store = putOf (writeRow sch unlimited (valueOf (tableValue ta
 
 -- a sound block, a value table whose form and whose row were accepted, and room for the row
 pub record RowWritable (sch table store : List ℕ) (at room : ℕ) : Type 0 where
-  pub sound : Sound sch
-  pub root : Inside sch 0
+  pub sound : SoundNodes sch
+  pub root : HasNode sch 0
   pub whole : IsWhole (tableValue table store)
   pub short : length table < 2 ^ 32
   pub accepted : IsPut (writeRow sch unlimited (valueOf (tableValue table store)))

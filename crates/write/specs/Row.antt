@@ -8,9 +8,9 @@ use Rattle.rules.specs.Walk.{Limits}
 use Rattle.rules.specs.ValueTable.{tableValue}
 use Rattle.rules.specs.Writing.{writeRow, Encoded, placed}
 use Rattle.rules.specs.Refusals.{NoOutputRoom}
-use Rattle.rules.specs.declared.Extent.{Extent}
-use Rattle.rules.specs.declared.Written.{Written}
-use Rattle.rules.specs.declared.Written.the-variants.{Row, Refused}
+use Rattle.rules.specs.declared.answer.Extent.{Extent}
+use Rattle.rules.specs.declared.answer.Written.{Written}
+use Rattle.rules.specs.declared.answer.Written.the-variants.{Row, Refused}
 use Rattle.write.specs.Table.{valueOf}
 
 -- the row, where so much room holds it, or 21 with its bytes and the output position

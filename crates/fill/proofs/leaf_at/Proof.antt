@@ -4,8 +4,8 @@ use mathlib.Core.Path.{refl}
 use lib.ListN.{length}
 use borrow.Author.Needs.{needs}
 use Rattle.rules.specs.Block.{NodeIn, Closed}
-use Rattle.fill.specs.Plain.{valueOf, readAt}
-use Rattle.values.proofs.Sizes.{one-record}
+use Rattle.fill.specs.Plain.{valueRead, readAt}
+use Rattle.value_laws.proofs.Sizes.{one-record}
 use Rattle.fill.proofs.Leads.{leads-self, leads-on, within, inside, leads-child}
 use Rattle.fill.proofs.leaf_at.Statement.{statement}
 use Rattle.fill.proofs.leaf_at.Tie as tie
@@ -44,7 +44,7 @@ returns-3 : tie.Need-returns-3
 returns-3 c = leads-on _ _ _ _ _ (c .before .before .before .before .before .before .before .before .before .pre .2) _ _ _ (c .before .before .before .before .before .if1 .left)
 
 put-record-requires : tie.Need-put-record-requires
-put-record-requires c κs = let s = c .before .before .before .before .before .before .before .before .before .before in omega (arith, s .pre .3 .records, one-record (valueOf (readAt (s .args .block .now) (s .args .input .now) (s .args .depth) (s .args .node) (s .args .s .at))))
+put-record-requires c κs = let s = c .before .before .before .before .before .before .before .before .before .before in omega (arith, s .pre .3 .records, one-record (valueRead (readAt (s .args .block .now) (s .args .input .now) (s .args .depth) (s .args .node) (s .args .s .at))))
 
 tag-width-requires : tie.Need-tag-width-requires
 tag-width-requires c κs = search needs

@@ -3,7 +3,7 @@ use borrow.Author.Tests.{le-leb, lt-leb}
 use Rattle.rules.specs.Choice.{pick, _and_}
 use Rattle.rules.specs.Refusals.{_then_}
 use Rattle.rules.specs.Format.{schemaAnswer}
-use Rattle.flat.proofs.Stands.{one-then, one-sound}
+use Rattle.block.proofs.Stands.{one-then, one-sound}
 use Rattle.schema.proofs.check_schema.Statement.{statement}
 use Rattle.schema.proofs.check_schema.Tie as tie
 

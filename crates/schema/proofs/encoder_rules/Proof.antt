@@ -1,7 +1,7 @@
 use borrow.Author.Needs.{needs}
 use Rattle.rules.specs.Refusals.{_then_}
 use Rattle.rules.specs.Format.{encoderRules}
-use Rattle.flat.proofs.Stands.{one-then, one-sound}
+use Rattle.block.proofs.Stands.{one-then, one-sound}
 use Rattle.schema.proofs.encoder_rules.Statement.{statement}
 use Rattle.schema.proofs.encoder_rules.Tie as tie
 

@@ -7,7 +7,7 @@ use native.Mathlib.Omega.{arith}
 use borrow.Author.Needs.{needs}
 use lib.ListN.{length}
 use Rattle.rules.specs.Windows.{added}
-use Rattle.rows.proofs.Windows.{RanInside, ran-inside}
+use Rattle.row_laws.proofs.Windows.{RanInside, ran-inside}
 use Rattle.windows.proofs.Moves.{adds-end, adds-refused}
 use Rattle.windows.proofs.run_on.Statement.{statement}
 use Rattle.windows.proofs.run_on.Tie as tie

@@ -10,7 +10,7 @@ use Rattle.fill.proofs.+fill_children+fill_value.Lts-fill_value as fill
 use Rattle.fill.proofs.fill_leaf.Reads as fill-leaf-reads
 use Rattle.fill.proofs.leaf_at.Reads as leaf-at-reads
 use Rattle.fill.proofs.kind_of.Reads as kind-of-reads
-use Rattle.fill.proofs.moved.Reads as moved-reads
+use Rattle.fill.proofs.fill_pos_at.Reads as fill-pos-at-reads
 use Rattle.fill.proofs.next_child.Reads as next-child-reads
 use Rattle.record.proofs.value.put_record.Reads as put-record-reads
 use Rattle.record.proofs.node.node_children.Reads as node-children-reads
@@ -36,7 +36,7 @@ abbrev pub fill-value-below : ℕ → In 4 fill-value-kinds.ps
 fill-value-below t = and 4 fill-value-kinds.ps (falls 4 fill-value-kinds.ps _<_ μ-fill-value t) fill-value.Pre
 
 abbrev pub fill-children-calls : ℕ → fill-children-lts.Claims
-fill-children-calls t = (node-code-reads.Asked, node-code-reads.Learnt, node-first-reads.Asked, node-first-reads.Learnt, node-children-reads.Asked, node-children-reads.Learnt, next-child-reads.Asked, next-child-reads.Learnt, moved-reads.Asked, moved-reads.Learnt, fill-value-below t, fill-value.Post, kind-of-reads.Asked, kind-of-reads.Learnt, put-record-reads.Asked, put-record-reads.Learnt)
+fill-children-calls t = (node-code-reads.Asked, node-code-reads.Learnt, node-first-reads.Asked, node-first-reads.Learnt, node-children-reads.Asked, node-children-reads.Learnt, next-child-reads.Asked, next-child-reads.Learnt, fill-pos-at-reads.Asked, fill-pos-at-reads.Learnt, fill-value-below t, fill-value.Post, kind-of-reads.Asked, kind-of-reads.Learnt, put-record-reads.Asked, put-record-reads.Learnt)
 
 abbrev pub fill-value-calls : ℕ → fill-value-lts.Claims
 fill-value-calls t = (node-code-reads.Asked, node-code-reads.Learnt, leaf-at-reads.Asked, leaf-at-reads.Learnt, fill-leaf-reads.Asked, fill-leaf-reads.Learnt, fill-children-below t, fill-children.Post)

@@ -1,7 +1,7 @@
 use borrow.Author.Needs.{needs}
 use borrow.Author.Tests.{le-leb, lt-leb}
 use Rattle.rules.specs.Choice.{pick}
-use Rattle.read.specs.Fields.{numberAt}
+use Rattle.read.specs.Fields.{readNumberAt}
 use Rattle.read.proofs.fields.read_length.Statement.{statement}
 use Rattle.read.proofs.fields.read_length.Tie as tie
 
@@ -12,7 +12,7 @@ truncated-requires : tie.Need-truncated-requires
 truncated-requires c κs = search needs
 
 returns : tie.Need-returns
-unfolding numberAt pick
+unfolding readNumberAt pick
 returns c = rw (c .truncated .ensures, lt-leb _ _ (c .before .if1 .taken))
 
 u32-at-requires : tie.Need-u32-at-requires
@@ -22,7 +22,7 @@ add-t3 : tie.Need-add-t3
 add-t3 c = search needs
 
 returns-2 : tie.Need-returns-2
-unfolding numberAt pick
+unfolding readNumberAt pick
 returns-2 c = rw (le-leb _ _ (c .before .if1 .left), c .u32-at .ensures)
 
 pub read-length-spec : {M : Type 1} → statement M

@@ -3,7 +3,7 @@ use borrow.Author.Needs.{needs}
 use borrow.Author.Tests.{le-leb, lt-leb}
 use Rattle.rules.specs.Choice.{pick}
 use Rattle.rules.specs.Wire.{form, widthOf}
-use Rattle.read.specs.Fields.{numberAt}
+use Rattle.read.specs.Fields.{readNumberAt}
 use Rattle.wire.proofs.Fields.{le-one}
 use Rattle.wire.proofs.CodeTable.{tag-two}
 use Rattle.read.proofs.fields.read_tag.Statement.{statement}
@@ -19,7 +19,7 @@ truncated-requires : tie.Need-truncated-requires
 truncated-requires c κs = search needs
 
 returns : tie.Need-returns
-unfolding numberAt pick
+unfolding readNumberAt pick
 returns c = let width = c .before .before .before .tag-width in
     rw (c .truncated .ensures, ← width .ensures, c .before .before .if1 .taken, lt-leb _ _ (c .before .if2 .taken))
 
@@ -33,7 +33,7 @@ add-t11 : tie.Need-add-t11
 add-t11 c = search needs
 
 returns-2 : tie.Need-returns-2
-unfolding numberAt pick
+unfolding readNumberAt pick
 returns-2 c = let width = c .before .before .before .before .tag-width in
     rw (← width .ensures, c .before .before .before .if1 .taken, le-leb _ _ (c .before .before .if2 .left), le-one, c .wide .ensures .0)
 
@@ -47,7 +47,7 @@ wider c =
     tag-two _ (s .pre .0) (s .pre .1) _ (c .before .tag-width .ensures) (c .if1 .left)
 
 returns-3 : tie.Need-returns-3
-unfolding numberAt pick
+unfolding readNumberAt pick
 returns-3 c = rw (c .truncated2 .ensures, wider (c .before .before), lt-leb _ _ (c .before .if3 .taken))
 
 u16-at-requires : tie.Need-u16-at-requires
@@ -57,7 +57,7 @@ add-t5 : tie.Need-add-t5
 add-t5 c = search needs
 
 returns-4 : tie.Need-returns-4
-unfolding numberAt pick
+unfolding readNumberAt pick
 returns-4 c = rw (wider (c .before .before), le-leb _ _ (c .before .if3 .left), c .u16-at .ensures)
 
 pub read-tag-spec : {M : Type 1} → statement M

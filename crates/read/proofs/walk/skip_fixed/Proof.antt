@@ -1,6 +1,6 @@
 use borrow.Author.Tests.{le-leb, lt-leb}
 use Rattle.rules.specs.Choice.{pick}
-use Rattle.read.specs.Skim.{_>>=_, passed, stored, bytesOf, fixedOf}
+use Rattle.read.specs.Skim.{_>>=_, passed, stored, skimBytes, skimFixed}
 use borrow.Author.Needs.{needs}
 use Rattle.read.proofs.walk.skip_fixed.Statement.{statement}
 use Rattle.read.proofs.walk.skip_fixed.Tie as tie
@@ -12,7 +12,7 @@ sub-if1 : tie.Need-sub-if1
 sub-if1 c = search needs
 
 returns : tie.Need-returns
-unfolding fixedOf bytesOf passed pick _>>=_
+unfolding skimFixed skimBytes passed pick _>>=_
 returns c = rw (← c .before .fixed-width .ensures .0, lt-leb _ _ (c .if1 .taken))
 
 add-t7 : tie.Need-add-t7
@@ -25,7 +25,7 @@ add-t14 : tie.Need-add-t14
 add-t14 c = search needs
 
 returns-2 : tie.Need-returns-2
-unfolding fixedOf bytesOf passed stored pick _>>=_
+unfolding skimFixed skimBytes passed stored pick _>>=_
 returns-2 c = rw (← c .before .before .before .before .fixed-width .ensures .0, ← c .before .payload-of-fixed .ensures .0, le-leb _ _ (c .before .before .before .if1 .left))
 
 pub skip-fixed-spec : {M : Type 1} → statement M

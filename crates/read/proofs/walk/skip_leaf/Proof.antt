@@ -1,6 +1,6 @@
 use borrow.Author.Tests.{lt-ltb, le-ltb}
 use Rattle.rules.specs.Choice.{pick}
-use Rattle.read.specs.Skim.{leafOf}
+use Rattle.read.specs.Skim.{skimLeaf}
 use borrow.Author.Needs.{needs}
 use Rattle.read.proofs.walk.skip_leaf.Statement.{statement}
 use Rattle.read.proofs.walk.skip_leaf.Tie as tie
@@ -15,11 +15,11 @@ enum-told : tie.Need-enum-told
 enum-told c = search needs
 
 returns : tie.Need-returns
-unfolding leafOf pick
+unfolding skimLeaf pick
 returns c = rw (lt-ltb _ _ (c .before .before .before .if1 .taken), ← c .before .before .skip-fixed .ensures, c .enum-told .given .1)
 
 returns-2 : tie.Need-returns-2
-unfolding leafOf pick
+unfolding skimLeaf pick
 returns-2 c = rw (lt-ltb _ _ (c .before .before .before .before .if1 .taken), ← c .before .before .before .skip-fixed .ensures, c .before .s .given .1)
 
 skip-blob-requires : tie.Need-skip-blob-requires
@@ -32,11 +32,11 @@ enum-told-2 : tie.Need-enum-told-2
 enum-told-2 c = search needs
 
 returns-3 : tie.Need-returns-3
-unfolding leafOf pick
+unfolding skimLeaf pick
 returns-3 c = rw (le-ltb _ _ (c .before .before .before .if1 .left), ← c .before .before .skip-blob .ensures, c .enum-told2 .given .1)
 
 returns-4 : tie.Need-returns-4
-unfolding leafOf pick
+unfolding skimLeaf pick
 returns-4 c = rw (le-ltb _ _ (c .before .before .before .before .if1 .left), ← c .before .before .before .skip-blob .ensures, c .before .s2 .given .1)
 
 pub skip-leaf-spec : {M : Type 1} → statement M

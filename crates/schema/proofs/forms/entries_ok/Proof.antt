@@ -7,7 +7,7 @@ use borrow.Author.Tests.{not-true, not-false}
 use Rattle.rules.specs.Choice.{all}
 use Rattle.rules.specs.Format.{entryOk}
 use Rattle.schema.specs.Slices.{slices}
-use Rattle.flat.proofs.Turns.{test-on, test-off, test-end}
+use Rattle.block.proofs.Turns.{test-on, test-off, test-end}
 use Rattle.schema.proofs.forms.entries_ok.Statement.{statement}
 use Rattle.schema.proofs.forms.entries_ok.Tie as tie
 

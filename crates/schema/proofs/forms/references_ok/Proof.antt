@@ -8,7 +8,7 @@ use borrow.Author.Tests.{not-true, not-false}
 use Rattle.rules.specs.Choice.{all}
 use Rattle.rules.specs.Format.{referenceFormOk}
 use Rattle.schema.specs.Slices.{slices}
-use Rattle.flat.proofs.Turns.{test-on, test-off, test-end}
+use Rattle.block.proofs.Turns.{test-on, test-off, test-end}
 use Rattle.schema.proofs.Given.{reference-form}
 use Rattle.schema.proofs.forms.references_ok.Statement.{statement}
 use Rattle.schema.proofs.forms.references_ok.Tie as tie

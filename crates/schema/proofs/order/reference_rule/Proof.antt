@@ -1,7 +1,7 @@
 use borrow.Author.Needs.{needs}
 use native.Mathlib.Omega.{arith}
 use mathlib.Core.Path.{sym, _∙_}
-use Rattle.flat.specs.Sound.{Sound}
+use Rattle.block.specs.Sound.{SoundBlock}
 use Rattle.schema.proofs.Tables.{resolved-in, rule-inline, rule-root}
 use Rattle.schema.proofs.order.reference_rule.Statement.{statement}
 use Rattle.schema.proofs.order.reference_rule.Tie as tie
@@ -27,7 +27,7 @@ resolve-requires c κs = let start = c .before .before .before .before .before .
 
 root-of-requires : tie.Need-root-of-requires
 root-of-requires c κs = let start = c .before .before .before .before .before .before .before .before .before in
-    λ first n e. resolved-in _ _ _ (λ a b. Sound (start .args .table .now) a b) (start .pre .0 .entries) (rw (c .before .before .before .before .reference-at .ensures) (start .pre .0 .inline _ (start .pre .1))) first n (sym (c .resolve .ensures) ∙ e)
+    λ first n e. resolved-in _ _ _ (λ a b. SoundBlock (start .args .table .now) a b) (start .pre .0 .entries) (rw (c .before .before .before .before .reference-at .ensures) (start .pre .0 .inline _ (start .pre .1))) first n (sym (c .resolve .ensures) ∙ e)
 
 returns-2 : tie.Need-returns-2
 returns-2 c = rule-root _ _ _ _ _ _ (c .before .before .before .before .before .reference-at .ensures) _ (c .before .before .before .before .inline-rule .ensures) (c .before .before .enum-told .given .1) _ (c .before .resolve .ensures) _ (c .root-of .ensures)

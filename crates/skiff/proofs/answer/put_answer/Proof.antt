@@ -1,6 +1,6 @@
 use borrow.Author.Needs.{needs}
 use mathlib.Core.Path.{refl}
-use Rattle.skiff.specs.Answers.{layout}
+use Rattle.skiff.specs.Answers.{answerLayout}
 use Rattle.skiff.proofs.Laws.{eleven}
 use Rattle.skiff.proofs.answer.put_answer.Statement.{statement}
 use Rattle.skiff.proofs.answer.put_answer.Tie as tie
@@ -21,7 +21,7 @@ same-length : tie.Need-same-length
 same-length c = search needs
 
 returns : tie.Need-returns
-unfolding layout
+unfolding answerLayout
 returns c = eleven _ _ _ _ _ _ _ refl (c .before .before .before .before .before .before .before .before .before .before .before .put64 .ensures) (c .before .before .before .before .before .before .put-five .ensures) (c .before .before .put-five2 .ensures)
 
 pub put-answer-spec : {M : Type 1} → statement M

@@ -1,6 +1,6 @@
 use lib.ListN.{length}
 use Rattle.read.specs.Children.{shapeOf}
-use Rattle.read.specs.Skim.{_>>=_, nodeOf, skim}
+use Rattle.read.specs.Skim.{_>>=_, skimNode, skim}
 use Rattle.read.specs.Ready.{Ready}
 use Rattle.read.proofs.Codes.{shape-variant}
 use Rattle.read.proofs.Turn.{moved, steps, goOn, Fuelled, fuel-all, fuel-next, turn-child, turn-end, turn-refused, turn-on, Moved, wide-shape, picked-child}
@@ -20,7 +20,7 @@ abbrev pub Inv-loop : lts.InvT-loop
 Inv-loop block code node depth input charge first count q₀ i₀ q i =
     (i ≤ count + q .at) × (Ready input charge q
     × ((enough : ℕ) × (Fuelled (shapeOf code) (length input - q .at) enough
-    × (steps input (skim block input charge depth) code first count (shapeOf code) i enough q ≡ nodeOf block input (skim block input charge depth) node q₀))))
+    × (steps input (skim block input charge depth) code first count (shapeOf code) i enough q ≡ skimNode block input (skim block input charge depth) node q₀))))
 
 abbrev pub μ-loop : lts.MeasureT-loop
 μ-loop block code node depth input charge first count q₀ i₀ q i = count - i + (length input - q .at)

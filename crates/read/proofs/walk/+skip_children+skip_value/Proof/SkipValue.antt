@@ -1,4 +1,4 @@
-use Rattle.read.specs.Skim.{standing, nodeOf, skim}
+use Rattle.read.specs.Skim.{standing, skimNode, skim}
 use Rattle.read.proofs.Steps.{ready-paid}
 use Rattle.read.proofs.Nodes.{skim-none, skim-dear, skim-paid}
 use Rattle.read.proofs.Leads.{reached-leaf, reached-children}
@@ -14,7 +14,7 @@ module _ (t : ℕ) where
   -- a node that is paid for
   inside : (c : lts.After-known-told (skip-value-calls t) (skip-value-at t) skip-value.Post) → let s = c .before .before .before .before .before .before .before .before .args in
       skim (s .block .now) (s .input .now) (s .charge) (s .depth) (s .node) (s .p)
-      ≡ nodeOf (s .block .now) (s .input .now) (skim (s .block .now) (s .input .now) (s .charge) (s .depth - 1)) (s .node) (standing (s .p .at) (c .before .paid .given .0 .0) (s .p .records + 1) (s .p .payload))
+      ≡ skimNode (s .block .now) (s .input .now) (skim (s .block .now) (s .input .now) (s .charge) (s .depth - 1)) (s .node) (standing (s .p .at) (c .before .paid .given .0 .0) (s .p .records + 1) (s .p .payload))
   inside c = skim-paid _ _ _ _ _ (c .before .before .before .before .before .before .before .before .args .p) (c .before .before .before .before .before .if1 .left) _ (c .before .before .before .charge .ensures) _ (c .before .paid .given .1)
 
   pub returns : lts.Need-returns (skip-value-calls t) (skip-value-at t) skip-value.Post

@@ -1,0 +1,79 @@
+// A block as a part of the record table, given by first record and record count.
+ghost use mathlib.Core.Path.{_≡_};
+ghost use Prim.Native.Nat.{_+_, _≤_};
+ghost use Rattle.rules.specs.Block.{records, block};
+ghost use Rattle.rules.specs.SchemaRules.{tableRule};
+ghost use Rattle.rules.specs.Format.{blockFormOk, blockDepthOk, blockRule, oneBlock};
+ghost use Rattle.rules.specs.declared.answer.Checked.the-variants.{Accepted};
+ghost use Rattle.block.specs.Sound.{SoundBlock};
+use super::form::block_ok;
+use super::form::depth_of;
+use super::form::span_ok;
+use super::validation::check_root;
+use super::validation::validate;
+use record::node::NODE_SIZE;
+use rules::Checked;
+use rules::Purpose;
+use rules::Refusal;
+
+// The block: the one place that cuts it out of the record table.
+pub fn block_of(table: &[u8], first: u64, count: u64) -> &[u8]
+    requires { ⌜ first + count ≤ records (now table) ⌝ }
+    ensures { λ r. ⌜ now r ≡ block (now (table .entry)) first count ⌝ }
+{
+    let from = first as usize * NODE_SIZE;
+    let to = (first + count) as usize * NODE_SIZE;
+    &table[from..to]
+}
+
+// It lies in the table and has the form.
+pub fn block_form_ok(table: &[u8], store: u64, first: u64, count: u64) -> bool
+    ensures { λ r. ⌜ r ≡ blockFormOk (now (table .entry)) store first count ⌝ }
+{
+    let m = (table.len() / NODE_SIZE) as u64;
+    if !span_ok(first, count, m) {
+        return false;
+    }
+    block_ok(block_of(table, first, count), store)
+}
+
+pub fn block_depth_ok(table: &[u8], first: u64, count: u64) -> bool
+    requires { ⌜ SoundBlock (now table) first count ⌝ }
+    ensures { λ r. ⌜ r ≡ blockDepthOk (now (table .entry)) first count ⌝ }
+{
+    // So few records are never deeper than that.
+    if count <= 64 {
+        return true;
+    }
+    depth_of(block_of(table, first, count)) <= 64
+}
+
+pub fn block_rule(table: &[u8], first: u64, count: u64) -> Checked
+    requires { ⌜ SoundBlock (now table) first count ⌝ }
+    ensures { λ r. ⌜ r ≡ blockRule (now (table .entry)) first count ⌝ }
+{
+    validate(block_of(table, first, count), first, 64, 0)
+}
+
+pub fn block_root(table: &[u8], first: u64, count: u64, purpose: Purpose) -> Checked
+    requires { ⌜ SoundBlock (now table) first count ⌝ }
+    ensures { λ r. ⌜ r ≡ tableRule purpose (block (now (table .entry)) first count) first ⌝ }
+{
+    check_root(block_of(table, first, count), first, purpose)
+}
+
+// Form, then depth: what comes before the rules. The sizes of the slices are the caller's to test.
+pub fn block_stands(table: &[u8], names: &[u8], first: u64, count: u64) -> Checked
+    ensures { λ r. ⌜ r ≡ oneBlock (now (table .entry)) (now (names .entry)) first count Accepted ⌝ }
+{
+    if table.len() % NODE_SIZE != 0 {
+        return Checked::Refused(Refusal::BAD_SCHEMA_TABLE);
+    }
+    if !block_form_ok(table, names.len() as u64, first, count) {
+        return Checked::Refused(Refusal::BAD_SCHEMA_TABLE);
+    }
+    if block_depth_ok(table, first, count) {
+        return Checked::Accepted;
+    }
+    Checked::Refused(Refusal::TOO_DEEP)
+}

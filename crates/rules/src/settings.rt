@@ -1,0 +1,57 @@
+// How a call is to read, and how long a slice may be.
+ghost use mathlib.Core.Path.{_≡_};
+ghost use Rattle.rules.specs.Reading.{settingsOk, defaults};
+
+// The most bytes of a slice that a call reads; of a slice to be written no more count.
+pub const LONGEST: usize = 4294967295;
+
+// How a call is to read: what each node costs, how long a blob may be, and how dear a row.
+pub struct Settings {
+    pub node_charge: u64,
+    pub max_blob_bytes: u64,
+    pub max_row_bytes: u64,
+}
+
+impl Settings {
+    // What the original's decoded value takes, with the compiler that it was measured with.
+    pub const DEFAULT_NODE_CHARGE: u64 = 48;
+    // The largest blob: no length field of an untrusted stream asks for more.
+    pub const DEFAULT_MAX_BLOB_BYTES: u64 = 134217728;
+    // The largest row. Bounding blobs does not bound a row: one byte of a repeated list can stand for a node.
+    pub const DEFAULT_MAX_ROW_BYTES: u64 = 268435456;
+
+    // The largest that each of the three may be.
+    pub const MAX_NODE_CHARGE: u64 = 4096;
+
+    pub const MAX_LIMIT: u64 = 4294967295;
+
+    // The defaults.
+    pub fn new() -> Self
+        ensures { λ r. ⌜ r ≡ defaults ⌝ }
+    {
+        Self {
+            node_charge: Self::DEFAULT_NODE_CHARGE,
+            max_blob_bytes: Self::DEFAULT_MAX_BLOB_BYTES,
+            max_row_bytes: Self::DEFAULT_MAX_ROW_BYTES,
+        }
+    }
+
+    // Whether a call may be made with them.
+    pub fn within_bounds(self) -> bool
+        ensures { λ r. ⌜ r ≡ settingsOk self ⌝ }
+    {
+        let charge = self.node_charge;
+        let blob = self.max_blob_bytes;
+        let row = self.max_row_bytes;
+        if charge < 1 {
+            return false;
+        }
+        if Self::MAX_NODE_CHARGE < charge {
+            return false;
+        }
+        if Self::MAX_LIMIT < blob {
+            return false;
+        }
+        row <= Self::MAX_LIMIT
+    }
+}
