@@ -26,6 +26,7 @@ use Rattle.run.proofs.run as run
 use Rattle.windows.proofs.run_after as run-after
 use Rattle.windows.proofs.goes_on as goes-on
 use Rattle.decode.proofs.next_row as next-row
+use Rattle.encode.proofs.encode as encode
 use Rattle.skiff.proofs.reading.skiff1_skip as skiff1-skip
 use Rattle.skiff.proofs.reading.skiff1_run as skiff1-run
 use Rattle.skiff.proofs.reading.skiff1_decode as skiff1-decode
@@ -98,6 +99,9 @@ goes-on-one-answer κs a x y s t p q = p ∙ sym q
 -- ---- the calls that write
 pub next-row-one-answer : OneOutcome next-row.Kinds.ps next-row.Kinds.r (λ κs (settings, (table, (names, (references, (registry, (input, (position, (records, (payload, _))))))))). records .now ∷ payload .now ∷ []) next-row.Reads.Post
 next-row-one-answer κs a x y s t p q = (ap (λ d. d .answer) (p ∙ sym q), ap (λ d. d .records ∷ d .payload ∷ []) (p ∙ sym q))
+
+pub encode-one-answer : OneOutcome encode.Kinds.ps encode.Kinds.r (λ κs (settings, (table, (names, (first, (count, (records, (payload, (output, (position, _))))))))). output .now ∷ []) encode.Reads.Post
+encode-one-answer κs a x y s t p q = (ap (λ d. d .answer) (p ∙ sym q), ap (λ d. d .output ∷ []) (p ∙ sym q))
 
 pub skiff1-skip-one-answer : OneOutcome skiff1-skip.Kinds.ps skiff1-skip.Kinds.r (λ κs (charge, (blob, (row, (table, (names, (references, (registry, (input, (position, (answer, _)))))))))). answer .now ∷ []) skiff1-skip.Reads.Post
 skiff1-skip-one-answer κs a x y s t p q = (ap (λ g. g .number) (p ∙ sym q), ap (λ g. g .answer ∷ []) (p ∙ sym q))
