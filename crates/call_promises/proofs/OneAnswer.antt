@@ -10,6 +10,7 @@ use borrow.Fn.Kinds.{PK, RK, Dens, Out, resT, endedOf}
 use denote.Triple.Clauses.{AtExit}
 use Rattle.rules.proofs.settings.Settings.new as settings-new
 use Rattle.rules.proofs.settings.Settings.within_bounds as settings-within-bounds
+use Rattle.rules.proofs.refusal.Why.line as why-line
 use Rattle.rules.proofs.refusal.Refusal.in_numbers as in-numbers
 use Rattle.wire.proofs.names.parse as parse
 use Rattle.wire.proofs.names.is_name as is-name
@@ -46,6 +47,9 @@ settings-new-one-answer κs a x y s t p q = p ∙ sym q
 
 pub settings-within-bounds-one-answer : OneAnswer settings-within-bounds.Kinds.ps settings-within-bounds.Kinds.r settings-within-bounds.Reads.Post
 settings-within-bounds-one-answer κs a x y s t p q = p ∙ sym q
+
+pub why-line-one-answer : OneAnswer why-line.Kinds.ps why-line.Kinds.r why-line.Reads.Post
+why-line-one-answer κs a x y s t p q = p ∙ sym q
 
 pub in-numbers-one-answer : OneAnswer in-numbers.Kinds.ps in-numbers.Kinds.r in-numbers.Reads.Post
 in-numbers-one-answer κs a x y s t p q = p ∙ sym q

@@ -77,6 +77,18 @@ use Rattle.write.proofs.judge.judge_row as judge-row
 use Rattle.write.proofs.put.put_row as put-row
 use Rattle.write.proofs.row.room_for as room-for-row
 use Rattle.write.proofs.row.write_row as write-row
+use Rattle.wire.proofs.codes.tag_width as tag-width
+use Rattle.windows.proofs.run_on as run-on
+use Rattle.windows.proofs.no_rows as no-rows
+use Rattle.windows.proofs.space.run_window as run-window
+use Rattle.words.proofs.kind_of as kind-of-carried
+use Rattle.lines.proofs.put_text as put-text
+use Rattle.lines.proofs.put_decimal as put-decimal
+use Rattle.lines.proofs.put_number as put-number
+use Rattle.lines.proofs.put_word as put-word
+use Rattle.lines.proofs.put_run_line as put-run-line
+use Rattle.failures.proofs.put_failure_line as put-failure-line
+use Rattle.failures.proofs.put_usage_line as put-usage-line
 
 -- ---- numbers and byte strings
 pub wide-one-answer : OneAnswer wide.Kinds.ps wide.Kinds.r wide.Reads.Post
@@ -294,3 +306,41 @@ put-row-one-answer κs a x y s t p q = (p .0 ∙ sym (q .0), rw (p .1, q .1))
 
 pub write-row-one-answer : OneOutcome write-row.Kinds.ps write-row.Kinds.r (λ κs (block, (settings, (records, (payload, (out, _))))). out .now ∷ []) write-row.Reads.Post
 write-row-one-answer κs a x y s t p q = (p .0 ∙ sym (q .0), rw (p .1, q .1))
+
+pub tag-width-one-answer : OneAnswer tag-width.Kinds.ps tag-width.Kinds.r tag-width.Reads.Post
+tag-width-one-answer κs a x y s t p q = p ∙ sym q
+
+-- ---- windows
+pub run-on-one-answer : OneAnswer run-on.Kinds.ps run-on.Kinds.r run-on.Reads.Post
+run-on-one-answer κs a x y s t p q = p .0 ∙ sym (q .0)
+
+pub no-rows-one-answer : OneAnswer no-rows.Kinds.ps no-rows.Kinds.r no-rows.Reads.Post
+no-rows-one-answer κs a x y s t p q = p .0 ∙ sym (q .0)
+
+pub run-window-one-answer : OneAnswer run-window.Kinds.ps run-window.Kinds.r run-window.Reads.Post
+run-window-one-answer κs a x y s t p q = p .0 ∙ sym (q .0)
+
+-- ---- lines: where the text ends, and the buffer
+pub kind-of-carried-one-answer : OneAnswer kind-of-carried.Kinds.ps kind-of-carried.Kinds.r kind-of-carried.Reads.Post
+kind-of-carried-one-answer κs a x y s t p q = p ∙ sym q
+
+pub put-text-one-answer : OneOutcome put-text.Kinds.ps put-text.Kinds.r (λ κs (buffer, _). buffer .now ∷ []) put-text.Reads.Post
+put-text-one-answer κs a x y s t p q = (p .ends ∙ sym (q .ends), rw (p .holds, q .holds))
+
+pub put-decimal-one-answer : OneOutcome put-decimal.Kinds.ps put-decimal.Kinds.r (λ κs (buffer, _). buffer .now ∷ []) put-decimal.Reads.Post
+put-decimal-one-answer κs a x y s t p q = (p .ends ∙ sym (q .ends), rw (p .holds, q .holds))
+
+pub put-number-one-answer : OneOutcome put-number.Kinds.ps put-number.Kinds.r (λ κs (buffer, _). buffer .now ∷ []) put-number.Reads.Post
+put-number-one-answer κs a x y s t p q = (p .0 .ends ∙ sym (q .0 .ends), rw (p .0 .holds, q .0 .holds))
+
+pub put-word-one-answer : OneOutcome put-word.Kinds.ps put-word.Kinds.r (λ κs (buffer, _). buffer .now ∷ []) put-word.Reads.Post
+put-word-one-answer κs a x y s t p q = (p .0 .ends ∙ sym (q .0 .ends), rw (p .0 .holds, q .0 .holds))
+
+pub put-run-line-one-answer : OneOutcome put-run-line.Kinds.ps put-run-line.Kinds.r (λ κs (buffer, _). buffer .now ∷ []) put-run-line.Reads.Post
+put-run-line-one-answer κs a x y s t p q = (p .0 .ends ∙ sym (q .0 .ends), rw (p .0 .holds, q .0 .holds))
+
+pub put-failure-line-one-answer : OneOutcome put-failure-line.Kinds.ps put-failure-line.Kinds.r (λ κs (buffer, _). buffer .now ∷ []) put-failure-line.Reads.Post
+put-failure-line-one-answer κs a x y s t p q = (p .0 .ends ∙ sym (q .0 .ends), rw (p .0 .holds, q .0 .holds))
+
+pub put-usage-line-one-answer : OneOutcome put-usage-line.Kinds.ps put-usage-line.Kinds.r (λ κs (buffer, _). buffer .now ∷ []) put-usage-line.Reads.Post
+put-usage-line-one-answer κs a x y s t p q = (p .0 .ends ∙ sym (q .0 .ends), rw (p .0 .holds, q .0 .holds))
