@@ -9,9 +9,8 @@ use borrow.Author.Tests.{ltb-true, ltb-false, eqb-true}
 use lib.Dec.{ltb}
 use lib.ListN.{length, length-append}
 use Rattle.rules.specs.Choice.{pick}
-use Rattle.rules.specs.Bytes.{leAt}
 use Rattle.rules.specs.Wire.{form, widthOf}
-use Rattle.rules.specs.Block.{nodeAt, Closed}
+use Rattle.rules.specs.Block.{nodeStart, nodeAt, Closed}
 use Rattle.rules.specs.Value.{Value, Items, done, item, items, recordsOf, payloadOf}
 use Rattle.rules.specs.ValueRecord.{valueRecordAt, ValueRecordIn}
 use Rattle.rules.specs.ValueTable.{payloadBytesI, belowI, valueKind, sizeOf, Spot, tagAt}
@@ -235,7 +234,7 @@ module _ (sch : List ℕ) (blob i : ℕ) (table store : List ℕ) where
           tag-few l = omega (arith, the-choice .tag, tag-of s code (the-turn .tag) l)
 
           -- the child may be judged
-          pub child-judgeable : SoundNodes sch → (first + count) * 16 ≤ length sch → w ≤ 32 → length store < 2 ^ 32 → Judgeable sch x d table store (passed (q .at) (q .from) (q .bytes + w))
+          pub child-judgeable : SoundNodes sch → nodeStart (first + count) ≤ length sch → w ≤ 32 → length store < 2 ^ 32 → Judgeable sch x d table store (passed (q .at) (q .from) (q .bytes + w))
           unfolding IsWhole
           child-judgeable k l m n = record {
             sound = k;
@@ -290,16 +289,8 @@ pub counted-tuple : (code size count j : ℕ) → countOk (shapeOf code) size co
 unfolding countOk
 counted-tuple code size count j f h e = omega (arith, eqb-true size count (rw e at f), h)
 
-module _ (sch : List ℕ) (blob i depth : ℕ) (table store : List ℕ) (p : Passed) (k : Judgeable sch i depth table store p) (code size : ℕ) (o : Opened sch i code table p size) (first count : ℕ) (b : first ≡ leAt sch (i * 16 + 8) 4) (c : count ≡ leAt sch (i * 16 + 12) 4) where
-  the-first : first ≡ nodeAt sch i .first
-  unfolding nodeAt
-  the-first = b
-
-  the-count : count ≡ nodeAt sch i .children
-  unfolding nodeAt
-  the-count = c
-
-  in-block : (first + count) * 16 ≤ length sch
+module _ (sch : List ℕ) (blob i depth : ℕ) (table store : List ℕ) (p : Passed) (k : Judgeable sch i depth table store p) (code size : ℕ) (o : Opened sch i code table p size) (first count : ℕ) (the-first : first ≡ nodeAt sch i .first) (the-count : count ≡ nodeAt sch i .children) where
+  in-block : nodeStart (first + count) ≤ length sch
   unfolding Closed
   in-block = omega (arith, the-first, the-count, k .sound .closed i (k .inside))
 

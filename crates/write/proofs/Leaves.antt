@@ -1,13 +1,13 @@
 -- Values without children: what is judged of each is what writing it answers.
 -- Assumes nothing.
-use Prim.Native.Nat.{ℕ, _+_, _*_, _^_, _≤_, _<_}
+use Prim.Native.Nat.{ℕ, _+_, _^_, _≤_, _<_}
 use mathlib.Core.Path.{_≡_, refl, sym, ap, _∙_}
 use mathlib.Core.Bool.{Bool, true, false}
 use mathlib.Core.List.{List, [], _∷_, _++_}
 use native.Mathlib.Omega.{arith}
 use borrow.Author.Tests.{lt-ltb, le-ltb, eq-eqb, le-leb, lt-leb}
 use lib.Dec.{leb}
-use lib.ListN.{length, length-append, getD}
+use lib.ListN.{length, length-append}
 use Rattle.rules.specs.Choice.{pick}
 use Rattle.rules.specs.Bytes.{le}
 use Rattle.rules.specs.Wire.{fixed, raw, form, widthOf}
@@ -105,15 +105,8 @@ module _ (sch : List ℕ) (lim i : ℕ) (table store : List ℕ) (short : length
 -- ---- the node step, in the code's numbers
 
 module _ (sch : List ℕ) (blob i depth : ℕ) (table store : List ℕ) (p : Passed) (k : Judgeable sch i depth table store p) (v : ValueRecord) (m : v ≡ valueRecordAt table (p .at)) where
-  the-code : getD sch (i * 16) 0 ≡ nodeAt sch i .code
-  unfolding nodeAt
-  the-code = refl
-
   short : length table ≤ 4294967295
   short = omega (arith, k .short)
-
-  pub code-known : getD sch (i * 16) 0 ≤ 19
-  code-known = rw the-code (k .sound .codes i (k .inside))
 
   pub leaf-bounds : (v .size < 2 ^ 32) × ((p .at < 2 ^ 32) × ((p .from < 2 ^ 32) × (p .bytes < 2 ^ 40)))
   leaf-bounds =
@@ -121,17 +114,21 @@ module _ (sch : List ℕ) (blob i depth : ℕ) (table store : List ℕ) (p : Pas
       let n = inside table store short w in
       (omega (arith, ap (λ (u : ValueRecord). u .size) m, size-small table store short w), (omega (arith, n, k .short), (omega (arith, k .within, k .small), omega (arith, n, k .few, k .short, k .within, k .small))))
 
-  module _ (has : ℕ) (e : has ≡ kindFor (getD sch (i * 16) 0) (form (getD sch (i * 16) 0))) where
-    pub other-kind : (v .kind ≡ has → ⊥) → judged-is.Refused (ValueDoesNotMatchSchema (getD sch (i * 16) 0) (v .kind) (p .at)) ≡ judgedAt sch blob i depth table store p
-    other-kind h = misfit sch blob i table store depth p k (getD sch (i * 16) 0) (v .kind) the-code (ap (λ (u : ValueRecord). u .kind) m) (λ x. h (x ∙ sym e))
+  module _ (code : ℕ) (is : code ≡ nodeAt sch i .code) where
+    pub code-known : code ≤ 19
+    code-known = rw is (k .sound .codes i (k .inside))
 
-    module _ (h : v .kind ≡ has) where
-      pub leaf-answer : getD sch (i * 16) 0 < 15 → leafOf blob (getD sch (i * 16) 0) (v .size) p ≡ judgedAt sch blob i depth table store p
-      unfolding judgedAt
-      leaf-answer l =
-          let w = whole-reads sch blob i table store depth p k in
-          ap (λ (u : ValueRecord). leafOf blob (getD sch (i * 16) 0) (u .size) p) m
-          ∙ leaf-judged sch blob i table store short (getD sch (i * 16) 0) the-code p (valueOf (standing table store depth (p .at) (p .from))) w l (sym (kind-told table store short w) ∙ sym (ap (λ (u : ValueRecord). u .kind) m) ∙ h ∙ e)
+    module _ (has : ℕ) (e : has ≡ kindFor code (form code)) where
+      pub other-kind : (v .kind ≡ has → ⊥) → judged-is.Refused (ValueDoesNotMatchSchema code (v .kind) (p .at)) ≡ judgedAt sch blob i depth table store p
+      other-kind h = misfit sch blob i table store depth p k code (v .kind) is (ap (λ (u : ValueRecord). u .kind) m) (λ x. h (x ∙ sym e))
 
-      pub opened : 15 ≤ getD sch (i * 16) 0 → Opened sch i (getD sch (i * 16) 0) table p (v .size)
-      opened l = record { is = the-code; compound = l; kind = sym (ap (λ (u : ValueRecord). u .kind) m) ∙ h ∙ e; count = ap (λ (u : ValueRecord). u .size) m }
+      module _ (h : v .kind ≡ has) where
+        pub leaf-answer : code < 15 → leafOf blob code (v .size) p ≡ judgedAt sch blob i depth table store p
+        unfolding judgedAt
+        leaf-answer l =
+            let w = whole-reads sch blob i table store depth p k in
+            ap (λ (u : ValueRecord). leafOf blob code (u .size) p) m
+            ∙ leaf-judged sch blob i table store short code is p (valueOf (standing table store depth (p .at) (p .from))) w l (sym (kind-told table store short w) ∙ sym (ap (λ (u : ValueRecord). u .kind) m) ∙ h ∙ e)
+
+        pub opened : 15 ≤ code → Opened sch i code table p (v .size)
+        opened l = record { is = is; compound = l; kind = sym (ap (λ (u : ValueRecord). u .kind) m) ∙ h ∙ e; count = ap (λ (u : ValueRecord). u .size) m }

@@ -1,6 +1,6 @@
 -- The loop of the walk that writes: what is left to write, over what is written, is the whole.
 -- Assumes nothing.
-use Prim.Native.Nat.{ℕ, _+_, _-_, _*_, _^_, _≤_, _<_}
+use Prim.Native.Nat.{ℕ, _+_, _-_, _^_, _≤_, _<_}
 use mathlib.Core.Path.{_≡_, refl, sym, ap, _∙_}
 use mathlib.Core.Bool.{Bool, true, false}
 use mathlib.Core.List.{List, _++_}
@@ -9,9 +9,9 @@ use borrow.Author.Tests.{eqb-true, eqb-false}
 use lib.Dec.{ltb, eqb}
 use lib.ListN.{length, length-append}
 use Rattle.rules.specs.Choice.{pick}
-use Rattle.rules.specs.Bytes.{leAt, over}
+use Rattle.rules.specs.Bytes.{over}
 use Rattle.rules.specs.Wire.{form}
-use Rattle.rules.specs.Block.{nodeAt, Closed}
+use Rattle.rules.specs.Block.{nodeStart, nodeAt, Closed}
 use Rattle.rules.specs.Value.{Value, Items, done, item, items, recordsOf, payloadOf}
 use Rattle.rules.specs.ValueRecord.{valueRecordAt, ValueRecordIn}
 use Rattle.rules.specs.ValueTable as table-of
@@ -157,7 +157,7 @@ module _ (sch : List ℕ) (i : ℕ) (table store : List ℕ) where
       unfolding written valueOf
       child-written = rw (turn-stands table store short d (q .at) (q .from) z (g .rest) the-turn, ← tag-is) (the-part .puts)
 
-      pub child-writable : SoundNodes sch → (nodeAt sch i .first + nodeAt sch i .children) * 16 ≤ length sch → (s ≡ as-tuple → j < nodeAt sch i .children) → to₀ + length all ≤ length out₀ → Writable sch (childOf s (nodeAt sch i .first) j (valueRecordAt table (q .at) .tag)) d table store start (length out)
+      pub child-writable : SoundNodes sch → nodeStart (nodeAt sch i .first + nodeAt sch i .children) ≤ length sch → (s ≡ as-tuple → j < nodeAt sch i .children) → to₀ + length all ≤ length out₀ → Writable sch (childOf s (nodeAt sch i .first) j (valueRecordAt table (q .at) .tag)) d table store start (length out)
       unfolding IsWhole IsPut putOf Closed
       child-writable k m c l = record {
         sound = k;
@@ -239,12 +239,8 @@ module _ (sch : List ℕ) (i depth : ℕ) (table store : List ℕ) (p : Spot) (r
       same = refl;
     }
 
-    module _ (first : ℕ) (b : first ≡ leAt sch (i * 16 + 8) 4) {out₀ out : List ℕ} (same₀ : length out₀ ≡ room) {q : Spot} {j : ℕ} (g : Filling sch i table store (shapeOf code) (depth - 1) size (endOf (standing table store depth (p .at) (p .from))) (p .to) (putOf (written sch i depth table store (p .at) (p .from))) out₀ out q j) where
-      the-first : first ≡ nodeAt sch i .first
-      unfolding nodeAt
-      the-first = b
-
-      in-block : (nodeAt sch i .first + nodeAt sch i .children) * 16 ≤ length sch
+    module _ (first : ℕ) (the-first : first ≡ nodeAt sch i .first) {out₀ out : List ℕ} (same₀ : length out₀ ≡ room) {q : Spot} {j : ℕ} (g : Filling sch i table store (shapeOf code) (depth - 1) size (endOf (standing table store depth (p .at) (p .from))) (p .to) (putOf (written sch i depth table store (p .at) (p .from))) out₀ out q j) where
+      in-block : nodeStart (nodeAt sch i .first + nodeAt sch i .children) ≤ length sch
       unfolding Closed
       in-block = k .sound .closed i (k .inside)
 

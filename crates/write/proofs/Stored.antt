@@ -1,13 +1,13 @@
 -- Values without children: what is written of each is what its record and the payload store hold.
 -- Assumes nothing.
-use Prim.Native.Nat.{ℕ, _+_, _*_, _^_, _≤_, _<_}
+use Prim.Native.Nat.{ℕ, _+_, _^_, _≤_, _<_}
 use mathlib.Core.Path.{_≡_, refl, sym, ap, _∙_}
 use mathlib.Core.Bool.{Bool, true, false}
 use mathlib.Core.List.{List, [], _∷_, _++_}
 use native.Mathlib.Omega.{arith}
 use native.Mathlib.Nat.{pow-le-pow-right, lt-of-lt-of-le}
 use borrow.Author.Tests.{eq-eqb, le-leb}
-use lib.ListN.{length, length-append, getD}
+use lib.ListN.{length, length-append}
 use Rattle.rules.specs.Choice.{pick}
 use Rattle.rules.specs.Bytes.{le, part, over}
 use Rattle.rules.specs.Wire.{fixed, raw, form, widthOf}
@@ -94,39 +94,35 @@ module _ (sch : List ℕ) (i : ℕ) (table store : List ℕ) (short : length tab
 
 -- ---- the node step, in the code's numbers
 
-module _ (sch : List ℕ) (i depth : ℕ) (table store : List ℕ) (p : Spot) (room : ℕ) (k : Writable sch i depth table store p room) (v : ValueRecord) (m : v ≡ valueRecordAt table (p .at)) where
-  the-code : getD sch (i * 16) 0 ≡ nodeAt sch i .code
-  unfolding nodeAt
-  the-code = refl
-
+module _ (sch : List ℕ) (i depth : ℕ) (table store : List ℕ) (p : Spot) (room : ℕ) (k : Writable sch i depth table store p room) (v : ValueRecord) (m : v ≡ valueRecordAt table (p .at)) (code : ℕ) (is : code ≡ nodeAt sch i .code) where
   short : length table ≤ 4294967295
   short = omega (arith, k .short)
 
-  pub parted-node : 15 ≤ getD sch (i * 16) 0 → Parted sch i (getD sch (i * 16) 0) table p (v .size)
-  parted-node l = record { is = the-code; compound = l; count = ap (λ (u : ValueRecord). u .size) m }
+  pub parted-node : 15 ≤ code → Parted sch i code table p (v .size)
+  parted-node l = record { is = is; compound = l; count = ap (λ (u : ValueRecord). u .size) m }
 
-  module _ (l : getD sch (i * 16) 0 < 15) where
-    the-leaf : Leaf table store (getD sch (i * 16) 0) (p .at) (p .from) (valueOf (standing table store depth (p .at) (p .from))) (putOf (written sch i depth table store (p .at) (p .from)))
-    the-leaf = leaf-stored sch i table store short (getD sch (i * 16) 0) the-code (p .at) (p .from) _ _ (reads-whole sch i depth table store p room k) l (rw the-code (right-kind sch i depth table store p room k)) (all-put sch i depth table store p room k)
+  module _ (l : code < 15) where
+    the-leaf : Leaf table store code (p .at) (p .from) (valueOf (standing table store depth (p .at) (p .from))) (putOf (written sch i depth table store (p .at) (p .from)))
+    the-leaf = leaf-stored sch i table store short code is (p .at) (p .from) _ _ (reads-whole sch i depth table store p room k) l (rw is (right-kind sch i depth table store p room k)) (all-put sch i depth table store p room k)
 
-    kept-is : leafKept (getD sch (i * 16) 0) (v .size) ≡ payloadOf (valueOf (standing table store depth (p .at) (p .from)))
-    kept-is = ap (λ (u : ValueRecord). leafKept (getD sch (i * 16) 0) (u .size)) m ∙ the-leaf .kept
+    kept-is : leafKept code (v .size) ≡ payloadOf (valueOf (standing table store depth (p .at) (p .from)))
+    kept-is = ap (λ (u : ValueRecord). leafKept code (u .size)) m ∙ the-leaf .kept
 
-    size-is : leafSize (getD sch (i * 16) 0) (v .size) ≡ length (putOf (written sch i depth table store (p .at) (p .from)))
-    size-is = ap (λ (u : ValueRecord). leafSize (getD sch (i * 16) 0) (u .size)) m ∙ the-leaf .long
+    size-is : leafSize code (v .size) ≡ length (putOf (written sch i depth table store (p .at) (p .from)))
+    size-is = ap (λ (u : ValueRecord). leafSize code (u .size)) m ∙ the-leaf .long
 
-    pub leaf-room : (getD sch (i * 16) 0 < 15) × (p .at + 1 < 2 ^ 64) × (p .from + leafKept (getD sch (i * 16) 0) (v .size) ≤ length store) × (p .to + leafSize (getD sch (i * 16) 0) (v .size) ≤ room)
+    pub leaf-room : (code < 15) × (p .at + 1 < 2 ^ 64) × (p .from + leafKept code (v .size) ≤ length store) × (p .to + leafSize code (v .size) ≤ room)
     leaf-room =
         let w = reads-whole sch i depth table store p room k in
         (l, omega (arith, inside table store short w, k .short), omega (arith, kept-is, from-end table store short w, from-in table store short w), omega (arith, size-is, k .fits))
 
-    pub leaf-placed : (q : Spot) (out out′ : List ℕ) → q ≡ record { at = p .at + 1; from = p .from + leafKept (getD sch (i * 16) 0) (v .size); to = p .to + leafSize (getD sch (i * 16) 0) (v .size) } →
-        out′ ≡ over out (p .to) (leafBytes store (getD sch (i * 16) 0) (v .size) (v .content) (p .from)) → Placed sch i depth table store p q out out′
+    pub leaf-placed : (q : Spot) (out out′ : List ℕ) → q ≡ record { at = p .at + 1; from = p .from + leafKept code (v .size); to = p .to + leafSize code (v .size) } →
+        out′ ≡ over out (p .to) (leafBytes store code (v .size) (v .content) (p .from)) → Placed sch i depth table store p q out out′
     leaf-placed q out out′ e f =
         let w = reads-whole sch i depth table store p room k in
         record {
           at-end = ap (λ (u : Spot). u .at) e ∙ omega (arith, the-leaf .one, at-end table store short w);
           from-end = ap (λ (u : Spot). u .from) e ∙ omega (arith, kept-is, from-end table store short w);
           to-end = ap (λ (u : Spot). u .to) e ∙ omega (arith, size-is);
-          bytes = f ∙ ap (over out (p .to)) (ap (λ (u : ValueRecord). leafBytes store (getD sch (i * 16) 0) (u .size) (u .content) (p .from)) m ∙ the-leaf .bytes);
+          bytes = f ∙ ap (over out (p .to)) (ap (λ (u : ValueRecord). leafBytes store code (u .size) (u .content) (p .from)) m ∙ the-leaf .bytes);
         }

@@ -10,13 +10,15 @@ ghost use Rattle.rules.specs.Writing.{kindFor};
 ghost use Rattle.read.specs.Children.{shapeOf};
 ghost use Rattle.write.specs.Judging.{only, leafOf, pickedOf, countOk, closingBytes, Judgeable, Opened, judgedAt, RowJudgeable, judgedRow};
 use read::fields::payload_of_fixed;
+use record::node::node_children;
+use record::node::node_code;
+use record::node::node_first;
 use record::value::value_record_at;
 use rules::Refusal;
 use rules::Settings;
 use rules::Why;
 use wire::codes::fixed_width;
 use wire::codes::tag_width;
-use wire::u32_at;
 
 // Where the walk stands: the next value record, the next payload byte, and the bytes of the row so far.
 pub struct Passed {
@@ -182,7 +184,7 @@ fn judge_value(
     let own = value_record_at(records, at);
     let kind = own.kind;
     let size = own.size;
-    let code = block[node * 16];
+    let code = node_code(block, node);
     if kind != kind_of(code) {
         return Judged::Refused(Refusal {
             why: Why::ValueDoesNotMatchSchema {
@@ -232,9 +234,8 @@ fn judge_children(
     requires { ⌜ Judgeable (now block) node depth (now records) (now payload) p × Opened (now block) node code (now records) p size ⌝ }
     ensures { λ r. ⌜ r ≡ judgedAt (now (block .entry)) «max_blob_bytes» node depth (now (records .entry)) (now (payload .entry)) p ⌝ }
 {
-    let k = node * 16;
-    let first = u32_at(block, k + 8);
-    let count = u32_at(block, k + 12);
+    let first = node_first(block, node);
+    let count = node_children(block, node);
     let own = p.at;
     if !count_fits(code, size, count) {
         return Judged::Refused(Refusal {

@@ -7,13 +7,14 @@ ghost use Rattle.rules.specs.Bytes.{le, over};
 ghost use Rattle.read.specs.Children.{shapeOf};
 ghost use Rattle.write.specs.Putting.{tagBytes, closing, childOf, leafKept, leafSize, leafBytes, Writable, Parted, Placed, RowWritable, rowBytes};
 use payload::copy;
+use record::node::node_code;
+use record::node::node_first;
 use record::value::value_record_at;
 use wire::codes::fixed_width;
 use wire::codes::tag_width;
 use wire::store::put16;
 use wire::store::put32;
 use wire::store::put64;
-use wire::u32_at;
 
 // Where the walk stands: the next value record, the next payload byte, the next byte of the output.
 pub struct Spot {
@@ -151,7 +152,7 @@ fn put_value(
 {
     let at = p.at;
     let own = value_record_at(records, at);
-    let code = block[node * 16];
+    let code = node_code(block, node);
     if code < 15 {
         return put_leaf(code, own.size, own.content, payload, p, out);
     }
@@ -173,7 +174,7 @@ fn put_children(
     requires { ⌜ Writable (now block) node depth (now records) (now payload) p (length (now out)) × Parted (now block) node code (now records) p size ⌝ }
     ensures { λ r. ⌜ Placed (now (block .entry)) node depth (now (records .entry)) (now (payload .entry)) p r (now (out .entry)) (now (out .exit)) ⌝ }
 {
-    let first = u32_at(block, node * 16 + 8);
+    let first = node_first(block, node);
     let own = p.at;
     let mut q = Spot {
         at: own + 1,

@@ -7,8 +7,10 @@ use Rattle.write.proofs.judge.+judge_children+judge_value.Lts-judge_chi
 use Rattle.write.proofs.judge.judge_value.Reads as judge-value
 use Rattle.write.proofs.judge.judge_value.Kinds as judge-value-kinds
 use Rattle.write.proofs.judge.+judge_children+judge_value.Lts-judge_value as judge-value-lts
+use Rattle.record.proofs.node.node_children.Reads as node-children-reads
+use Rattle.record.proofs.node.node_code.Reads as node-code-reads
+use Rattle.record.proofs.node.node_first.Reads as node-first-reads
 use Rattle.record.proofs.value.value_record_at.Reads as value-record-at-reads
-use Rattle.wire.proofs.numbers.u32_at.Reads as u32-at-reads
 use Rattle.write.proofs.judge.closing.Reads as closing-reads
 use Rattle.write.proofs.judge.count_fits.Reads as count-fits-reads
 use Rattle.write.proofs.judge.judge_leaf.Reads as judge-leaf-reads
@@ -36,7 +38,7 @@ abbrev pub judge-value-below : ℕ → In 3 judge-value-kinds.ps
 judge-value-below t = and 3 judge-value-kinds.ps (falls 3 judge-value-kinds.ps _<_ μ-judge-value t) judge-value.Pre
 
 abbrev pub judge-children-calls : ℕ → judge-children-lts.Claims
-judge-children-calls t = (u32-at-reads.Asked, u32-at-reads.Learnt, count-fits-reads.Asked, count-fits-reads.Learnt, value-record-at-reads.Asked, value-record-at-reads.Learnt, next-child-reads.Asked, next-child-reads.Learnt, no-child-reads.Asked, no-child-reads.Learnt, judge-value-below t, judge-value.Post, refused-reads.Asked, refused-reads.Learnt, closing-reads.Asked, closing-reads.Learnt)
+judge-children-calls t = (node-first-reads.Asked, node-first-reads.Learnt, node-children-reads.Asked, node-children-reads.Learnt, count-fits-reads.Asked, count-fits-reads.Learnt, value-record-at-reads.Asked, value-record-at-reads.Learnt, next-child-reads.Asked, next-child-reads.Learnt, no-child-reads.Asked, no-child-reads.Learnt, judge-value-below t, judge-value.Post, refused-reads.Asked, refused-reads.Learnt, closing-reads.Asked, closing-reads.Learnt)
 
 abbrev pub judge-value-calls : ℕ → judge-value-lts.Claims
-judge-value-calls t = (value-record-at-reads.Asked, value-record-at-reads.Learnt, kind-of-reads.Asked, kind-of-reads.Learnt, judge-leaf-reads.Asked, judge-leaf-reads.Learnt, judge-children-below t, judge-children.Post)
+judge-value-calls t = (value-record-at-reads.Asked, value-record-at-reads.Learnt, node-code-reads.Asked, node-code-reads.Learnt, kind-of-reads.Asked, kind-of-reads.Learnt, judge-leaf-reads.Asked, judge-leaf-reads.Learnt, judge-children-below t, judge-children.Post)

@@ -7,8 +7,9 @@ use Rattle.write.proofs.put.+put_children+put_value.Lts-put_children as
 use Rattle.write.proofs.put.put_value.Reads as put-value
 use Rattle.write.proofs.put.put_value.Kinds as put-value-kinds
 use Rattle.write.proofs.put.+put_children+put_value.Lts-put_value as put-value-lts
+use Rattle.record.proofs.node.node_code.Reads as node-code-reads
+use Rattle.record.proofs.node.node_first.Reads as node-first-reads
 use Rattle.record.proofs.value.value_record_at.Reads as value-record-at-reads
-use Rattle.wire.proofs.numbers.u32_at.Reads as u32-at-reads
 use Rattle.write.proofs.put.child_of.Reads as child-of-reads
 use Rattle.write.proofs.put.put_end.Reads as put-end-reads
 use Rattle.write.proofs.put.put_leaf.Reads as put-leaf-reads
@@ -33,7 +34,7 @@ abbrev pub put-value-below : ℕ → In 4 put-value-kinds.ps
 put-value-below t = and 4 put-value-kinds.ps (falls 4 put-value-kinds.ps _<_ μ-put-value t) put-value.Pre
 
 abbrev pub put-children-calls : ℕ → put-children-lts.Claims
-put-children-calls t = (u32-at-reads.Asked, u32-at-reads.Learnt, value-record-at-reads.Asked, value-record-at-reads.Learnt, child-of-reads.Asked, child-of-reads.Learnt, put-tag-reads.Asked, put-tag-reads.Learnt, put-value-below t, put-value.Post, put-end-reads.Asked, put-end-reads.Learnt)
+put-children-calls t = (node-first-reads.Asked, node-first-reads.Learnt, value-record-at-reads.Asked, value-record-at-reads.Learnt, child-of-reads.Asked, child-of-reads.Learnt, put-tag-reads.Asked, put-tag-reads.Learnt, put-value-below t, put-value.Post, put-end-reads.Asked, put-end-reads.Learnt)
 
 abbrev pub put-value-calls : ℕ → put-value-lts.Claims
-put-value-calls t = (value-record-at-reads.Asked, value-record-at-reads.Learnt, put-leaf-reads.Asked, put-leaf-reads.Learnt, put-children-below t, put-children.Post)
+put-value-calls t = (value-record-at-reads.Asked, value-record-at-reads.Learnt, node-code-reads.Asked, node-code-reads.Learnt, put-leaf-reads.Asked, put-leaf-reads.Learnt, put-children-below t, put-children.Post)
