@@ -1,9 +1,10 @@
 /*
- * skiff.h: rows of Skiff streams, skipped, counted and decoded by a proved library.
+ * skiff.h: rows of Skiff streams, skipped, counted, decoded and written by a proved library.
  *
  * Link target/staticlib/libskiff.a, which `rt staticlib skiff` writes; it is for x86-64 and needs no
  * other library. The functions keep nothing between calls, allocate nothing and write to nothing but
- * the answer slice and, in skiff_decode, the two slices for a row, so any number of threads may call them.
+ * the answer slice and, in skiff_decode, the two slices for a row, in skiff_encode the output, so any number
+ * of threads may call them.
  *
  * A slice is a pointer and a length. The pointer leads to so many bytes and may not be null, not even
  * where the length is 0 and it is not followed; the length is below 2^63. A slice that is written
@@ -32,14 +33,15 @@ extern "C" {
 #define skiff_decode skiff1_decode
 #define skiff_run skiff1_run
 #define skiff_run_window skiff1_run_window
+#define skiff_encode skiff1_encode
+#define skiff_check_value_table skiff1_check_value_table
 
 /* Settings. The node charge is 1 to 4,096 and each limit at most 4,294,967,295, else SKIFF_SETTING. */
 #define SKIFF_DEFAULT_NODE_CHARGE UINT64_C(48)
 #define SKIFF_DEFAULT_MAX_BLOB_BYTES UINT64_C(134217728)
 #define SKIFF_DEFAULT_MAX_ROW_BYTES UINT64_C(268435456)
 
-/* Why a call is refused; skiff_words.h has the words. Some numbers belong to calls that are not in this header.
- * `check-refusals` compares this list with the rules' table. */
+/* Why a call is refused; skiff_words.h has the words. `check-refusals` compares this list with the rules' table. */
 enum skiff_refusal {
     SKIFF_NO_REFUSAL = 0,
     SKIFF_SETTING = 1,                         /* a setting, a slice's length or a position */
@@ -88,18 +90,21 @@ enum skiff_answer {
     SKIFF_ANSWER_WHAT = 0,      /* enum skiff_what */
     SKIFF_ANSWER_REFUSAL = 1,   /* enum skiff_refusal, which is also returned */
     SKIFF_ANSWER_PLACE = 2,     /* where the refusal was met: an offset from the input's start, a record
-                                   number, or a table; else 0 */
+                                   number, a table, or in skiff_encode a value record's number and, for
+                                   SKIFF_NO_OUTPUT_ROOM, the output position; else 0 */
     SKIFF_ANSWER_CARRIED = 3,   /* three numbers that the refusal carries, in the order above; else 0 */
     SKIFF_ANSWER_ROWS = 6,      /* 1 for an accepted row; the accepted rows of a run */
     SKIFF_ANSWER_ROW_BYTES = 7, /* bytes of the row; of all accepted rows of a run */
-    SKIFF_ANSWER_TABLE = 8,     /* the row's table, and below how much skiff_decode makes of it: */
+    SKIFF_ANSWER_TABLE = 8,     /* the row's table, and below how much skiff_decode makes of it, or
+                                   skiff_encode was given: */
     SKIFF_ANSWER_RECORDS = 9,   /* value records, of SKIFF_VALUE_RECORD_BYTES each, */
     SKIFF_ANSWER_PAYLOAD = 10,  /* and payload bytes; all three are 0 for a run, but for: */
     SKIFF_ANSWER_MAY_CHANGE = 8 /* of skiff_run_window, 1 where more bytes may change the answer, else 0 */
 };
 
 enum skiff_what {
-    SKIFF_WHAT_ROW = 0,    /* a row was skipped or decoded */
+    SKIFF_WHAT_ROW = 0,    /* a row was skipped, decoded or written; or a value table is one, and
+                              then all other numbers are 0 too */
     SKIFF_WHAT_END = 1,    /* the position is the input's length, or the run came to it */
     SKIFF_WHAT_REFUSAL = 2 /* refused; a run then has the rows and bytes before */
 };
@@ -208,6 +213,32 @@ uint32_t skiff_run_window(uint64_t node_charge, uint64_t max_blob_bytes, uint64_
                           const uint8_t *window, size_t window_len,
                           uint64_t rows, uint64_t bytes,
                           uint8_t *answer, size_t answer_len);
+
+/*
+ * The row that a value table is, written at `position` of `output` under one schema: `count` records of the
+ * record table from record `first` on, a tuple whose columns have names. The row begins with the tag of table
+ * 0. Refused, it has written nothing to the output; accepted, no other byte of it. Refused are in this order:
+ * settings, slices and position; the schema; SKIFF_BAD_VALUE_TABLE for the whole value table; the row, value by
+ * value; and last SKIFF_NO_OUTPUT_ROOM, which carries the row's bytes. Of the output only the first
+ * 4,294,967,295 bytes count. Nothing is charged, so node_charge and max_row_bytes need only be in bounds.
+ */
+uint32_t skiff_encode(uint64_t node_charge, uint64_t max_blob_bytes, uint64_t max_row_bytes,
+                      const uint8_t *records, size_t records_len,
+                      const uint8_t *names, size_t names_len,
+                      uint64_t first, uint64_t count,
+                      const uint8_t *value_records, size_t value_records_len,
+                      const uint8_t *payload, size_t payload_len,
+                      uint8_t *output, size_t output_len,
+                      uint64_t position,
+                      uint8_t *answer, size_t answer_len);
+
+/*
+ * Whether value records and payload are exactly one value, as skiff_decode writes it: SKIFF_BAD_VALUE_TABLE
+ * where they are not.
+ */
+uint32_t skiff_check_value_table(const uint8_t *value_records, size_t value_records_len,
+                                 const uint8_t *payload, size_t payload_len,
+                                 uint8_t *answer, size_t answer_len);
 
 #ifdef __cplusplus
 }

@@ -32,6 +32,8 @@ use Rattle.skiff.proofs.reading.skiff1_skip as skiff1-skip
 use Rattle.skiff.proofs.reading.skiff1_run as skiff1-run
 use Rattle.skiff.proofs.reading.skiff1_decode as skiff1-decode
 use Rattle.skiff.proofs.window.skiff1_run_window as skiff1-run-window
+use Rattle.skiff.proofs.writing.skiff1_encode as skiff1-encode
+use Rattle.skiff.proofs.writing.skiff1_check_value_table as skiff1-check-value-table
 
 -- one result
 abbrev pub OneAnswer : {n : ℕ} (ps : List (PK n)) (r : RK n) → Out n ps r → Type 0
@@ -118,3 +120,9 @@ skiff1-run-window-one-answer κs a x y s t p q = (ap (λ g. g .number) (p ∙ sy
 
 pub skiff1-decode-one-answer : OneOutcome skiff1-decode.Kinds.ps skiff1-decode.Kinds.r (λ κs (charge, (blob, (row, (table, (names, (references, (registry, (input, (position, (records, (payload, (answer, _)))))))))))). answer .now ∷ records .now ∷ payload .now ∷ []) skiff1-decode.Reads.Post
 skiff1-decode-one-answer κs a x y s t p q = (ap (λ g. g .number) (p ∙ sym q), ap (λ g. g .answer ∷ g .records ∷ g .payload ∷ []) (p ∙ sym q))
+
+pub skiff1-encode-one-answer : OneOutcome skiff1-encode.Kinds.ps skiff1-encode.Kinds.r (λ κs (charge, (blob, (row, (table, (names, (first, (count, (records, (payload, (output, (position, (answer, _)))))))))))). answer .now ∷ output .now ∷ []) skiff1-encode.Reads.Post
+skiff1-encode-one-answer κs a x y s t p q = (ap (λ g. g .number) (p ∙ sym q), ap (λ g. g .answer ∷ g .output ∷ []) (p ∙ sym q))
+
+pub skiff1-check-value-table-one-answer : OneOutcome skiff1-check-value-table.Kinds.ps skiff1-check-value-table.Kinds.r (λ κs (records, (payload, (answer, _))). answer .now ∷ []) skiff1-check-value-table.Reads.Post
+skiff1-check-value-table-one-answer κs a x y s t p q = (ap (λ g. g .number) (p ∙ sym q), ap (λ g. g .answer ∷ []) (p ∙ sym q))

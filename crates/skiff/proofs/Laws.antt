@@ -9,12 +9,14 @@ use lib.ListN.{length, length-append}
 use Rattle.rules.specs.Choice.{pick}
 use Rattle.rules.specs.Bytes.{le, over}
 use Rattle.rules.specs.Reading.{Decoded, untouched}
+use Rattle.rules.specs.Writing.{Encoded}
 use Rattle.rules.specs.declared.answer.Read.{Read}
+use Rattle.rules.specs.declared.answer.Written.{Written}
 use Rattle.rules.proofs.Over.{over-at}
 use Rattle.rules.proofs.Stands.{length-le}
 use Rattle.skiff.specs.declared.answer.AnswerNumbers.{AnswerNumbers}
-use Rattle.skiff.specs.Answers.{words, answerLayout, answerOfRead}
-use Rattle.skiff.specs.Calls.{given, givenRow}
+use Rattle.skiff.specs.Answers.{words, answerLayout, answerOfRead, answerOfWritten}
+use Rattle.skiff.specs.Calls.{given, givenRow, givenOutput}
 
 -- ---- numbers, one after another
 
@@ -76,3 +78,14 @@ pub room-row : (x : Read) (d : Decoded) (a : AnswerNumbers) (s s′ rs rs′ ps 
     record { number = n; answer = s′; records = rs′; payload = ps′ } ≡ givenRow s d rs ps
 unfolding givenRow pick
 room-row x d a s s′ rs rs′ ps ps′ n h p q g = rw (← q, ← p, le-leb 88 (length s) h, g .0, g .1)
+
+-- ---- what encode gives: the output too
+
+pub short-output : (s : List ℕ) (e : Encoded) (out : List ℕ) → length s < 88 → record { number = 1; answer = s; output = out } ≡ givenOutput s e out
+unfolding givenOutput pick
+short-output s e out h = rw (lt-leb 88 (length s) h)
+
+pub room-output : (x : Written) (e : Encoded) (a : AnswerNumbers) (s s′ out out′ : List ℕ) (n : ℕ) → 88 ≤ length s → a ≡ answerOfWritten x → record { answer = x; output = out′ } ≡ e → (n ≡ a .why .number) × (s′ ≡ over s 0 (answerLayout a)) →
+    record { number = n; answer = s′; output = out′ } ≡ givenOutput s e out
+unfolding givenOutput pick
+room-output x e a s s′ out out′ n h p q g = rw (← q, ← p, le-leb 88 (length s) h, g .0, g .1)

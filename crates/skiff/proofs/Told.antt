@@ -1,4 +1,4 @@
--- An answer in numbers, by what was read or why a run stopped.
+-- An answer in numbers, by what was read, written or checked, or why a run stopped.
 -- Assumes nothing.
 use Prim.Native.Nat.{ℕ}
 use mathlib.Core.Path.{_≡_}
@@ -10,14 +10,31 @@ use Rattle.rules.specs.declared.answer.Extent.{Extent}
 use Rattle.rules.specs.declared.refusal.Refusal.{Refusal}
 use Rattle.rules.specs.declared.answer.Read.{Read}
 use Rattle.rules.specs.declared.answer.Read.the-variants as read
+use Rattle.rules.specs.declared.answer.Written.{Written}
+use Rattle.rules.specs.declared.answer.Written.the-variants as written
+use Rattle.rules.specs.declared.answer.Checked.{Checked}
+use Rattle.rules.specs.declared.answer.Checked.the-variants as checked
 use Rattle.rules.specs.declared.answer.Stop.{Stop}
 use Rattle.rules.specs.declared.answer.Stop.the-variants as stop
 use Rattle.skiff.specs.declared.answer.AnswerNumbers.{AnswerNumbers}
-use Rattle.skiff.specs.Answers.{noRefusal, extentOfBytes, answerOfRead, answerOfRan, whatOf, whyOf, answerOfWindow}
+use Rattle.skiff.specs.Answers.{noRefusal, extentOfBytes, answerOfRead, answerOfWritten, answerOfChecked, answerOfRan, whatOf, whyOf, answerOfWindow}
 
 pub told-row : (w : Report) (x : Read) (e : Extent) → x ≡ read.Row e → w ≡ noRefusal → record { what = 0; why = w; rows = 1; row = e } ≡ answerOfRead x
 unfolding answerOfRead
 told-row w x e p q = rw (p, q)
+
+module _ (a : AnswerNumbers) where
+  pub written-row : (x : Written) (e : Extent) → x ≡ written.Row e → a ≡ answerOfRead (read.Row e) → a ≡ answerOfWritten x
+  unfolding answerOfWritten
+  written-row x e p q = rw p q
+
+  pub written-refused : (x : Written) (r : Refusal) → x ≡ written.Refused r → a ≡ answerOfRead (read.Refused r) → a ≡ answerOfWritten x
+  unfolding answerOfWritten
+  written-refused x r p q = rw p q
+
+  pub checked-refused : (x : Checked) (r : Refusal) → x ≡ checked.Refused r → a ≡ answerOfRead (read.Refused r) → a ≡ answerOfChecked x
+  unfolding answerOfChecked
+  checked-refused x r p q = rw p q
 
 module _ (w : Report) (n : Extent) where
   pub told-end : (x : Read) → x ≡ read.End → w ≡ noRefusal → n ≡ extentOfBytes 0 → record { what = 1; why = w; rows = 0; row = n } ≡ answerOfRead x
@@ -27,6 +44,10 @@ module _ (w : Report) (n : Extent) where
   pub told-refused : (x : Read) (r : Refusal) → x ≡ read.Refused r → w ≡ reportOf r → n ≡ extentOfBytes 0 → record { what = 2; why = w; rows = 0; row = n } ≡ answerOfRead x
   unfolding answerOfRead
   told-refused x r p q m = rw (p, q, m)
+
+  pub checked-accepted : (x : Checked) → x ≡ checked.Accepted → w ≡ noRefusal → n ≡ extentOfBytes 0 → record { what = 0; why = w; rows = 0; row = n } ≡ answerOfChecked x
+  unfolding answerOfChecked
+  checked-accepted x p q m = rw (p, q, m)
 
   pub ran-end : (x : Stop) (rows bytes : ℕ) → x ≡ stop.End → w ≡ noRefusal → n ≡ extentOfBytes bytes → record { what = 1; why = w; rows = rows; row = n } ≡ answerOfRan (record { rows = rows; bytes = bytes; stop = x })
   unfolding answerOfRan whatOf whyOf

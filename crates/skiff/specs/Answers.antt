@@ -10,6 +10,10 @@ use Rattle.rules.specs.declared.refusal.Report.{Report}
 use Rattle.rules.specs.declared.answer.Extent.{Extent}
 use Rattle.rules.specs.declared.answer.Read.{Read}
 use Rattle.rules.specs.declared.answer.Read.the-variants.{Row, End, Refused}
+use Rattle.rules.specs.declared.answer.Written.{Written}
+use Rattle.rules.specs.declared.answer.Written.the-variants as written
+use Rattle.rules.specs.declared.answer.Checked.{Checked}
+use Rattle.rules.specs.declared.answer.Checked.the-variants as checked
 use Rattle.rules.specs.declared.answer.Ran.{Ran}
 use Rattle.rules.specs.declared.answer.Stop.{Stop}
 use Rattle.rules.specs.declared.answer.Stop.the-variants as stop
@@ -42,6 +46,16 @@ unfoldable pub answerOfRead : Read → AnswerNumbers
 answerOfRead (Row e) = record { what = 0; why = noRefusal; rows = 1; row = e }
 answerOfRead End = record { what = 1; why = noRefusal; rows = 0; row = extentOfBytes 0 }
 answerOfRead (Refused r) = record { what = 2; why = reportOf r; rows = 0; row = extentOfBytes 0 }
+
+-- a row that was written is told as one that was read
+unfoldable pub answerOfWritten : Written → AnswerNumbers
+answerOfWritten (written.Row e) = answerOfRead (Row e)
+answerOfWritten (written.Refused r) = answerOfRead (Refused r)
+
+-- what a check accepts is told by zeros alone, what it refuses as ever
+unfoldable pub answerOfChecked : Checked → AnswerNumbers
+answerOfChecked checked.Accepted = record { what = 0; why = noRefusal; rows = 0; row = extentOfBytes 0 }
+answerOfChecked (checked.Refused r) = answerOfRead (Refused r)
 
 unfoldable pub whatOf : Stop → ℕ
 whatOf stop.End = 1

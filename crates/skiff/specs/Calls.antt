@@ -8,10 +8,12 @@ use Rattle.rules.specs.Choice.{pick}
 use Rattle.rules.specs.Bytes.{over}
 use Rattle.rules.specs.Format.{Format}
 use Rattle.rules.specs.Reading.{skipRule, runRule, ranOf, Decoded, decodeRule}
+use Rattle.rules.specs.Writing.{Encoded, encodeRule}
+use Rattle.rules.specs.ValueCheck.{valueTableRule}
 use Rattle.rules.specs.Windows.{runAfter}
 use Rattle.rules.specs.declared.settings.Settings.{Settings}
 use Rattle.skiff.specs.declared.answer.AnswerNumbers.{AnswerNumbers}
-use Rattle.skiff.specs.Answers.{answerLayout, answerOfRead, answerOfRan, answerOfWindow}
+use Rattle.skiff.specs.Answers.{answerLayout, answerOfRead, answerOfRan, answerOfWindow, answerOfWritten, answerOfChecked}
 
 abbrev pub settingsOf : ℕ → ℕ → ℕ → Settings
 settingsOf charge blob row = record { «node_charge» = charge; «max_blob_bytes» = blob; «max_row_bytes» = row }
@@ -35,6 +37,9 @@ runGiven f s inp slice = given slice (answerOfRan (ranOf (runRule f s inp)))
 unfoldable pub runWindowGiven : Format → Settings → List ℕ → ℕ → ℕ → List ℕ → Given
 runWindowGiven f s window rows bytes slice = given slice (answerOfWindow (runAfter f s rows bytes window))
 
+unfoldable pub checkValueTableGiven : List ℕ → List ℕ → List ℕ → Given
+checkValueTableGiven rs ps slice = given slice (answerOfChecked (valueTableRule rs ps))
+
 -- decode's two slices too
 pub record GivenRow : Type 0 where
   pub number : ℕ
@@ -52,3 +57,20 @@ givenRow slice d rs ps =
 
 unfoldable pub decodeGiven : Format → Settings → List ℕ → ℕ → List ℕ → List ℕ → List ℕ → GivenRow
 decodeGiven f s inp at slice rs ps = givenRow slice (decodeRule f s inp at rs ps) rs ps
+
+-- encode's output too
+pub record GivenOutput : Type 0 where
+  pub number : ℕ
+  pub answer : List ℕ
+  pub output : List ℕ
+
+-- it is as encode leaves it, but stays where there is no room for an answer
+unfoldable pub givenOutput : List ℕ → Encoded → List ℕ → GivenOutput
+givenOutput slice e out =
+    let a = answerOfWritten (e .answer) in
+    pick (leb 88 (length slice))
+    (record { number = a .why .number; answer = over slice 0 (answerLayout a); output = e .output })
+    (record { number = 1; answer = slice; output = out })
+
+unfoldable pub encodeGiven : Settings → List ℕ → List ℕ → ℕ → ℕ → List ℕ → List ℕ → List ℕ → ℕ → List ℕ → GivenOutput
+encodeGiven s table names first n rs ps out at slice = givenOutput slice (encodeRule s table names first n rs ps out at) out

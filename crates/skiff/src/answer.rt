@@ -4,17 +4,19 @@ ghost use Prim.Native.Nat.{_+_, _≤_};
 ghost use mathlib.Core.List.{_∷_, []};
 ghost use lib.ListN.{length};
 ghost use Rattle.rules.specs.Bytes.{over};
-ghost use Rattle.skiff.specs.Answers.{words, answerLayout, noRefusal, extentOfBytes, answerOfRead, answerOfRan};
+ghost use Rattle.skiff.specs.Answers.{words, answerLayout, noRefusal, extentOfBytes, answerOfRead, answerOfRan, answerOfWritten, answerOfChecked};
+use rules::Checked;
 use rules::Extent;
 use rules::Read;
 use rules::Report;
 use rules::Stop;
+use rules::Written;
 use wire::store::put64;
 
 // The bytes of an answer.
 pub const ANSWER: usize = 88;
 
-// An answer in numbers: 0 a row, 1 an end, 2 a refusal; why it is refused; the rows, and what they or the one row take.
+// An answer in numbers: 0 a row or what is accepted, 1 an end, 2 a refusal; why it is refused; the rows, and what they or the one row take.
 pub struct AnswerNumbers {
     pub what: u64,
     pub why: Report,
@@ -70,6 +72,31 @@ pub fn answer_of_read(answer: Read) -> AnswerNumbers
             rows: 0,
             row: extent_of_bytes(0),
         },
+    }
+}
+
+// A row that was written, in numbers: as one that was read.
+pub fn answer_of_written(answer: Written) -> AnswerNumbers
+    ensures { λ r. ⌜ r ≡ answerOfWritten answer ⌝ }
+{
+    match answer {
+        Written::Row(row) => answer_of_read(Read::Row(row)),
+        Written::Refused(refusal) => answer_of_read(Read::Refused(refusal)),
+    }
+}
+
+// A check in numbers: all are 0 where nothing is refused.
+pub fn answer_of_checked(answer: Checked) -> AnswerNumbers
+    ensures { λ r. ⌜ r ≡ answerOfChecked answer ⌝ }
+{
+    match answer {
+        Checked::Accepted => AnswerNumbers {
+            what: 0,
+            why: no_refusal(),
+            rows: 0,
+            row: extent_of_bytes(0),
+        },
+        Checked::Refused(refusal) => answer_of_read(Read::Refused(refusal)),
     }
 }
 

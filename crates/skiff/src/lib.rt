@@ -2,3 +2,4 @@
 pub mod answer;
 pub mod reading;
 pub mod window;
+pub mod writing;

@@ -54,15 +54,10 @@ impl Report {
         Self::of_skip(&encoded.map(Skipped::Row))
     }
 
-    /// An accepted value table is told by its records and its payload bytes; it is no row yet.
-    pub fn of_value_table(checked: &Checked, records: &[u8], payload: &[u8]) -> Self {
+    /// An accepted value table is told by zeros alone; it is no row yet.
+    pub fn of_value_table(checked: &Checked) -> Self {
         match checked {
-            Ok(()) => Self {
-                what: what::ROW,
-                records: records.len() as u64 / 16,
-                payload: payload.len() as u64,
-                ..Self::default()
-            },
+            Ok(()) => Self { what: what::ROW, ..Self::default() },
             Err(refusal) => Self::of_refusal(refusal),
         }
     }
