@@ -1,3 +1,4 @@
+pub mod Rooms
 pub mod OneAnswer
 pub mod Steps
-pub mod Decoding
+pub mod Demand3
