@@ -1,21 +1,23 @@
 -- Demand 3 on the calls: what follows of whatever answer, and whatever later contents of the lent slices, meet the contracts of encode,
 -- next_row and skip_row. All else in a statement is from the written rules (crates/rules/specs).
 -- Assumes nothing.
-use Prim.Native.Nat.{ℕ, _<_}
+use Prim.Native.Nat.{ℕ, _+_, _≤_, _<_}
 use mathlib.Core.Path.{_≡_, sym, ap, _∙_}
 use mathlib.Core.List.{List}
 use mathlib.Core.Logic.{_↔_}
+use lib.ListN.{length, take}
 use contract.Lifetimes.{Lfts}
 use borrow.Fn.Kinds.{endedOf}
 use denote.Ref.{RefT}
 use denote.Triple.Clauses.{AtExit}
-use Rattle.rules.specs.Bytes.{Bytes, part}
+use Rattle.rules.specs.Bytes.{Bytes, Stands, part}
 use Rattle.rules.specs.Answers.{Said, rowSaid, readSaid, writtenSaid}
 use Rattle.rules.specs.Format.{Format}
 use Rattle.rules.specs.Value.{Value}
+use Rattle.rules.specs.ValueRecord.{valueRecordStart}
 use Rattle.rules.specs.ValueTable.{TableOf}
-use Rattle.rules.specs.Reading.{limits, schemaOf, Decoded, decodeRule, roomTest, untouched, NoRow, LeavesRow}
-use Rattle.rules.specs.Writing.{Encoded}
+use Rattle.rules.specs.Reading.{limits, schemaOf, Decoded, decodeRule, room, recordRoom, roomTest, untouched, NoRow, LeavesRow}
+use Rattle.rules.specs.Writing.{Encoded, encodeFrom}
 use Rattle.rules.specs.RoundTrip.{EncodeAsked, Encodable, encodedInto, EncodeRefuses, ReadAsked, decodedAs}
 use Rattle.rules.specs.declared.settings.Settings.{Settings}
 use Rattle.rules.specs.declared.answer.Extent.{Extent}
@@ -118,3 +120,32 @@ module _ (κs : Lfts 7) (settings : Settings) (table names references registry i
       answer ≡ roomTest position (records .now) (payload .now) skip
   skip-is-decode κs′ skip t p =
       ap (λ (d : Decoded). d .answer) met ∙ (rules.skip-is-decode position (records .now) (payload .now) (format table names references registry) settings (input .now) ∙ ap (roomTest position (records .now) (payload .now)) (sym p))
+
+  -- A row of table 0, whose table is encoded again under the same settings and with room:
+  module _ (bs : Bytes (input .now)) (e : Extent) (row : readSaid answer ≡ rowSaid e) (zero : e .table ≡ 0)
+      (table′ names′ : RefT (List ℕ)) (same-table : table′ .now ≡ table .now) (same-names : names′ .now ≡ names .now) (first count : ℕ) (records′ payload′ output : RefT (List ℕ)) (place : ℕ)
+      (its-records : records′ .now ≡ take (valueRecordStart (e .records)) (decoded κs answer s .records)) (its-payload : payload′ .now ≡ take (e .payload) (decoded κs answer s .payload))
+      (asked : EncodeAsked (format table names references registry) settings first count (records′ .now) (payload′ .now) (output .now) place) (fits : place + e .bytes ≤ room (output .now))
+      (κs′ : Lfts 5) (written : Written) (t : AtExit (endedOf 5 encode.Kinds.ps encode.Kinds.r) κs′)
+      (wrote : encode.Reads.Post κs′ (settings, (table′, (names′, (first, (count, (records′, (payload′, (output, (place, tt))))))))) written t) where
+    rule-wrote : encoded κs′ written t ≡ encodeFrom (format table names references registry) settings first count (records′ .now) (payload′ .now) (output .now) place
+    rule-wrote = rw (same-table, same-names) at wrote
+
+    -- whatever meets encode's contract answers that row, with its very counts,
+    pub encodes-again : written ≡ Written.Row e
+    encodes-again =
+        ap (λ (d : Encoded). d .answer) rule-wrote ∙ rules.encodes-again (format table names references registry) settings (input .now) position (records .now) (payload .now) bs e (rw (ap (λ (d : Decoded). d .answer) met) at row) zero
+        first count (records′ .now) (payload′ .now) (output .now) place (rw (ap (λ (d : Decoded). d .records) met) at its-records) (rw (ap (λ (d : Decoded). d .payload) met) at its-payload) asked fits
+
+    -- and whatever meets next_row's contract on its bytes, anywhere in a stream, leaves the same table.
+    pub reads-again : (table″ names″ references″ registry″ input″ : RefT (List ℕ)) (place″ : ℕ) (records″ payload″ : RefT (List ℕ)) →
+        format table″ names″ references″ registry″ ≡ format table names references registry →
+        Stands (input″ .now) place″ (part (encoded κs′ written t .output) place (e .bytes)) → length (input″ .now) ≤ 4294967295 →
+        e .records ≤ recordRoom (records″ .now) → e .payload ≤ room (payload″ .now) →
+        (κs″ : Lfts 7) (read : Read) (u : AtExit (endedOf 7 next-row.Kinds.ps next-row.Kinds.r) κs″) →
+        next-row.Reads.Post κs″ (settings, (table″, (names″, (references″, (registry″, (input″, (place″, (records″, (payload″, tt))))))))) read u →
+        decoded κs″ read u ≡ decodedAs e (records′ .now) (payload′ .now) (records″ .now) (payload″ .now)
+    reads-again table″ names″ references″ registry″ input″ place″ records″ payload″ same stands short nodes enough κs″ read u p =
+        p ∙ rw same (rules.reads-again (format table names references registry) settings (input .now) position (records .now) (payload .now) bs e (rw (ap (λ (d : Decoded). d .answer) met) at row) zero
+        first count (records′ .now) (payload′ .now) (output .now) place (rw (ap (λ (d : Decoded). d .records) met) at its-records) (rw (ap (λ (d : Decoded). d .payload) met) at its-payload) asked fits
+        (input″ .now) place″ (records″ .now) (payload″ .now) (rw (ap (λ (d : Encoded). d .output) rule-wrote) at stands) short nodes enough)

@@ -1,14 +1,11 @@
 -- A row that passes the test of room was a row before it.
 -- Assumes nothing.
 use Prim.Native.Nat.{ℕ}
-use mathlib.Core.Path.{_≡_, refl}
+use mathlib.Core.Path.{_≡_}
 use mathlib.Core.Bool.{Bool, true, false}
 use mathlib.Core.List.{List}
-use lib.Dec.{leb}
 use Rattle.rules.specs.Choice.{pick}
-use Rattle.rules.specs.Refusals.{NoNodeRoom, NoPayloadRoom}
-use Rattle.rules.specs.ValueRecord.{valueRecordsIn}
-use Rattle.rules.specs.Reading.{room, roomFor, roomTest, NoRow}
+use Rattle.rules.specs.Reading.{roomFor, roomTest, NoRow}
 use Rattle.rules.specs.declared.refusal.Refusal.{Refusal}
 use Rattle.rules.specs.declared.answer.Extent.{Extent}
 use Rattle.rules.specs.declared.answer.Read.{Read}

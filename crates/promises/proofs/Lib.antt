@@ -1,4 +1,5 @@
 pub mod Apart
 pub mod Tables
 pub mod RoundTrip
+pub mod Again
 pub mod Promises

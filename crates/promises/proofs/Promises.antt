@@ -6,8 +6,8 @@ use mathlib.Core.Path.{_≡_}
 use mathlib.Core.Bool.{Bool}
 use mathlib.Core.List.{List, _++_, map}
 use mathlib.Core.Logic.{_↔_}
-use lib.ListN.{length, drop}
-use Rattle.rules.specs.Bytes.{Bytes, part}
+use lib.ListN.{length, take, drop}
+use Rattle.rules.specs.Bytes.{Bytes, Stands, part}
 use Rattle.rules.specs.Answers.{Said, said, rowSaid, readSaid, stopSaid, writtenSaid, checkedSaid}
 use Rattle.rules.specs.Schema.{Schema, deep, nodes}
 use Rattle.rules.specs.Block.{records, blockTree, Denotes, Formed, blockOk, Ordered}
@@ -15,10 +15,11 @@ use Rattle.rules.specs.SchemaRules.{schemaRule, ruleAt, firstOf, preorder}
 use Rattle.rules.specs.Format.{Format, tables, tableSchema, formatRule, formatRules, schemaAnswer, encoderRule}
 use Rattle.rules.specs.Good.{GoodSchema, GoodTable, GoodFormat, TableSchema}
 use Rattle.rules.specs.Value.{Value}
+use Rattle.rules.specs.ValueRecord.{valueRecordStart}
 use Rattle.rules.specs.ValueTable.{TableOf, Whole, tableEnd, tableValue}
 use Rattle.rules.specs.Grammar.{Row}
 use Rattle.rules.specs.Walk.{Limits, Pos, Got, Refused}
-use Rattle.rules.specs.Reading.{limits, rowAt, schemaOf, Accepts, skipRule, roomTest, untouched, decodeRule, NoRow, LeavesRow, runRule, Iterated, byteCount, ranOf}
+use Rattle.rules.specs.Reading.{limits, rowAt, schemaOf, Accepts, skipRule, room, recordRoom, roomTest, untouched, decodeRule, NoRow, LeavesRow, runRule, Iterated, byteCount, ranOf}
 use Rattle.rules.specs.Reasons.{RowReason, RowJudged}
 use Rattle.rules.specs.Windows.{movedAnswer, WasCut, goesOn, continued, added, runAfter}
 use Rattle.rules.specs.Writing.{encodeRule, encodeFrom}
@@ -55,6 +56,7 @@ use Rattle.value_laws.proofs.Flat as values
 use Rattle.promises.proofs.Apart.{refusals-apart, reads-apart, stops-apart, writings-apart, checks-apart}
 use Rattle.promises.proofs.Tables.{table-encodes, decoded-row, decoded-none}
 use Rattle.promises.proofs.RoundTrip.{encoded-when, encoded-as, refused-leaves, refused-in-order, reads-back}
+use Rattle.promises.proofs.Again as again
 
 -- ---- the document's own examples: its table of rows, computed on the rules of the whole calls
 pub the-documents-rows : map outcome lines ≡ outcomes
@@ -227,6 +229,20 @@ decoded-conforms = decoded-row
 pub decode-leaves-alone : (f : Format) (s : Settings) (inp : List ℕ) (at : ℕ) (rs ps : List ℕ) → NoRow (decodeRule f s inp at rs ps .answer) →
     decodeRule f s inp at rs ps ≡ untouched (decodeRule f s inp at rs ps .answer) rs ps
 decode-leaves-alone = decoded-none
+
+-- A row of table 0 that was decoded, and whose table is encoded again under the same limits and with room:
+module _ (f : Format) (s : Settings) (inp : List ℕ) (at : ℕ) (rs ps : List ℕ) (bs : Bytes inp) (e : Extent)
+    (read : readSaid (decodeRule f s inp at rs ps .answer) ≡ rowSaid e) (zero : e .table ≡ 0) (first n : ℕ) (recs pay out : List ℕ) (place : ℕ)
+    (records : recs ≡ take (valueRecordStart (e .records)) (decodeRule f s inp at rs ps .records)) (payload : pay ≡ take (e .payload) (decodeRule f s inp at rs ps .payload))
+    (asked : EncodeAsked f s first n recs pay out place) (fits : place + e .bytes ≤ room out) where
+  -- encode answers that row, with its very counts,
+  pub encodes-again : encodeFrom f s first n recs pay out place .answer ≡ Written.Row e
+  encodes-again = again.encodes-again f s inp at rs ps bs e read zero first n recs pay out place records payload asked fits
+
+  -- and its bytes, as they stand in the output, decode anywhere in a stream to the same table.
+  pub reads-again : (inp′ : List ℕ) (at′ : ℕ) (rs′ ps′ : List ℕ) → Stands inp′ at′ (part (encodeFrom f s first n recs pay out place .output) place (e .bytes)) → length inp′ ≤ 4294967295 →
+      e .records ≤ recordRoom rs′ → e .payload ≤ room ps′ → decodeRule f s inp′ at′ rs′ ps′ ≡ decodedAs e recs pay rs′ ps′
+  reads-again = again.reads-again f s inp at rs ps bs e read zero first n recs pay out place records payload asked fits
 
 -- skip gives the same table, length or refusal as decode, which adds only the two refusals for room
 pub skip-is-decode : (at : ℕ) (rs ps : List ℕ) (f : Format) (s : Settings) (inp : List ℕ) →

@@ -90,6 +90,12 @@ written-first xs s n e h =
     let o : over s 0 xs ≡ xs ++ drop (length xs) s = rw z at (over-is xs s 0 (omega arith)) in
     rw (e, o) (take-append-seam xs (drop (length xs) s), drop-append-seam xs (drop (length xs) s))
 
+-- What decode leaves of a row, and that the row's counts are its value's.
+pub record Held (f : Format) (inp : List ℕ) (lim : Limits) (at : ℕ) (rs ps : List ℕ) (e : Extent) (d : Decoded) : Type 0 where
+  pub left : LeavesRow f inp lim at rs ps e d
+  pub records : recordsOf (left .value) ≡ e .records
+  pub payload : payloadOf (left .value) ≡ e .payload
+
 module _ (f : Format) (inp : List ℕ) (lim : Limits) (at : ℕ) where
   -- a row of an accepted format that stands somewhere is one of a value that has a table
   decoded-table : {t : ℕ} {v : Value} {q : Pos} → formatRules f ≡ Accepted → Accepts f inp lim at t v q → TableOf v (flat v 0 0) (payloadBytes v)
@@ -108,32 +114,39 @@ module _ (f : Format) (inp : List ℕ) (lim : Limits) (at : ℕ) where
       record { bytes = a .bytes; is = a .is; stands = a .stands; within = a .within; afford = a .afford; ends = rw z }
 
   module _ (rs ps : List ℕ) where
-    row-left : {t : ℕ} {v : Value} {q : Pos} → formatRules f ≡ Accepted → Accepts f inp lim at t v q → recordsOf v ≤ recordRoom rs → payloadOf v ≤ room ps →
-        LeavesRow f inp lim at rs ps (extent at t q) (record { answer = Row (extent at t q); records = over rs 0 (flat v 0 0); payload = over ps 0 (payloadBytes v) })
+    row-held : {t : ℕ} {v : Value} {q : Pos} → formatRules f ≡ Accepted → Accepts f inp lim at t v q → recordsOf v ≤ recordRoom rs → payloadOf v ≤ room ps →
+        Held f inp lim at rs ps (extent at t q) (record { answer = Row (extent at t q); records = over rs 0 (flat v 0 0); payload = over ps 0 (payloadBytes v) })
     unfolding extent room
-    row-left {t} {v} {q} ok a m n =
+    row-held {t} {v} {q} ok a m n =
         let c = counted f inp lim at rs ps a in
         let w = decoded-table ok a in
         let x = written-first (flat v 0 0) rs (valueRecordStart (q .records)) (rw (length-flat v 0 0, c .0)) (rw (length-flat v 0 0) (omega arith)) in
         let y = written-first (payloadBytes v) ps (q .payload) (rw (length-pays v, c .1)) (rw (length-pays v) (omega arith)) in
         record {
-          value = v;
-          stands = row-ends a;
-          table = record { rows = x .0; payload = y .0; fits = w .fits; depth = w .depth };
-          conforms = accepts-conforms f inp lim at a .0;
-          records-rest = x .1;
-          payload-rest = y .1;
+          left = record {
+            value = v;
+            stands = row-ends a;
+            table = record { rows = x .0; payload = y .0; fits = w .fits; depth = w .depth };
+            conforms = accepts-conforms f inp lim at a .0;
+            records-rest = x .1;
+            payload-rest = y .1;
+          };
+          records = sym (c .0);
+          payload = sym (c .1);
         }
 
 module _ (f : Format) (s : Settings) (inp : List ℕ) (at : ℕ) (rs ps : List ℕ) (bs : Bytes inp) where
+  pub decoded-held : (e : Extent) → readSaid (decodeRule f s inp at rs ps .answer) ≡ rowSaid e → Held f inp (limits s) at rs ps e (decodeRule f s inp at rs ps)
+  unfolding NoRow
+  decoded-held e h = by (decode-leaves f s inp at rs ps bs) (read-row _ e h)
+    where
+      by : {d : Decoded} → Leaves f inp (limits s) at rs ps d → d .answer ≡ Row e → Held f inp (limits s) at rs ps e d
+      by (row-written {t} {v} {q} ok a m n) h = let z : extent at t q ≡ e = cc in rw (← z) (row-held f inp (limits s) at rs ps ok a m n)
+      by (unchanged {a} n) h = absurd (rw h at n)
+
   -- where decode answers a row, the slices hold the table of its value
   pub decoded-row : (e : Extent) → readSaid (decodeRule f s inp at rs ps .answer) ≡ rowSaid e → LeavesRow f inp (limits s) at rs ps e (decodeRule f s inp at rs ps)
-  unfolding NoRow
-  decoded-row e h = by (decode-leaves f s inp at rs ps bs) (read-row _ e h)
-    where
-      by : {d : Decoded} → Leaves f inp (limits s) at rs ps d → d .answer ≡ Row e → LeavesRow f inp (limits s) at rs ps e d
-      by (row-written {t} {v} {q} ok a m n) h = let z : extent at t q ≡ e = cc in rw (← z) (row-left f inp (limits s) at rs ps ok a m n)
-      by (unchanged {a} n) h = absurd (rw h at n)
+  decoded-row e h = decoded-held e h .left
 
 -- ---- where decode answers no row, both slices are as before
 module _ (f : Format) (s : Settings) (inp : List ℕ) (at : ℕ) (rs ps : List ℕ) where
