@@ -12,7 +12,7 @@ use denote.Ref.{RefT}
 use denote.Triple.Clauses.{AtExit}
 use Rattle.rules.specs.Bytes.{Bytes, Stands, part}
 use Rattle.rules.specs.Answers.{Said, rowSaid, readSaid, writtenSaid}
-use Rattle.rules.specs.Format.{Format}
+use Rattle.rules.specs.Format.{Format, tables, formatRule}
 use Rattle.rules.specs.Value.{Value}
 use Rattle.rules.specs.ValueRecord.{valueRecordStart}
 use Rattle.rules.specs.ValueTable.{TableOf}
@@ -20,6 +20,7 @@ use Rattle.rules.specs.Reading.{limits, schemaOf, Decoded, decodeRule, room, re
 use Rattle.rules.specs.Writing.{Encoded, encodeFrom}
 use Rattle.rules.specs.RoundTrip.{EncodeAsked, Encodable, encodedInto, EncodeRefuses, ReadAsked, decodedAs}
 use Rattle.rules.specs.declared.settings.Settings.{Settings}
+use Rattle.rules.specs.declared.answer.Checked.{Checked}
 use Rattle.rules.specs.declared.answer.Extent.{Extent}
 use Rattle.rules.specs.declared.answer.Read.{Read}
 use Rattle.rules.specs.declared.answer.Written.{Written}
@@ -74,15 +75,17 @@ module _ (κs : Lfts 5) (settings : Settings) (table names : RefT (List ℕ)) (f
     encoded-canonically h =
         met ∙ rules.encoded-canonically (format table names references registry) settings first count (records .now) (payload .now) (output .now) position asked v is (rw (ap (λ (d : Encoded). d .answer) met) at h)
 
-    -- Those bytes, as they stand in the output, anywhere in a stream of a format with the same tables:
+    -- Those bytes, as they stand in the output, anywhere in a stream of a checked format whose table 0 has that schema:
     module _ (e : Extent) (yes : writtenSaid answer ≡ rowSaid e) (settings′ : Settings) (table′ names′ references′ registry′ input : RefT (List ℕ)) (place : ℕ) (records′ payload′ : RefT (List ℕ))
-        (same : format table′ names′ references′ registry′ ≡ format table names references registry)
+        (checked : formatRule (format table′ names′ references′ registry′) ≡ Checked.Accepted) (below : 0 < tables (format table′ names′ references′ registry′))
+        (same : schemaOf (format table′ names′ references′ registry′) 0 ≡ schemaOf (format table names references registry) 0)
         (ask : ReadAsked settings settings′ v e (part (encoded κs answer s .output) position (e .bytes)) (input .now) place (records′ .now) (payload′ .now)) where
       -- the rule reads them back
       rule-reads-back : decodeRule (format table′ names′ references′ registry′) settings′ (input .now) place (records′ .now) (payload′ .now) ≡ decodedAs e (records .now) (payload .now) (records′ .now) (payload′ .now)
       rule-reads-back =
-          rw same (rules.decodes-to-the-value (format table names references registry) settings first count (records .now) (payload .now) (output .now) position asked v is e
-          (rw (ap (λ (d : Encoded). d .answer) met) at yes) settings′ (input .now) place (records′ .now) (payload′ .now) (rw (ap (λ (d : Encoded). d .output) met) at ask))
+          rules.decodes-to-the-value (format table names references registry) settings first count (records .now) (payload .now) (output .now) position asked v is e
+          (rw (ap (λ (d : Encoded). d .answer) met) at yes) (format table′ names′ references′ registry′) checked below same
+          settings′ (input .now) place (records′ .now) (payload′ .now) (rw (ap (λ (d : Encoded). d .output) met) at ask)
 
       -- whatever meets next_row's contract there answers that row, and leaves the very records and payload that were encoded,
       pub decodes-to-the-value : (κs′ : Lfts 7) (read : Read) (t : AtExit (endedOf 7 next-row.Kinds.ps next-row.Kinds.r) κs′) →

@@ -22,7 +22,7 @@ use Rattle.rules.specs.declared.settings.Settings.{Settings}
 use Rattle.rules.specs.declared.answer.Extent.{Extent}
 use Rattle.rules.specs.declared.answer.Written.{Written}
 use Rattle.rules.proofs.Stands.{length-le}
-use Rattle.promises.proofs.Tables.{decoded-held}
+use Rattle.promises.proofs.Tables.{stood, decoded-held}
 use Rattle.promises.proofs.RoundTrip.{encoded-when, encoded-as, reads-back}
 
 -- ---- every row of a value is as long as the canonical one
@@ -90,7 +90,7 @@ module _ (f : Format) (s : Settings) (inp : List ℕ) (at : ℕ) (e : Extent) (v
   table-again : (inp′ : List ℕ) (at′ : ℕ) (rs′ ps′ : List ℕ) → Stands inp′ at′ (part (encodeFrom f s first n recs pay out place .output) place (e .bytes)) → length inp′ ≤ 4294967295 →
       e .records ≤ recordRoom rs′ → e .payload ≤ room ps′ → decodeRule f s inp′ at′ rs′ ps′ ≡ decodedAs e recs pay rs′ ps′
   table-again inp′ at′ rs′ ps′ stands short nodes enough =
-      reads-back f s first n recs pay out place asked v is e (unfold writtenSaid in ap writtenSaid row-again) s inp′ at′ rs′ ps′
+      reads-back f s first n recs pay out place asked v is e (unfold writtenSaid in ap writtenSaid row-again) f (asked .format) (stood f (asked .format) 0 first n (asked .block) .below) refl s inp′ at′ rs′ ps′
       (record { stands = stands; short = short; settings = asked .settings; blobs = λ k. omega arith; charge = there .afford; nodes = nodes; payload = enough })
 
 -- Of a row of table 0 that decode answered, and the table that it left:

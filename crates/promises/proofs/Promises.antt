@@ -203,11 +203,13 @@ module _ (f : Format) (s : Settings) (first n : ℕ) (recs pay out : List ℕ) (
       encodeFrom f s first n recs pay out at ≡ encodedInto (schemaOf f 0) v out at
   encoded-canonically = encoded-as f s first n recs pay out at asked v is
 
-  -- those bytes, as they stand in the output, decode anywhere in a stream to that value bit for bit, and no further byte is taken.
+  -- those bytes, as they stand in the output, decode anywhere in a stream, of a checked format whose table 0 has that schema, to that
+  -- value bit for bit, and no further byte is taken.
   pub decodes-to-the-value : (e : Extent) → writtenSaid (encodeFrom f s first n recs pay out at .answer) ≡ rowSaid e →
+      (f′ : Format) → formatRule f′ ≡ Accepted → 0 < tables f′ → schemaOf f′ 0 ≡ schemaOf f 0 →
       (s′ : Settings) (inp : List ℕ) (position : ℕ) (rs ps : List ℕ) →
       ReadAsked s s′ v e (part (encodeFrom f s first n recs pay out at .output) at (e .bytes)) inp position rs ps →
-      decodeRule f s′ inp position rs ps ≡ decodedAs e recs pay rs ps
+      decodeRule f′ s′ inp position rs ps ≡ decodedAs e recs pay rs ps
   decodes-to-the-value = reads-back f s first n recs pay out at asked v is
 
 -- Whatever is asked: a refused encode leaves the output,
