@@ -10,16 +10,18 @@ use contract.Lifetimes.{Lfts}
 use borrow.Fn.Kinds.{endedOf}
 use denote.Ref.{RefT}
 use denote.Triple.Clauses.{AtExit}
-use Rattle.rules.specs.Bytes.{Bytes, Stands, part}
+use Rattle.rules.specs.Bytes.{Bytes, Stands, part, over}
 use Rattle.rules.specs.Answers.{Said, rowSaid, readSaid, writtenSaid}
-use Rattle.rules.specs.Format.{Format}
-use Rattle.rules.specs.Value.{Value}
+use Rattle.rules.specs.Format.{Format, tables, formatRule}
+use Rattle.rules.specs.Value.{Value, Fits}
 use Rattle.rules.specs.ValueRecord.{valueRecordStart}
 use Rattle.rules.specs.ValueTable.{TableOf}
+use Rattle.rules.specs.Grammar.{Conforms, encodedRow}
 use Rattle.rules.specs.Reading.{limits, schemaOf, Decoded, decodeRule, room, recordRoom, roomTest, untouched, NoRow, LeavesRow}
 use Rattle.rules.specs.Writing.{Encoded, encodeFrom}
 use Rattle.rules.specs.RoundTrip.{EncodeAsked, Encodable, encodedInto, EncodeRefuses, ReadAsked, decodedAs}
 use Rattle.rules.specs.declared.settings.Settings.{Settings}
+use Rattle.rules.specs.declared.answer.Checked.{Checked}
 use Rattle.rules.specs.declared.answer.Extent.{Extent}
 use Rattle.rules.specs.declared.answer.Read.{Read}
 use Rattle.rules.specs.declared.answer.Written.{Written}
@@ -45,11 +47,11 @@ decoded κs answer (settings, (table, (names, (references, (registry, (input, (p
 
 -- ---- encode
 
--- Whatever meets encode's contract,
+-- Whatever meets encode's contract
 module _ (κs : Lfts 5) (settings : Settings) (table names : RefT (List ℕ)) (first count : ℕ) (records payload output : RefT (List ℕ)) (position : ℕ)
     (answer : Written) (s : AtExit (endedOf 5 encode.Kinds.ps encode.Kinds.r) κs)
     (met : encode.Reads.Post κs (settings, (table, (names, (first, (count, (records, (payload, (output, (position, tt))))))))) answer s) where
-  -- and is a refusal, leaves the output,
+  -- leaves the output, where it refuses,
   pub refused-encode-leaves : 0 < writtenSaid answer .number → encoded κs answer s .output ≡ output .now
   refused-encode-leaves l =
       rw (ap (λ (d : Encoded). d .output) met) (rules.refused-encode-leaves settings (table .now) (names .now) first count (records .now) (payload .now) (output .now) position (rw (ap (λ (d : Encoded). d .answer) met) at l))
@@ -74,15 +76,17 @@ module _ (κs : Lfts 5) (settings : Settings) (table names : RefT (List ℕ)) (f
     encoded-canonically h =
         met ∙ rules.encoded-canonically (format table names references registry) settings first count (records .now) (payload .now) (output .now) position asked v is (rw (ap (λ (d : Encoded). d .answer) met) at h)
 
-    -- Those bytes, as they stand in the output, anywhere in a stream of a format with the same tables:
+    -- Those bytes, as they stand in the output, anywhere in a stream of a checked format whose table 0 has that schema:
     module _ (e : Extent) (yes : writtenSaid answer ≡ rowSaid e) (settings′ : Settings) (table′ names′ references′ registry′ input : RefT (List ℕ)) (place : ℕ) (records′ payload′ : RefT (List ℕ))
-        (same : format table′ names′ references′ registry′ ≡ format table names references registry)
+        (checked : formatRule (format table′ names′ references′ registry′) ≡ Checked.Accepted) (below : 0 < tables (format table′ names′ references′ registry′))
+        (same : schemaOf (format table′ names′ references′ registry′) 0 ≡ schemaOf (format table names references registry) 0)
         (ask : ReadAsked settings settings′ v e (part (encoded κs answer s .output) position (e .bytes)) (input .now) place (records′ .now) (payload′ .now)) where
       -- the rule reads them back
       rule-reads-back : decodeRule (format table′ names′ references′ registry′) settings′ (input .now) place (records′ .now) (payload′ .now) ≡ decodedAs e (records .now) (payload .now) (records′ .now) (payload′ .now)
       rule-reads-back =
-          rw same (rules.decodes-to-the-value (format table names references registry) settings first count (records .now) (payload .now) (output .now) position asked v is e
-          (rw (ap (λ (d : Encoded). d .answer) met) at yes) settings′ (input .now) place (records′ .now) (payload′ .now) (rw (ap (λ (d : Encoded). d .output) met) at ask))
+          rules.decodes-to-the-value (format table names references registry) settings first count (records .now) (payload .now) (output .now) position asked v is e
+          (rw (ap (λ (d : Encoded). d .answer) met) at yes) (format table′ names′ references′ registry′) checked below same
+          settings′ (input .now) place (records′ .now) (payload′ .now) (rw (ap (λ (d : Encoded). d .output) met) at ask)
 
       -- whatever meets next_row's contract there answers that row, and leaves the very records and payload that were encoded,
       pub decodes-to-the-value : (κs′ : Lfts 7) (read : Read) (t : AtExit (endedOf 7 next-row.Kinds.ps next-row.Kinds.r) κs′) →
@@ -136,6 +140,13 @@ module _ (κs : Lfts 7) (settings : Settings) (table names references registry i
     encodes-again =
         ap (λ (d : Encoded). d .answer) rule-wrote ∙ rules.encodes-again (format table names references registry) settings (input .now) position (records .now) (payload .now) bs e (rw (ap (λ (d : Decoded). d .answer) met) at row) zero
         first count (records′ .now) (payload′ .now) (output .now) place (rw (ap (λ (d : Decoded). d .records) met) at its-records) (rw (ap (λ (d : Decoded). d .payload) met) at its-payload) asked fits
+
+    -- leaves in the output, where the canonical row of some value stood in the stream, the very bytes of the stream,
+    pub writes-again : (w : Value) → Conforms (schemaOf (format table names references registry) 0) w → Fits w → Stands (input .now) position (encodedRow (schemaOf (format table names references registry) 0) w) →
+        encoded κs′ written t .output ≡ over (output .now) place (part (input .now) position (e .bytes))
+    writes-again w c ok st =
+        ap (λ (d : Encoded). d .output) rule-wrote ∙ rules.writes-again (format table names references registry) settings (input .now) position (records .now) (payload .now) bs e (rw (ap (λ (d : Decoded). d .answer) met) at row) zero
+        first count (records′ .now) (payload′ .now) (output .now) place (rw (ap (λ (d : Decoded). d .records) met) at its-records) (rw (ap (λ (d : Decoded). d .payload) met) at its-payload) asked fits w c ok st
 
     -- and whatever meets next_row's contract on its bytes, anywhere in a stream, leaves the same table.
     pub reads-again : (table″ names″ references″ registry″ input″ : RefT (List ℕ)) (place″ : ℕ) (records″ payload″ : RefT (List ℕ)) →

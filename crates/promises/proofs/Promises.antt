@@ -7,17 +7,17 @@ use mathlib.Core.Bool.{Bool}
 use mathlib.Core.List.{List, _++_, map}
 use mathlib.Core.Logic.{_↔_}
 use lib.ListN.{length, take, drop}
-use Rattle.rules.specs.Bytes.{Bytes, Stands, part}
+use Rattle.rules.specs.Bytes.{Bytes, Stands, part, over}
 use Rattle.rules.specs.Answers.{Said, said, rowSaid, readSaid, stopSaid, writtenSaid, checkedSaid}
 use Rattle.rules.specs.Schema.{Schema, deep, nodes}
 use Rattle.rules.specs.Block.{records, blockTree, Denotes, Formed, blockOk, Ordered}
 use Rattle.rules.specs.SchemaRules.{schemaRule, ruleAt, firstOf, preorder}
 use Rattle.rules.specs.Format.{Format, tables, tableSchema, formatRule, formatRules, schemaAnswer, encoderRule}
 use Rattle.rules.specs.Good.{GoodSchema, GoodTable, GoodFormat, TableSchema}
-use Rattle.rules.specs.Value.{Value}
+use Rattle.rules.specs.Value.{Value, Fits}
 use Rattle.rules.specs.ValueRecord.{valueRecordStart}
 use Rattle.rules.specs.ValueTable.{TableOf, Whole, tableEnd, tableValue}
-use Rattle.rules.specs.Grammar.{Row}
+use Rattle.rules.specs.Grammar.{Row, Conforms, encodedRow}
 use Rattle.rules.specs.Walk.{Limits, Pos, Got, Refused}
 use Rattle.rules.specs.Reading.{limits, rowAt, schemaOf, Accepts, skipRule, room, recordRoom, roomTest, untouched, decodeRule, NoRow, LeavesRow, runRule, Iterated, byteCount, ranOf}
 use Rattle.rules.specs.Reasons.{RowReason, RowJudged}
@@ -203,11 +203,13 @@ module _ (f : Format) (s : Settings) (first n : ℕ) (recs pay out : List ℕ) (
       encodeFrom f s first n recs pay out at ≡ encodedInto (schemaOf f 0) v out at
   encoded-canonically = encoded-as f s first n recs pay out at asked v is
 
-  -- those bytes, as they stand in the output, decode anywhere in a stream to that value bit for bit, and no further byte is taken.
+  -- those bytes, as they stand in the output, decode anywhere in a stream, of a checked format whose table 0 has that schema, to that
+  -- value bit for bit, and no further byte is taken.
   pub decodes-to-the-value : (e : Extent) → writtenSaid (encodeFrom f s first n recs pay out at .answer) ≡ rowSaid e →
+      (f′ : Format) → formatRule f′ ≡ Accepted → 0 < tables f′ → schemaOf f′ 0 ≡ schemaOf f 0 →
       (s′ : Settings) (inp : List ℕ) (position : ℕ) (rs ps : List ℕ) →
       ReadAsked s s′ v e (part (encodeFrom f s first n recs pay out at .output) at (e .bytes)) inp position rs ps →
-      decodeRule f s′ inp position rs ps ≡ decodedAs e recs pay rs ps
+      decodeRule f′ s′ inp position rs ps ≡ decodedAs e recs pay rs ps
   decodes-to-the-value = reads-back f s first n recs pay out at asked v is
 
 -- Whatever is asked: a refused encode leaves the output,
@@ -238,6 +240,10 @@ module _ (f : Format) (s : Settings) (inp : List ℕ) (at : ℕ) (rs ps : List �
   -- encode answers that row, with its very counts,
   pub encodes-again : encodeFrom f s first n recs pay out place .answer ≡ Written.Row e
   encodes-again = again.encodes-again f s inp at rs ps bs e read zero first n recs pay out place records payload asked fits
+
+  -- where the canonical row of some value stood in the stream, that is written byte for byte,
+  pub writes-again : (w : Value) → Conforms (schemaOf f 0) w → Fits w → Stands inp at (encodedRow (schemaOf f 0) w) → encodeFrom f s first n recs pay out place .output ≡ over out place (part inp at (e .bytes))
+  writes-again = again.writes-again f s inp at rs ps bs e read zero first n recs pay out place records payload asked fits
 
   -- and its bytes, as they stand in the output, decode anywhere in a stream to the same table.
   pub reads-again : (inp′ : List ℕ) (at′ : ℕ) (rs′ ps′ : List ℕ) → Stands inp′ at′ (part (encodeFrom f s first n recs pay out place .output) place (e .bytes)) → length inp′ ≤ 4294967295 →

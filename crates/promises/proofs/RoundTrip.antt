@@ -15,7 +15,7 @@ use Rattle.rules.specs.Bytes.{le, part, over}
 use Rattle.rules.specs.Refusals.{Setting, NoOutputRoom, lineOf}
 use Rattle.rules.specs.Schema.{Schema}
 use Rattle.rules.specs.Block.{block}
-use Rattle.rules.specs.Format.{Format, encoderRules, encoderRule}
+use Rattle.rules.specs.Format.{Format, tables, formatRule, encoderRules, encoderRule}
 use Rattle.rules.specs.Value.{Value, nothing, boolean, number, wide, blob, variant, repeated, tuple, Items, done, item, Values, none, more, Within, WithinI, WithinV, recordsOf, payloadOf}
 use Rattle.rules.specs.ValueTable.{TableOf, Parsed, Whole, Broken, tableValue}
 use Rattle.rules.specs.Grammar.{Row, table-row, encoded, encodedRow}
@@ -216,10 +216,11 @@ module _ (f : Format) (s : Settings) (first n : ℕ) (recs pay out : List ℕ) (
   extent-is : record { table = 0; bytes = length (encodedRow sch v); records = recordsOf v; payload = payloadOf v } ≡ e
   extent-is = unfold writtenSaid in let z = ap (λ (d : Encoded). writtenSaid (d .answer)) is-so in one-row _ e (sym z ∙ yes)
 
-  -- the row that was put out, anywhere in a stream, decodes to the very records and payload, and no further byte is taken
-  pub reads-back : (s′ : Settings) (inp : List ℕ) (place : ℕ) (rs ps : List ℕ) →
-      ReadAsked s s′ v e (part (encodeFrom f s first n recs pay out at .output) at (e .bytes)) inp place rs ps → decodeRule f s′ inp place rs ps ≡ decodedAs e recs pay rs ps
-  reads-back s′ inp place rs ps r = decode-accepts f s′ inp asked place here rs ps records-fit payload-fits ∙ tidy
+  -- the row that was put out, anywhere in a stream of a checked format whose table 0 has that schema, decodes to the very records and
+  -- payload, and no further byte is taken
+  pub reads-back : (f′ : Format) → formatRule f′ ≡ Checked.Accepted → 0 < tables f′ → schemaOf f′ 0 ≡ schemaOf f 0 → (s′ : Settings) (inp : List ℕ) (place : ℕ) (rs ps : List ℕ) →
+      ReadAsked s s′ v e (part (encodeFrom f s first n recs pay out at .output) at (e .bytes)) inp place rs ps → decodeRule f′ s′ inp place rs ps ≡ decodedAs e recs pay rs ps
+  reads-back f′ checked below same s′ inp place rs ps r = decode-accepts f′ s′ inp asked place here rs ps records-fit payload-fits ∙ tidy
     where
       b : List ℕ
       b = encodedRow sch v
@@ -232,8 +233,10 @@ module _ (f : Format) (s : Settings) (first n : ℕ) (recs pay out : List ℕ) (
       at-home : Stood f 0 first n
       at-home = stood f (ok .format) 0 first n (ok .block)
 
-      asked : MayAsk f s′ inp
-      asked = record { settings = r .settings; sizes = at-home .sizes; short = r .short; format = at-home .rules }
+      asked : MayAsk f′ s′ inp
+      asked = unfold formatRule in
+          let p = pick-accepted _ _ _ checked in
+          record { settings = r .settings; sizes = p .0; short = r .short; format = p .1 }
 
       records-fit : recordsOf v ≤ recordRoom rs
       records-fit = let p = ap (λ (x : Extent). x .records) extent-is in rw p (r .nodes)
@@ -244,13 +247,13 @@ module _ (f : Format) (s : Settings) (first n : ℕ) (recs pay out : List ℕ) (
       q : Pos
       q = after (limits s′) v (length b) (start (limits s′) place)
 
-      a-row : Row sch v (encoded sch v)
-      a-row = encoded-row (can .conforms) (is .fits) (at-home .valid)
+      a-row : Row (schemaOf f′ 0) v (encoded sch v)
+      a-row = rw same (encoded-row (can .conforms) (is .fits) (at-home .valid))
 
-      here : Accepts f inp (limits s′) place 0 v q
+      here : Accepts f′ inp (limits s′) place 0 v q
       here = unfold encodedRow in record {
         bytes = le 2 0 ++ encoded sch v;
-        is = table-row {t = 0} (omega arith) (at-home .below) a-row refl;
+        is = table-row {t = 0} (omega arith) below a-row refl;
         stands = rw row-is at (r .stands);
         within = within-higher (blobLimit (limits s)) (blobLimit (limits s′)) (r .blobs) v (can .within);
         afford = r .charge;
