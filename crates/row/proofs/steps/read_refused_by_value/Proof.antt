@@ -5,7 +5,6 @@ use Rattle.row.proofs.steps.read_refused_by_value.Tie as tie
 enum-known-value : tie.Need-enum-known-value
 enum-known-value c = search needs
 
--- /work/door/target/rlib/rules.rlib/interface/lang/src/lib.rt:29:47
 enum-told : tie.Need-enum-told
 enum-told c = search needs
 
