@@ -62,6 +62,8 @@ use Rattle.run.proofs.run_rows as run-rows
 use Rattle.decode.proofs.steps.room_for as room-for
 use Rattle.skiff.proofs.answer.answer_of_read as answer-of-read
 use Rattle.skiff.proofs.answer.answer_of_ran as answer-of-ran
+use Rattle.skiff.proofs.answer.answer_of_written as answer-of-written
+use Rattle.skiff.proofs.answer.answer_of_checked as answer-of-checked
 use Rattle.skiff.proofs.answer.give as give
 use Rattle.wire.proofs.store.put16 as put16
 use Rattle.wire.proofs.store.put32 as put32
@@ -265,6 +267,12 @@ answer-of-read-one-answer κs a x y s t p q = p ∙ sym q
 
 pub answer-of-ran-one-answer : OneAnswer answer-of-ran.Kinds.ps answer-of-ran.Kinds.r answer-of-ran.Reads.Post
 answer-of-ran-one-answer κs a x y s t p q = p ∙ sym q
+
+pub answer-of-written-one-answer : OneAnswer answer-of-written.Kinds.ps answer-of-written.Kinds.r answer-of-written.Reads.Post
+answer-of-written-one-answer κs a x y s t p q = p ∙ sym q
+
+pub answer-of-checked-one-answer : OneAnswer answer-of-checked.Kinds.ps answer-of-checked.Kinds.r answer-of-checked.Reads.Post
+answer-of-checked-one-answer κs a x y s t p q = p ∙ sym q
 
 -- ---- steps that write
 pub put16-one-answer : OneOutcome put16.Kinds.ps put16.Kinds.r (λ κs (s, _). s .now ∷ []) put16.Reads.Post
