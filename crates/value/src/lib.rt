@@ -1,7 +1,7 @@
 // The check of a value table: whether records and payload store are the table of some value (18). One walk over the records in
 // preorder, each looked at once; it builds nothing.
 ghost use mathlib.Core.Path.{_≡_};
-ghost use Prim.Native.Nat.{_^_, _≤_, _<_};
+ghost use Prim.Native.Nat.{_-_, _^_, _≤_, _<_};
 ghost use lib.Dec.{ltb};
 ghost use Rattle.rules.specs.Wire.{form};
 ghost use Rattle.rules.specs.Refusals.{BadValueTable};
@@ -164,7 +164,7 @@ fn walk_value(records: &[u8], store: usize, depth: usize, tagged: bool, p: Table
         });
     }
     let below = TablePos { at: at + 1, from };
-    let s = walk_children(records, store, depth - 1, kind < 17, size, below);
+    let s = walk_children(records, store, depth, kind < 17, size, below);
     let Walked::At(q) = s else {
         return s;
     };
@@ -180,13 +180,13 @@ fn walk_children(
     count: u64,
     p: TablePos,
 ) -> Walked
-    requires { ⌜ p .from ≤ store ⌝ }
-    ensures { λ r. ⌜ r ≡ children (walk (now (records .entry)) store depth tagged) count p ⌝ }
+    requires { ⌜ (0 < depth) × (p .from ≤ store) ⌝ }
+    ensures { λ r. ⌜ r ≡ children (walk (now (records .entry)) store (depth - 1) tagged) count p ⌝ }
 {
     let mut q = p;
     let mut left = count;
     while 0 < left {
-        let s = walk_value(records, store, depth, tagged, q);
+        let s = walk_value(records, store, depth - 1, tagged, q);
         let Walked::At(next) = s else {
             return s;
         };

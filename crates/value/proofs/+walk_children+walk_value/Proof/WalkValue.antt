@@ -49,11 +49,8 @@ module _ (t : ℕ) where
   pub add-walk-children : lts.Need-add-walk-children (walk-value-calls t) (walk-value-at t) walk-value.Post
   add-walk-children c = search needs
 
-  pub sub-walk-children : lts.Need-sub-walk-children (walk-value-calls t) (walk-value-at t) walk-value.Post
-  sub-walk-children c = search needs
-
   pub walk-children-requires : lts.Need-walk-children-requires (walk-value-calls t) (walk-value-at t) walk-value.Post
-  walk-children-requires c κs = (omega (arith, c .before .before .before .before .before .before .before .before .pre .0, c .before .before .before .before .before .before .if1 .left), c .before .before .before .before .before .before .before .before .pre .1)
+  walk-children-requires c κs = (omega (arith, c .before .before .before .before .before .before .before .before .pre .0), (omega (arith, c .before .before .before .before .before .before .if1 .left), c .before .before .before .before .before .before .before .before .pre .1))
 
   pub enum-known-s : lts.Need-enum-known-s (walk-value-calls t) (walk-value-at t) walk-value.Post
   enum-known-s c = search needs
