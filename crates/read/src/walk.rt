@@ -23,7 +23,7 @@ use record::node::node_first;
 use rules::Refusal;
 use rules::Settings;
 use rules::Why;
-use wire::codes::fixed_width;
+use wire::codes::code_width;
 
 // Where the walk stands, what is left of the row's allowance, and the records and payload bytes that it has passed.
 pub struct SkipPos {
@@ -93,7 +93,7 @@ fn skip_fixed(code: u8, input: &[u8], p: SkipPos) -> Skipped
     ensures { λ r. ⌜ r ≡ skimFixed (now (input .entry)) code p ⌝ }
 {
     let at = p.at;
-    let width = fixed_width(code);
+    let width = code_width(code);
     if input.len() - at < width {
         return Skipped::Refused(Refusal {
             why: Why::Truncated { context: code },

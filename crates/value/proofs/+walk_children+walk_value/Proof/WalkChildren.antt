@@ -1,4 +1,4 @@
-use Rattle.value.specs.Walk.{children, walk}
+use Rattle.value.specs.Walk.{walkChildren, walkTable}
 use Rattle.value.proofs.Walks.{children-none, children-break, children-on, walk-ends}
 use borrow.Author.Needs.{needs}
 use native.Mathlib.Omega.{arith}
@@ -10,7 +10,7 @@ use Rattle.value.proofs.+walk_children+walk_value.Proof.Setup.{walk-chi
 
 -- what is left of the children, from here, comes to the whole
 abbrev pub Inv-loop : lts.InvT-loop
-Inv-loop records store depth tagged count q₀ left₀ q left = (q .from ≤ store) × (children (walk records store (depth - 1) tagged) left q ≡ children (walk records store (depth - 1) tagged) count q₀)
+Inv-loop records store depth tagged count q₀ left₀ q left = (q .from ≤ store) × (walkChildren (walkTable records store (depth - 1) tagged) left q ≡ walkChildren (walkTable records store (depth - 1) tagged) count q₀)
 
 abbrev pub μ-loop : lts.MeasureT-loop
 μ-loop records store depth tagged count q₀ left₀ q left = left
