@@ -83,7 +83,6 @@ use Rattle.wire.proofs.codes.tag_width as tag-width
 use Rattle.windows.proofs.run_on as run-on
 use Rattle.windows.proofs.no_rows as no-rows
 use Rattle.windows.proofs.space.run_window as run-window
-use Rattle.words.proofs.kind_of as kind-of-carried
 use Rattle.lines.proofs.put_text as put-text
 use Rattle.lines.proofs.put_decimal as put-decimal
 use Rattle.lines.proofs.put_number as put-number
@@ -329,9 +328,6 @@ pub run-window-one-answer : OneAnswer run-window.Kinds.ps run-window.Kinds.r run
 run-window-one-answer κs a x y s t p q = p .0 ∙ sym (q .0)
 
 -- ---- lines: where the text ends, and the buffer
-pub kind-of-carried-one-answer : OneAnswer kind-of-carried.Kinds.ps kind-of-carried.Kinds.r kind-of-carried.Reads.Post
-kind-of-carried-one-answer κs a x y s t p q = p ∙ sym q
-
 pub put-text-one-answer : OneOutcome put-text.Kinds.ps put-text.Kinds.r (λ κs (buffer, _). buffer .now ∷ []) put-text.Reads.Post
 put-text-one-answer κs a x y s t p q = (p .ends ∙ sym (q .ends), rw (p .holds, q .holds))
 

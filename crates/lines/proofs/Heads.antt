@@ -8,8 +8,8 @@ use lib.ListN.{length, replicate, length-append, length-replicate}
 use lib.Seq.{length-take-le}
 use Rattle.rules.specs.Choice.{pick}
 use Rattle.rules.specs.Names.{ascii}
-use Rattle.rules.specs.Refusals.{Line, lineOf, inBytes, reportOf}
-use Rattle.rules.specs.Lines.{decimal, word, labelsOf, carried, stoppedAt, endLine, refusedLine, runLineOf, runLine}
+use Rattle.rules.specs.Refusals.{Line, lineOf, labelsOf, inBytes, reportOf}
+use Rattle.rules.specs.Lines.{decimal, word, carried, stoppedAt, endLine, refusedLine, runLineOf, runLine}
 use Rattle.rules.specs.declared.refusal.Why.{Why}
 use Rattle.rules.specs.declared.refusal.Why.the-variants.{Setting, BadSchemaTable, TooDeep, UnexpectedChildren, TooManyChildren, EmptyTableSchemas, UnknownRegistryReference, TableSchemaRootMustBeTuple, TableSchemaMustBeTuple, TableSchemaChildMissingName, MissingTableSchema, Truncated, RowTooLarge, BlobTooLarge, ValueDoesNotMatchSchema, TupleLength, InvalidVariantTag, BadValueTable, NoNodeRoom, NoPayloadRoom, NoOutputRoom}
 use Rattle.rules.specs.declared.refusal.Refusal.{Refusal}
@@ -55,7 +55,7 @@ module _ (r : Refusal) (rows bytes : ℕ) where
   name = ascii (lineOf (r .why) .name)
 
   abbrev rest : List ℕ
-  rest = carried (labelsOf (reportOf r .number)) (reportOf r .a) (reportOf r .b) (reportOf r .c)
+  rest = carried (labelsOf (lineOf (r .why))) (reportOf r .a) (reportOf r .b) (reportOf r .c)
 
   abbrev stands : List ℕ
   stands = stoppedAt (r .place) rows bytes

@@ -6,7 +6,7 @@ use mathlib.Core.List.{List, _++_}
 use lib.ListN.{length}
 use Rattle.rules.specs.Bytes.{over}
 use Rattle.rules.specs.Names.{ascii}
-use Rattle.rules.specs.Lines.{decimal, word, labelsOf, carried}
+use Rattle.rules.specs.Lines.{decimal, word, carried}
 use Rattle.rules.specs.declared.refusal.RefusalLine.{RefusalLine}
 
 -- a buffer that held s₀ holds s, which is s₀ with a text over it from place `at` on, and the text ends at `end`
@@ -16,4 +16,4 @@ pub record TextPut (s₀ : List ℕ) (at : ℕ) (text : List ℕ) (s : List ℕ)
 
 -- a refused line's beginning, from a line of the table
 unfoldable pub head : RefusalLine → List ℕ
-head l = (ascii "refused " ++ decimal (l .number)) ++ (ascii " " ++ (word (l .name) ++ carried (labelsOf (l .number)) (l .a) (l .b) (l .c)))
+head l = (ascii "refused " ++ decimal (l .number)) ++ (ascii " " ++ (word (l .name) ++ carried (l .labels) (l .a) (l .b) (l .c)))

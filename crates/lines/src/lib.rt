@@ -1,19 +1,17 @@
 // Lines of text, made in a buffer: each function puts a text or a number at a place and answers where the next one goes.
 ghost use Prim.Native.Nat.{_+_, _≤_};
-ghost use mathlib.Core.List.{_++_, []};
+ghost use mathlib.Core.List.{_++_};
 ghost use lib.ListN.{length};
 ghost use mathlib.Core.Path.{_≡_};
-ghost use Rattle.rules.specs.Lines.{decimal, word, isNone, spaced, item, wordOf, labelsOf, closing, carried, stoppedAt, endLine, refusedLine, runLine};
-ghost use Rattle.rules.specs.Names.{ascii};
+ghost use Rattle.rules.specs.Lines.{decimal, word, isNone, spaced, item, labelled, wordOf, closing, carried, stoppedAt, endLine, refusedLine, runLine};
 ghost use Rattle.lines.specs.Puts.{TextPut, head};
+use rules::Label;
+use rules::Labels;
 use rules::Ran;
 use rules::Refusal;
 use rules::RefusalLine;
 use rules::Stop;
-use words::first_label;
-use words::kind_of;
-use words::second_label;
-use words::third_label;
+use words::label_word;
 use words::word_of;
 
 // A text, byte by byte.
@@ -116,60 +114,43 @@ fn put_item(
     put_spaced(buffer, next, text)
 }
 
-// The first value that a refusal carries, behind an opening bracket.
-fn put_first(buffer: &mut [u8], at: usize, number: u32, value: u64) -> usize
-    requires { ⌜ at + 64 ≤ length (now buffer) ⌝ }
-    ensures { λ r. ⌜ TextPut (now (buffer .entry)) at (item (ascii " (") (ascii (labelsOf number .first)) value (wordOf (labelsOf number .kind) value)) (now (buffer .exit)) r ⌝ }
-    ensures { λ r. ⌜ r ≤ at + 64 ⌝ }
+// A carried value behind a text, by what it is.
+fn put_labelled(buffer: &mut [u8], at: usize, before: &[u8], label: Label, value: u64) -> usize
+    requires { ⌜ at + length (now before) + 62 ≤ length (now buffer) ⌝ }
+    ensures { λ r. ⌜ TextPut (now (buffer .entry)) at (item (now (before .entry)) (labelled label) value (wordOf label value)) (now (buffer .exit)) r ⌝ }
+    ensures { λ r. ⌜ r ≤ at + length (now (before .entry)) + 62 ⌝ }
 {
-    let label = first_label(number);
-    let text = word_of(kind_of(number), value);
-    put_item(buffer, at, b" (", &label, value, &text)
+    let name = label_word(label);
+    let text = word_of(label, value);
+    put_item(buffer, at, before, &name, value, &text)
 }
 
-// The second, behind a comma.
-fn put_second(buffer: &mut [u8], at: usize, number: u32, value: u64) -> usize
-    requires { ⌜ at + 45 ≤ length (now buffer) ⌝ }
-    ensures { λ r. ⌜ TextPut (now (buffer .entry)) at (item (ascii ", ") (ascii (labelsOf number .second)) value []) (now (buffer .exit)) r ⌝ }
-    ensures { λ r. ⌜ r ≤ at + 45 ⌝ }
-{
-    let label = second_label(number);
-    put_item(buffer, at, b", ", &label, value, b" ")
-}
-
-// The third.
-fn put_third(buffer: &mut [u8], at: usize, number: u32, value: u64) -> usize
-    requires { ⌜ at + 45 ≤ length (now buffer) ⌝ }
-    ensures { λ r. ⌜ TextPut (now (buffer .entry)) at (item (ascii ", ") (ascii (labelsOf number .third)) value []) (now (buffer .exit)) r ⌝ }
-    ensures { λ r. ⌜ r ≤ at + 45 ⌝ }
-{
-    let label = third_label(number);
-    put_item(buffer, at, b", ", &label, value, b" ")
-}
-
-// The closing bracket.
-fn put_closing(buffer: &mut [u8], at: usize, number: u32) -> usize
+// The closing bracket, where the first value was put.
+fn put_closing(buffer: &mut [u8], at: usize, label: Label) -> usize
     requires { ⌜ at + 1 ≤ length (now buffer) ⌝ }
-    ensures { λ r. ⌜ TextPut (now (buffer .entry)) at (closing (ascii (labelsOf number .first))) (now (buffer .exit)) r ⌝ }
+    ensures { λ r. ⌜ TextPut (now (buffer .entry)) at (closing (labelled label)) (now (buffer .exit)) r ⌝ }
     ensures { λ r. ⌜ r ≤ at + 1 ⌝ }
 {
-    let label = first_label(number);
-    if no_word(&label) {
+    let name = label_word(label);
+    if no_word(&name) {
         return at;
     }
     put_text(buffer, at, b")")
 }
 
 // What a refusal carries, in brackets.
-fn put_carried(buffer: &mut [u8], at: usize, number: u32, a: u64, b: u64, c: u64) -> usize
-    requires { ⌜ at + 155 ≤ length (now buffer) ⌝ }
-    ensures { λ r. ⌜ TextPut (now (buffer .entry)) at (carried (labelsOf number) a b c) (now (buffer .exit)) r ⌝ }
-    ensures { λ r. ⌜ r ≤ at + 155 ⌝ }
+fn put_carried(buffer: &mut [u8], at: usize, labels: Labels, a: u64, b: u64, c: u64) -> usize
+    requires { ⌜ at + 193 ≤ length (now buffer) ⌝ }
+    ensures { λ r. ⌜ TextPut (now (buffer .entry)) at (carried labels a b c) (now (buffer .exit)) r ⌝ }
+    ensures { λ r. ⌜ r ≤ at + 193 ⌝ }
 {
-    let next = put_first(buffer, at, number, a);
-    let next = put_second(buffer, next, number, b);
-    let next = put_third(buffer, next, number, c);
-    put_closing(buffer, next, number)
+    let first = labels.first;
+    let second = labels.second;
+    let third = labels.third;
+    let next = put_labelled(buffer, at, b" (", first, a);
+    let next = put_labelled(buffer, next, b", ", second, b);
+    let next = put_labelled(buffer, next, b", ", third, c);
+    put_closing(buffer, next, first)
 }
 
 // What a refusal is: number, name, and what it carries.
@@ -179,10 +160,11 @@ fn put_head(buffer: &mut [u8], line: RefusalLine) -> usize
     ensures { λ r. ⌜ r ≤ 256 ⌝ }
 {
     let name = line.name;
+    let labels = line.labels;
     let next = put_number(buffer, 0, b"refused ", line.number as u64);
     let next = put_text(buffer, next, b" ");
     let next = put_word(buffer, next, &name);
-    put_carried(buffer, next, line.number, line.a, line.b, line.c)
+    put_carried(buffer, next, labels, line.a, line.b, line.c)
 }
 
 // Where a refused run stands.

@@ -9,8 +9,11 @@ use lib.Dec.{ltb, eqb}
 use Rattle.rules.specs.Choice.{pick}
 use Rattle.rules.specs.Wire.{wireTypes}
 use Rattle.rules.specs.Names.{ascii, nameOf}
-use Rattle.rules.specs.Refusals.{lineOf, reportOf}
+use Rattle.rules.specs.Refusals.{lineOf, labelsOf, reportOf}
 use Rattle.rules.specs.declared.wire_type.WireType.{WireType}
+use Rattle.rules.specs.declared.refusal.Label.{Label}
+use Rattle.rules.specs.declared.refusal.Label.the-variants as label
+use Rattle.rules.specs.declared.refusal.Labels.{Labels}
 use Rattle.rules.specs.declared.refusal.Refusal.{Refusal}
 use Rattle.rules.specs.declared.answer.Stop.{Stop}
 use Rattle.rules.specs.declared.answer.Stop.the-variants.{End, Refused}
@@ -66,51 +69,44 @@ item before label value w = pick (isNone label) [] (before ++ (label ++ ((32 ∷
 unfoldable pub endLine : ℕ → ℕ → List ℕ
 endLine rows bytes = (ascii "end " ++ decimal rows) ++ ((ascii " " ++ decimal bytes) ++ (10 ∷ []))
 
--- What the values are that a refusal carries, and whether the first of them has a word: 1 a wire code, 2 a context.
-pub record Labels : Type 0 where
-  pub first : String
-  pub second : String
-  pub third : String
-  pub kind : ℕ
+-- what a carried value is, in a word
+unfoldable pub labelText : Label → String
+labelText label.Unused = ""
+labelText label.Type = "type"
+labelText label.Count = "count"
+labelText label.Maximum = "maximum"
+labelText label.Table = "table"
+labelText label.Index = "index"
+labelText label.Context = "context"
+labelText label.Limit = "limit"
+labelText label.Length = "length"
+labelText label.Kind = "kind"
+labelText label.Expected = "expected"
+labelText label.Actual = "actual"
+labelText label.Tag = "tag"
+labelText label.Children = "children"
+labelText label.Needed = "needed"
 
-abbrev three : String → String → String → ℕ → Labels
-three a b c kind = record { first = a; second = b; third = c; kind = kind }
+abbrev pub labelled : Label → List ℕ
+labelled l = ascii (labelText l)
 
-abbrev nothing : Labels
-nothing = three "" "" "" 0
-
--- by the refusal's number, from 0 on
-unfoldable pub labelTable : List Labels
-labelTable =
-    nothing
-    ∷ nothing
-    ∷ nothing
-    ∷ nothing
-    ∷ three "type" "count" "" 1
-    ∷ three "type" "count" "maximum" 1
-    ∷ nothing
-    ∷ three "table" "" "" 0
-    ∷ three "type" "" "" 1
-    ∷ three "type" "" "" 1
-    ∷ three "index" "" "" 0
-    ∷ three "table" "" "" 0
-    ∷ three "context" "" "" 2
-    ∷ three "limit" "" "" 0
-    ∷ three "type" "length" "limit" 1
-    ∷ three "type" "kind" "" 1
-    ∷ three "expected" "actual" "" 0
-    ∷ three "type" "tag" "children" 1
-    ∷ nothing
-    ∷ three "needed" "" "" 0
-    ∷ three "needed" "" "" 0
-    ∷ three "needed" "" "" 0
-    ∷ []
-
-unfoldable pub labelsOf : ℕ → Labels
-labelsOf number = getD labelTable number nothing
-
-unfoldable pub wordOf : ℕ → ℕ → List ℕ
-wordOf kind value = pick (eqb kind 1) (codeWord value) (pick (eqb kind 2) (contextWord value) [])
+-- a type and a context have a word of their own
+unfoldable pub wordOf : Label → ℕ → List ℕ
+wordOf label.Unused value = []
+wordOf label.Type value = codeWord value
+wordOf label.Count value = []
+wordOf label.Maximum value = []
+wordOf label.Table value = []
+wordOf label.Index value = []
+wordOf label.Context value = contextWord value
+wordOf label.Limit value = []
+wordOf label.Length value = []
+wordOf label.Kind value = []
+wordOf label.Expected value = []
+wordOf label.Actual value = []
+wordOf label.Tag value = []
+wordOf label.Children value = []
+wordOf label.Needed value = []
 
 -- a bracket is closed where one was opened
 unfoldable pub closing : List ℕ → List ℕ
@@ -119,8 +115,9 @@ closing label = pick (isNone label) [] (ascii ")")
 -- what is carried: in brackets, with commas between
 unfoldable pub carried : Labels → ℕ → ℕ → ℕ → List ℕ
 carried l a b c =
-    item (ascii " (") (ascii (l .first)) a (wordOf (l .kind) a)
-    ++ (item (ascii ", ") (ascii (l .second)) b [] ++ (item (ascii ", ") (ascii (l .third)) c [] ++ closing (ascii (l .first))))
+    item (ascii " (") (labelled (l .first)) a (wordOf (l .first) a)
+    ++ (item (ascii ", ") (labelled (l .second)) b (wordOf (l .second) b)
+    ++ (item (ascii ", ") (labelled (l .third)) c (wordOf (l .third) c) ++ closing (labelled (l .first))))
 
 -- ` at PLACE after ROWS rows, BYTES bytes`
 unfoldable pub stoppedAt : ℕ → ℕ → ℕ → List ℕ
@@ -130,7 +127,7 @@ stoppedAt place rows bytes = (ascii " at " ++ decimal place) ++ ((ascii " after 
 unfoldable pub refusedLine : Refusal → ℕ → ℕ → List ℕ
 refusedLine r rows bytes =
     (ascii "refused " ++ decimal (reportOf r .number))
-    ++ (ascii " " ++ (ascii (lineOf (r .why) .name) ++ (carried (labelsOf (reportOf r .number)) (reportOf r .a) (reportOf r .b) (reportOf r .c) ++ stoppedAt (r .place) rows bytes)))
+    ++ (ascii " " ++ (ascii (lineOf (r .why) .name) ++ (carried (labelsOf (lineOf (r .why))) (reportOf r .a) (reportOf r .b) (reportOf r .c) ++ stoppedAt (r .place) rows bytes)))
 
 -- the line of a run
 unfoldable pub runLineOf : ℕ → ℕ → Stop → List ℕ

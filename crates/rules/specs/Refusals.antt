@@ -9,55 +9,63 @@ use Rattle.rules.specs.Names.{ascii}
 use Rattle.rules.specs.declared.refusal.Report.{Report}
 use Rattle.rules.specs.declared.refusal.Refusal.{Refusal}
 use Rattle.rules.specs.declared.refusal.RefusalLine.{RefusalLine}
+use Rattle.rules.specs.declared.refusal.Label.{Label}
+use Rattle.rules.specs.declared.refusal.Label.the-variants as label
+use Rattle.rules.specs.declared.refusal.Labels.{Labels}
 use Rattle.rules.specs.declared.refusal.Why.{Why}
 use Rattle.rules.specs.declared.refusal.Why.the-variants as why
 use Rattle.rules.specs.declared.answer.Checked.{Checked}
 use Rattle.rules.specs.declared.answer.Checked.the-variants.{Accepted, Refused}
 
--- A line of document 01's table of refusals: number, name, carried values, and whether the place is an offset in the stream that is read,
--- so that it moves with the stream.
+-- A line of document 01's table of refusals: number, name, carried values and what each of them is, and whether the place is an offset in
+-- the stream that is read, so that it moves with the stream.
 pub record Line : Type 0 where
   pub number : ℕ
   pub name : String
   pub carries : List ℕ
+  pub labels : List Label
   pub moves : Bool
 
-abbrev stays : ℕ → String → List ℕ → Line
-stays number name carries = record { number = number; name = name; carries = carries; moves = false }
+abbrev stays : ℕ → String → List ℕ → List Label → Line
+stays number name carries labels = record { number = number; name = name; carries = carries; labels = labels; moves = false }
 
-abbrev moves : ℕ → String → List ℕ → Line
-moves number name carries = record { number = number; name = name; carries = carries; moves = true }
+abbrev moves : ℕ → String → List ℕ → List Label → Line
+moves number name carries labels = record { number = number; name = name; carries = carries; labels = labels; moves = true }
 
 -- the table of refusals
 unfoldable pub lineOf : Why → Line
-lineOf why.Setting = stays 1 "Setting" []
-lineOf why.BadSchemaTable = stays 2 "BadSchemaTable" []
-lineOf why.TooDeep = stays 3 "TooDeep" []
-lineOf (why.UnexpectedChildren type count) = stays 4 "UnexpectedChildren" (type ∷ count ∷ [])
-lineOf (why.TooManyChildren type count maximum) = stays 5 "TooManyChildren" (type ∷ count ∷ maximum ∷ [])
-lineOf why.EmptyTableSchemas = stays 6 "EmptyTableSchemas" []
-lineOf (why.UnknownRegistryReference table) = stays 7 "UnknownRegistryReference" (table ∷ [])
-lineOf (why.TableSchemaRootMustBeTuple found) = stays 8 "TableSchemaRootMustBeTuple" (found ∷ [])
-lineOf (why.TableSchemaMustBeTuple found) = stays 9 "TableSchemaMustBeTuple" (found ∷ [])
-lineOf (why.TableSchemaChildMissingName index) = stays 10 "TableSchemaChildMissingName" (index ∷ [])
-lineOf (why.MissingTableSchema index) = moves 11 "MissingTableSchema" (index ∷ [])
-lineOf (why.Truncated context) = moves 12 "Truncated" (context ∷ [])
-lineOf (why.RowTooLarge limit) = moves 13 "RowTooLarge" (limit ∷ [])
-lineOf (why.BlobTooLarge type length limit) = moves 14 "BlobTooLarge" (type ∷ length ∷ limit ∷ [])
-lineOf (why.ValueDoesNotMatchSchema type kind) = stays 15 "ValueDoesNotMatchSchema" (type ∷ kind ∷ [])
-lineOf (why.TupleLength expected actual) = stays 16 "TupleLength" (expected ∷ actual ∷ [])
-lineOf (why.InvalidVariantTag type tag children) = moves 17 "InvalidVariantTag" (type ∷ tag ∷ children ∷ [])
-lineOf why.BadValueTable = stays 18 "BadValueTable" []
-lineOf (why.NoNodeRoom needed) = moves 19 "NoNodeRoom" (needed ∷ [])
-lineOf (why.NoPayloadRoom needed) = moves 20 "NoPayloadRoom" (needed ∷ [])
-lineOf (why.NoOutputRoom needed) = stays 21 "NoOutputRoom" (needed ∷ [])
+lineOf why.Setting = stays 1 "Setting" [] []
+lineOf why.BadSchemaTable = stays 2 "BadSchemaTable" [] []
+lineOf why.TooDeep = stays 3 "TooDeep" [] []
+lineOf (why.UnexpectedChildren type count) = stays 4 "UnexpectedChildren" (type ∷ count ∷ []) (label.Type ∷ label.Count ∷ [])
+lineOf (why.TooManyChildren type count maximum) = stays 5 "TooManyChildren" (type ∷ count ∷ maximum ∷ []) (label.Type ∷ label.Count ∷ label.Maximum ∷ [])
+lineOf why.EmptyTableSchemas = stays 6 "EmptyTableSchemas" [] []
+lineOf (why.UnknownRegistryReference table) = stays 7 "UnknownRegistryReference" (table ∷ []) (label.Table ∷ [])
+lineOf (why.TableSchemaRootMustBeTuple found) = stays 8 "TableSchemaRootMustBeTuple" (found ∷ []) (label.Type ∷ [])
+lineOf (why.TableSchemaMustBeTuple found) = stays 9 "TableSchemaMustBeTuple" (found ∷ []) (label.Type ∷ [])
+lineOf (why.TableSchemaChildMissingName index) = stays 10 "TableSchemaChildMissingName" (index ∷ []) (label.Index ∷ [])
+lineOf (why.MissingTableSchema index) = moves 11 "MissingTableSchema" (index ∷ []) (label.Table ∷ [])
+lineOf (why.Truncated context) = moves 12 "Truncated" (context ∷ []) (label.Context ∷ [])
+lineOf (why.RowTooLarge limit) = moves 13 "RowTooLarge" (limit ∷ []) (label.Limit ∷ [])
+lineOf (why.BlobTooLarge type length limit) = moves 14 "BlobTooLarge" (type ∷ length ∷ limit ∷ []) (label.Type ∷ label.Length ∷ label.Limit ∷ [])
+lineOf (why.ValueDoesNotMatchSchema type kind) = stays 15 "ValueDoesNotMatchSchema" (type ∷ kind ∷ []) (label.Type ∷ label.Kind ∷ [])
+lineOf (why.TupleLength expected actual) = stays 16 "TupleLength" (expected ∷ actual ∷ []) (label.Expected ∷ label.Actual ∷ [])
+lineOf (why.InvalidVariantTag type tag children) = moves 17 "InvalidVariantTag" (type ∷ tag ∷ children ∷ []) (label.Type ∷ label.Tag ∷ label.Children ∷ [])
+lineOf why.BadValueTable = stays 18 "BadValueTable" [] []
+lineOf (why.NoNodeRoom needed) = moves 19 "NoNodeRoom" (needed ∷ []) (label.Needed ∷ [])
+lineOf (why.NoPayloadRoom needed) = moves 20 "NoPayloadRoom" (needed ∷ []) (label.Needed ∷ [])
+lineOf (why.NoOutputRoom needed) = stays 21 "NoOutputRoom" (needed ∷ []) (label.Needed ∷ [])
 
 abbrev pub refusalNumber : Refusal → ℕ
 refusalNumber r = lineOf (r .why) .number
 
+-- what the three values are, where three are carried
+unfoldable pub labelsOf : Line → Labels
+labelsOf l = record { first = getD (l .labels) 0 label.Unused; second = getD (l .labels) 1 label.Unused; third = getD (l .labels) 2 label.Unused }
+
 -- a line of the table as a program has it: the name with blanks up to 28 bytes, three carried values, 0 where there is none
 unfoldable pub inBytes : Line → RefusalLine
-inBytes l = record { number = l .number; name = take 28 (ascii (l .name) ++ replicate 28 32); moves = l .moves; a = getD (l .carries) 0 0; b = getD (l .carries) 1 0; c = getD (l .carries) 2 0 }
+inBytes l = record { number = l .number; name = take 28 (ascii (l .name) ++ replicate 28 32); moves = l .moves; a = getD (l .carries) 0 0; b = getD (l .carries) 1 0; c = getD (l .carries) 2 0; labels = labelsOf l }
 
 -- a refusal in five numbers, 0 where nothing is carried
 unfoldable pub reportOf : Refusal → Report

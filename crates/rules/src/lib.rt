@@ -15,6 +15,8 @@ pub use answer::Ran;
 pub use answer::Read;
 pub use answer::Stop;
 pub use answer::Written;
+pub use refusal::Label;
+pub use refusal::Labels;
 pub use refusal::Refusal;
 pub use refusal::RefusalLine;
 pub use refusal::Report;

@@ -84,8 +84,114 @@ pub struct Report {
     pub c: u64,
 }
 
+// What a carried value is.
+pub enum Label {
+    Unused,
+    Type,
+    Count,
+    Maximum,
+    Table,
+    Index,
+    Context,
+    Limit,
+    Length,
+    Kind,
+    Expected,
+    Actual,
+    Tag,
+    Children,
+    Needed,
+}
+
+// What the three carried values are.
+pub struct Labels {
+    pub first: Label,
+    pub second: Label,
+    pub third: Label,
+}
+
+impl Labels {
+    const NONE: Labels = Labels {
+        first: Label::Unused,
+        second: Label::Unused,
+        third: Label::Unused,
+    };
+
+    const TYPE: Labels = Labels {
+        first: Label::Type,
+        second: Label::Unused,
+        third: Label::Unused,
+    };
+
+    const TYPE_COUNT: Labels = Labels {
+        first: Label::Type,
+        second: Label::Count,
+        third: Label::Unused,
+    };
+
+    const TYPE_COUNT_MAXIMUM: Labels = Labels {
+        first: Label::Type,
+        second: Label::Count,
+        third: Label::Maximum,
+    };
+
+    const TABLE: Labels = Labels {
+        first: Label::Table,
+        second: Label::Unused,
+        third: Label::Unused,
+    };
+
+    const INDEX: Labels = Labels {
+        first: Label::Index,
+        second: Label::Unused,
+        third: Label::Unused,
+    };
+
+    const CONTEXT: Labels = Labels {
+        first: Label::Context,
+        second: Label::Unused,
+        third: Label::Unused,
+    };
+
+    const LIMIT: Labels = Labels {
+        first: Label::Limit,
+        second: Label::Unused,
+        third: Label::Unused,
+    };
+
+    const TYPE_LENGTH_LIMIT: Labels = Labels {
+        first: Label::Type,
+        second: Label::Length,
+        third: Label::Limit,
+    };
+
+    const TYPE_KIND: Labels = Labels {
+        first: Label::Type,
+        second: Label::Kind,
+        third: Label::Unused,
+    };
+
+    const EXPECTED_ACTUAL: Labels = Labels {
+        first: Label::Expected,
+        second: Label::Actual,
+        third: Label::Unused,
+    };
+
+    const TYPE_TAG_CHILDREN: Labels = Labels {
+        first: Label::Type,
+        second: Label::Tag,
+        third: Label::Children,
+    };
+
+    const NEEDED: Labels = Labels {
+        first: Label::Needed,
+        second: Label::Unused,
+        third: Label::Unused,
+    };
+}
+
 // A line of document 01's table of refusals: number, name, with blanks after it, whether the place is an offset in the stream
-// that is read, and carried values, 0 where there is none.
+// that is read, and carried values, 0 where there is none, with what each of them is.
 pub struct RefusalLine {
     pub number: u32,
     pub name: [u8; 28],
@@ -93,10 +199,19 @@ pub struct RefusalLine {
     pub a: u64,
     pub b: u64,
     pub c: u64,
+    pub labels: Labels,
 }
 
-fn line_of(number: u32, name: [u8; 28], moves: bool, a: u64, b: u64, c: u64) -> RefusalLine
-    ensures { λ r. ⌜ r ≡ record { number = number; name = name; moves = moves; a = a; b = b; c = c } ⌝ }
+fn line_of(
+    number: u32,
+    name: [u8; 28],
+    moves: bool,
+    a: u64,
+    b: u64,
+    c: u64,
+    labels: Labels,
+) -> RefusalLine
+    ensures { λ r. ⌜ r ≡ record { number = number; name = name; moves = moves; a = a; b = b; c = c; labels = labels } ⌝ }
 {
     RefusalLine {
         number,
@@ -105,6 +220,7 @@ fn line_of(number: u32, name: [u8; 28], moves: bool, a: u64, b: u64, c: u64) -> 
         a,
         b,
         c,
+        labels,
     }
 }
 
@@ -114,9 +230,33 @@ impl Why {
         ensures { λ r. ⌜ r ≡ inBytes (lineOf self) ⌝ }
     {
         match self {
-            Why::Setting => line_of(1, *b"Setting                     ", false, 0, 0, 0),
-            Why::BadSchemaTable => line_of(2, *b"BadSchemaTable              ", false, 0, 0, 0),
-            Why::TooDeep => line_of(3, *b"TooDeep                     ", false, 0, 0, 0),
+            Why::Setting => line_of(
+                1,
+                *b"Setting                     ",
+                false,
+                0,
+                0,
+                0,
+                Labels::NONE,
+            ),
+            Why::BadSchemaTable => line_of(
+                2,
+                *b"BadSchemaTable              ",
+                false,
+                0,
+                0,
+                0,
+                Labels::NONE,
+            ),
+            Why::TooDeep => line_of(
+                3,
+                *b"TooDeep                     ",
+                false,
+                0,
+                0,
+                0,
+                Labels::NONE,
+            ),
             Why::UnexpectedChildren { wire_type, count } => line_of(
                 4,
                 *b"UnexpectedChildren          ",
@@ -124,6 +264,7 @@ impl Why {
                 wire_type as u64,
                 count,
                 0,
+                Labels::TYPE_COUNT,
             ),
             Why::TooManyChildren {
                 wire_type,
@@ -136,8 +277,17 @@ impl Why {
                 wire_type as u64,
                 count,
                 maximum,
+                Labels::TYPE_COUNT_MAXIMUM,
             ),
-            Why::EmptyTableSchemas => line_of(6, *b"EmptyTableSchemas           ", false, 0, 0, 0),
+            Why::EmptyTableSchemas => line_of(
+                6,
+                *b"EmptyTableSchemas           ",
+                false,
+                0,
+                0,
+                0,
+                Labels::NONE,
+            ),
             Why::UnknownRegistryReference { table } => line_of(
                 7,
                 *b"UnknownRegistryReference    ",
@@ -145,6 +295,7 @@ impl Why {
                 table,
                 0,
                 0,
+                Labels::TABLE,
             ),
             Why::TableSchemaRootMustBeTuple { found } => line_of(
                 8,
@@ -153,6 +304,7 @@ impl Why {
                 found as u64,
                 0,
                 0,
+                Labels::TYPE,
             ),
             Why::TableSchemaMustBeTuple { found } => line_of(
                 9,
@@ -161,6 +313,7 @@ impl Why {
                 found as u64,
                 0,
                 0,
+                Labels::TYPE,
             ),
             Why::TableSchemaChildMissingName { index } => line_of(
                 10,
@@ -169,6 +322,7 @@ impl Why {
                 index,
                 0,
                 0,
+                Labels::INDEX,
             ),
             Why::MissingTableSchema { index } => line_of(
                 11,
@@ -177,6 +331,7 @@ impl Why {
                 index,
                 0,
                 0,
+                Labels::TABLE,
             ),
             Why::Truncated { context } => line_of(
                 12,
@@ -185,6 +340,7 @@ impl Why {
                 context as u64,
                 0,
                 0,
+                Labels::CONTEXT,
             ),
             Why::RowTooLarge { limit } => line_of(
                 13,
@@ -193,6 +349,7 @@ impl Why {
                 limit,
                 0,
                 0,
+                Labels::LIMIT,
             ),
             Why::BlobTooLarge {
                 wire_type,
@@ -205,6 +362,7 @@ impl Why {
                 wire_type as u64,
                 length,
                 limit,
+                Labels::TYPE_LENGTH_LIMIT,
             ),
             Why::ValueDoesNotMatchSchema { wire_type, kind } => line_of(
                 15,
@@ -213,6 +371,7 @@ impl Why {
                 wire_type as u64,
                 kind as u64,
                 0,
+                Labels::TYPE_KIND,
             ),
             Why::TupleLength { expected, actual } => line_of(
                 16,
@@ -221,6 +380,7 @@ impl Why {
                 expected,
                 actual,
                 0,
+                Labels::EXPECTED_ACTUAL,
             ),
             Why::InvalidVariantTag {
                 wire_type,
@@ -233,8 +393,17 @@ impl Why {
                 wire_type as u64,
                 tag,
                 children,
+                Labels::TYPE_TAG_CHILDREN,
             ),
-            Why::BadValueTable => line_of(18, *b"BadValueTable               ", false, 0, 0, 0),
+            Why::BadValueTable => line_of(
+                18,
+                *b"BadValueTable               ",
+                false,
+                0,
+                0,
+                0,
+                Labels::NONE,
+            ),
             Why::NoNodeRoom { needed } => line_of(
                 19,
                 *b"NoNodeRoom                  ",
@@ -242,6 +411,7 @@ impl Why {
                 needed,
                 0,
                 0,
+                Labels::NEEDED,
             ),
             Why::NoPayloadRoom { needed } => line_of(
                 20,
@@ -250,6 +420,7 @@ impl Why {
                 needed,
                 0,
                 0,
+                Labels::NEEDED,
             ),
             Why::NoOutputRoom { needed } => line_of(
                 21,
@@ -258,6 +429,7 @@ impl Why {
                 needed,
                 0,
                 0,
+                Labels::NEEDED,
             ),
         }
     }

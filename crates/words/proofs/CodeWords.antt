@@ -4,12 +4,12 @@ use Prim.Native.Nat.{ℕ, zero, suc, _-_, _≤_, _<_}
 use mathlib.Core.Path.{_≡_, refl}
 use mathlib.Core.List.{List, [], _∷_}
 use native.Mathlib.Omega.{arith}
-use borrow.Author.Tests.{lt-ltb, le-ltb, ne-eqb}
+use borrow.Author.Tests.{lt-ltb, le-ltb}
 use lib.ListN.{length, getD, List·getD-eq-default}
 use Rattle.rules.specs.Choice.{pick}
 use Rattle.rules.specs.Wire.{wireTypes}
 use Rattle.rules.specs.declared.wire_type.WireType.{WireType}
-use Rattle.rules.specs.Lines.{codeWords, codeWord, contextWords, contextWord, wordOf, labelTable, labelsOf}
+use Rattle.rules.specs.Lines.{codeWords, codeWord, contextWords, contextWord}
 
 past-codes : (ts : List WireType) (code : ℕ) → length ts ≤ code → codeWords ts code ≡ []
 unfolding codeWords
@@ -36,24 +36,3 @@ namedContext i = getD contextWords i []
 pub table-context-word : (c : ℕ) → 13 ≤ c → contextWord c ≡ namedContext (c - 13)
 unfolding contextWord pick
 table-context-word c h = rw (le-ltb c 13 h)
-
--- ---- labels
-
--- past the table's end nothing is carried
-pub past-labels : (n : ℕ) → 22 ≤ n → labelsOf n ≡ labelsOf 22
-unfolding labelsOf labelTable
-past-labels n h = List·getD-eq-default labelTable _ {n = n} h
-
--- ---- a word by its kind
-module _ (kind value : ℕ) where
-  pub word-of-code : kind ≡ 1 → wordOf kind value ≡ codeWord value
-  unfolding wordOf pick
-  word-of-code e = rw e
-
-  pub word-of-context : kind ≡ 2 → wordOf kind value ≡ contextWord value
-  unfolding wordOf pick
-  word-of-context e = rw e
-
-  pub word-of-other : (kind ≡ 1 → ⊥) → (kind ≡ 2 → ⊥) → wordOf kind value ≡ []
-  unfolding wordOf pick
-  word-of-other h k = rw (ne-eqb kind 1 h, ne-eqb kind 2 k)

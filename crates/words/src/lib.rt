@@ -1,11 +1,10 @@
-// The words for the values that a refusal carries, from tables in which each word has twenty bytes, with blanks after it. A row of
-// blanks begins with `\x20`, since a blank that begins a line is not of the text.
+// The words for the values that a refusal carries, each in twenty bytes, with blanks after it.
 ghost use Prim.Native.Nat.{_+_, _*_, _≤_};
 ghost use mathlib.Core.Path.{_≡_};
 ghost use lib.ListN.{length};
 ghost use Rattle.rules.specs.Bytes.{part};
-ghost use Rattle.rules.specs.Names.{ascii};
-ghost use Rattle.rules.specs.Lines.{word, codeWord, contextWord, wordOf, labelsOf};
+ghost use Rattle.rules.specs.Lines.{word, codeWord, contextWord, labelled, wordOf};
+use rules::Label;
 
 // The word of a table at an index.
 fn word_at(table: &[u8], index: usize) -> [u8; 20]
@@ -74,148 +73,48 @@ fn context_word(context: u64) -> [u8; 20]
     )
 }
 
-// The word for a refusal's first value, by its kind: 1 a wire code, 2 a context.
-pub fn word_of(kind: u8, value: u64) -> [u8; 20]
-    ensures { λ r. ⌜ (word r ≡ wordOf kind value) × (length r ≡ 20) ⌝ }
+// What a carried value is.
+pub fn label_word(label: Label) -> [u8; 20]
+    ensures { λ r. ⌜ (word r ≡ labelled label) × (length r ≡ 20) ⌝ }
 {
-    if kind == 1 {
-        return code_word(value);
-    }
-    if kind == 2 {
-        return context_word(value);
-    }
-    *b"                    "
-}
-
-// Whether a refusal's first value has a word, by the refusal's number.
-pub fn kind_of(number: u32) -> u8
-    ensures { λ r. ⌜ r ≡ labelsOf number .kind ⌝ }
-{
-    match number {
-        0 => 0,
-        1 => 0,
-        2 => 0,
-        3 => 0,
-        4 => 1,
-        5 => 1,
-        6 => 0,
-        7 => 0,
-        8 => 1,
-        9 => 1,
-        10 => 0,
-        11 => 0,
-        12 => 2,
-        13 => 0,
-        14 => 1,
-        15 => 1,
-        16 => 0,
-        17 => 1,
-        18 => 0,
-        19 => 0,
-        20 => 0,
-        21 => 0,
-        _ => 0,
+    match label {
+        Label::Unused => *b"                    ",
+        Label::Type => *b"type                ",
+        Label::Count => *b"count               ",
+        Label::Maximum => *b"maximum             ",
+        Label::Table => *b"table               ",
+        Label::Index => *b"index               ",
+        Label::Context => *b"context             ",
+        Label::Limit => *b"limit               ",
+        Label::Length => *b"length              ",
+        Label::Kind => *b"kind                ",
+        Label::Expected => *b"expected            ",
+        Label::Actual => *b"actual              ",
+        Label::Tag => *b"tag                 ",
+        Label::Children => *b"children            ",
+        Label::Needed => *b"needed              ",
     }
 }
 
-// What the first value is that a refusal carries, by the refusal's number.
-pub fn first_label(number: u32) -> [u8; 20]
-    ensures { λ r. ⌜ (word r ≡ ascii (labelsOf number .first)) × (length r ≡ 20) ⌝ }
+// The word for a carried value, by what it is: types and contexts have one.
+pub fn word_of(label: Label, value: u64) -> [u8; 20]
+    ensures { λ r. ⌜ (word r ≡ wordOf label value) × (length r ≡ 20) ⌝ }
 {
-    if 22 <= number {
-        return *b"                    ";
+    match label {
+        Label::Type => code_word(value),
+        Label::Context => context_word(value),
+        Label::Unused => *b"                    ",
+        Label::Count => *b"                    ",
+        Label::Maximum => *b"                    ",
+        Label::Table => *b"                    ",
+        Label::Index => *b"                    ",
+        Label::Limit => *b"                    ",
+        Label::Length => *b"                    ",
+        Label::Kind => *b"                    ",
+        Label::Expected => *b"                    ",
+        Label::Actual => *b"                    ",
+        Label::Tag => *b"                    ",
+        Label::Children => *b"                    ",
+        Label::Needed => *b"                    ",
     }
-    word_at(
-        b"\x20                   \
-          \x20                   \
-          \x20                   \
-          \x20                   \
-          type                \
-          type                \
-          \x20                   \
-          table               \
-          type                \
-          type                \
-          index               \
-          table               \
-          context             \
-          limit               \
-          type                \
-          type                \
-          expected            \
-          type                \
-          \x20                   \
-          needed              \
-          needed              \
-          needed              ",
-        number as usize,
-    )
-}
-
-// The second.
-pub fn second_label(number: u32) -> [u8; 20]
-    ensures { λ r. ⌜ (word r ≡ ascii (labelsOf number .second)) × (length r ≡ 20) ⌝ }
-{
-    if 22 <= number {
-        return *b"                    ";
-    }
-    word_at(
-        b"\x20                   \
-          \x20                   \
-          \x20                   \
-          \x20                   \
-          count               \
-          count               \
-          \x20                   \
-          \x20                   \
-          \x20                   \
-          \x20                   \
-          \x20                   \
-          \x20                   \
-          \x20                   \
-          \x20                   \
-          length              \
-          kind                \
-          actual              \
-          tag                 \
-          \x20                   \
-          \x20                   \
-          \x20                   \
-          \x20                   ",
-        number as usize,
-    )
-}
-
-// The third.
-pub fn third_label(number: u32) -> [u8; 20]
-    ensures { λ r. ⌜ (word r ≡ ascii (labelsOf number .third)) × (length r ≡ 20) ⌝ }
-{
-    if 22 <= number {
-        return *b"                    ";
-    }
-    word_at(
-        b"\x20                   \
-          \x20                   \
-          \x20                   \
-          \x20                   \
-          \x20                   \
-          maximum             \
-          \x20                   \
-          \x20                   \
-          \x20                   \
-          \x20                   \
-          \x20                   \
-          \x20                   \
-          \x20                   \
-          \x20                   \
-          limit               \
-          \x20                   \
-          \x20                   \
-          children            \
-          \x20                   \
-          \x20                   \
-          \x20                   \
-          \x20                   ",
-        number as usize,
-    )
 }

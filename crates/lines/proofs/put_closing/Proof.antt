@@ -7,8 +7,8 @@ use Rattle.lines.proofs.Putting.{put-no-closing, put-the-closing}
 use Rattle.lines.proofs.put_closing.Statement.{statement}
 use Rattle.lines.proofs.put_closing.Tie as tie
 
-first-label-requires : tie.Need-first-label-requires
-first-label-requires c κs = search needs
+label-word-requires : tie.Need-label-word-requires
+label-word-requires c κs = search needs
 
 slice-aggregate-no-word : tie.Need-slice-aggregate-no-word
 slice-aggregate-no-word c = search needs
@@ -17,7 +17,7 @@ no-word-requires : tie.Need-no-word-requires
 no-word-requires c κs = search needs
 
 returns : tie.Need-returns
-returns c = (put-no-closing _ _ _ _ (c .before .before .before .first-label .ensures .0) (sym (c .before .no-word .ensures) ∙ c .if1 .taken), search needs)
+returns c = (put-no-closing _ _ _ _ (c .before .before .before .label-word .ensures .0) (sym (c .before .no-word .ensures) ∙ c .if1 .taken), search needs)
 
 slice-aggregate-put-text : tie.Need-slice-aggregate-put-text
 slice-aggregate-put-text c = search needs
@@ -30,13 +30,13 @@ same-length c = search needs
 
 returns-2 : tie.Need-returns-2
 unfolding ascii
-returns-2 c = (put-the-closing _ _ _ _ (c .before .before .before .before .before .before .before .before .first-label .ensures .0) _ _ (sym (c .before .before .before .before .before .before .no-word .ensures) ∙ c .before .before .before .before .before .if1 .left) (c .before .before .put-text .ensures), search needs)
+returns-2 c = (put-the-closing _ _ _ _ (c .before .before .before .before .before .before .before .before .label-word .ensures .0) _ _ (sym (c .before .before .before .before .before .before .no-word .ensures) ∙ c .before .before .before .before .before .if1 .left) (c .before .before .put-text .ensures), search needs)
 
 pub put-closing-spec : {M : Type 1} → statement M
 put-closing-spec =
     tie.close
     (tie.spec
-    first-label-requires
+    label-word-requires
     slice-aggregate-no-word
     no-word-requires
     returns

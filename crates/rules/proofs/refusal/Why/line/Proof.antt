@@ -1,6 +1,6 @@
 use borrow.Author.Needs.{needs}
 use Rattle.rules.specs.Names.{ascii}
-use Rattle.rules.specs.Refusals.{lineOf, inBytes}
+use Rattle.rules.specs.Refusals.{lineOf, labelsOf, inBytes}
 use Rattle.rules.proofs.refusal.Why.line.Statement.{statement}
 use Rattle.rules.proofs.refusal.Why.line.Tie as tie
 
@@ -158,87 +158,87 @@ line-of-requires-21 : tie.Need-line-of-requires-21
 line-of-requires-21 c κs = search needs
 
 returns : tie.Need-returns
-unfolding inBytes lineOf ascii
+unfolding inBytes labelsOf lineOf ascii
 returns c = rw (c .before .before .before .enum-told .given .1) (c .line-of .ensures)
 
 returns-2 : tie.Need-returns-2
-unfolding inBytes lineOf ascii
+unfolding inBytes labelsOf lineOf ascii
 returns-2 c = rw (c .before .before .before .enum-told2 .given .1) (c .line-of2 .ensures)
 
 returns-3 : tie.Need-returns-3
-unfolding inBytes lineOf ascii
+unfolding inBytes labelsOf lineOf ascii
 returns-3 c = rw (c .before .before .before .enum-told3 .given .1) (c .line-of3 .ensures)
 
 returns-4 : tie.Need-returns-4
-unfolding inBytes lineOf ascii
+unfolding inBytes labelsOf lineOf ascii
 returns-4 c = rw (c .before .before .before .before .self .given .1) (c .line-of4 .ensures)
 
 returns-5 : tie.Need-returns-5
-unfolding inBytes lineOf ascii
+unfolding inBytes labelsOf lineOf ascii
 returns-5 c = rw (c .before .before .before .before .self2 .given .1) (c .line-of5 .ensures)
 
 returns-6 : tie.Need-returns-6
-unfolding inBytes lineOf ascii
+unfolding inBytes labelsOf lineOf ascii
 returns-6 c = rw (c .before .before .before .enum-told4 .given .1) (c .line-of6 .ensures)
 
 returns-7 : tie.Need-returns-7
-unfolding inBytes lineOf ascii
+unfolding inBytes labelsOf lineOf ascii
 returns-7 c = rw (c .before .before .before .before .self3 .given .1) (c .line-of7 .ensures)
 
 returns-8 : tie.Need-returns-8
-unfolding inBytes lineOf ascii
+unfolding inBytes labelsOf lineOf ascii
 returns-8 c = rw (c .before .before .before .before .self4 .given .1) (c .line-of8 .ensures)
 
 returns-9 : tie.Need-returns-9
-unfolding inBytes lineOf ascii
+unfolding inBytes labelsOf lineOf ascii
 returns-9 c = rw (c .before .before .before .before .self5 .given .1) (c .line-of9 .ensures)
 
 returns-10 : tie.Need-returns-10
-unfolding inBytes lineOf ascii
+unfolding inBytes labelsOf lineOf ascii
 returns-10 c = rw (c .before .before .before .before .self6 .given .1) (c .line-of10 .ensures)
 
 returns-11 : tie.Need-returns-11
-unfolding inBytes lineOf ascii
+unfolding inBytes labelsOf lineOf ascii
 returns-11 c = rw (c .before .before .before .before .self7 .given .1) (c .line-of11 .ensures)
 
 returns-12 : tie.Need-returns-12
-unfolding inBytes lineOf ascii
+unfolding inBytes labelsOf lineOf ascii
 returns-12 c = rw (c .before .before .before .before .self8 .given .1) (c .line-of12 .ensures)
 
 returns-13 : tie.Need-returns-13
-unfolding inBytes lineOf ascii
+unfolding inBytes labelsOf lineOf ascii
 returns-13 c = rw (c .before .before .before .before .self9 .given .1) (c .line-of13 .ensures)
 
 returns-14 : tie.Need-returns-14
-unfolding inBytes lineOf ascii
+unfolding inBytes labelsOf lineOf ascii
 returns-14 c = rw (c .before .before .before .before .self10 .given .1) (c .line-of14 .ensures)
 
 returns-15 : tie.Need-returns-15
-unfolding inBytes lineOf ascii
+unfolding inBytes labelsOf lineOf ascii
 returns-15 c = rw (c .before .before .before .before .self11 .given .1) (c .line-of15 .ensures)
 
 returns-16 : tie.Need-returns-16
-unfolding inBytes lineOf ascii
+unfolding inBytes labelsOf lineOf ascii
 returns-16 c = rw (c .before .before .before .before .self12 .given .1) (c .line-of16 .ensures)
 
 returns-17 : tie.Need-returns-17
-unfolding inBytes lineOf ascii
+unfolding inBytes labelsOf lineOf ascii
 returns-17 c = rw (c .before .before .before .before .self13 .given .1) (c .line-of17 .ensures)
 
 returns-18 : tie.Need-returns-18
-unfolding inBytes lineOf ascii
+unfolding inBytes labelsOf lineOf ascii
 returns-18 c = rw (c .before .before .before .enum-told5 .given .1) (c .line-of18 .ensures)
 
 returns-19 : tie.Need-returns-19
-unfolding inBytes lineOf ascii
+unfolding inBytes labelsOf lineOf ascii
 returns-19 c = rw (c .before .before .before .before .self14 .given .1) (c .line-of19 .ensures)
 
 returns-20 : tie.Need-returns-20
-unfolding inBytes lineOf ascii
+unfolding inBytes labelsOf lineOf ascii
 returns-20 c = rw (c .before .before .before .before .self15 .given .1) (c .line-of20 .ensures)
 
 returns-21 : tie.Need-returns-21
-unfolding inBytes lineOf ascii
+unfolding inBytes labelsOf lineOf ascii
 returns-21 c = rw (c .before .before .before .before .self16 .given .1) (c .line-of21 .ensures)
 
 pub line-spec : {M : Type 1} → statement M
