@@ -13,13 +13,13 @@ use denote.Triple.Clauses.{AtExit}
 use Rattle.rules.specs.Bytes.{Bytes, Stands, part, over}
 use Rattle.rules.specs.Answers.{Said, rowSaid, readSaid, writtenSaid}
 use Rattle.rules.specs.Format.{Format, tables, formatRule}
-use Rattle.rules.specs.Value.{Value, Fits}
+use Rattle.rules.specs.Value.{Value}
 use Rattle.rules.specs.ValueRecord.{valueRecordStart}
 use Rattle.rules.specs.ValueTable.{TableOf}
-use Rattle.rules.specs.Grammar.{Conforms, encodedRow}
+use Rattle.rules.specs.Grammar.{TableRow}
 use Rattle.rules.specs.Reading.{limits, schemaOf, Decoded, decodeRule, room, recordRoom, roomTest, untouched, NoRow, LeavesRow}
 use Rattle.rules.specs.Writing.{Encoded, encodeFrom}
-use Rattle.rules.specs.RoundTrip.{EncodeAsked, Encodable, encodedInto, EncodeRefuses, ReadAsked, decodedAs}
+use Rattle.rules.specs.RoundTrip.{EncodeAsked, Encodable, encodedInto, EncodeRefuses, SkipAsked, HasRoom, decodedAs, PlainRow}
 use Rattle.rules.specs.declared.settings.Settings.{Settings}
 use Rattle.rules.specs.declared.answer.Checked.{Checked}
 use Rattle.rules.specs.declared.answer.Extent.{Extent}
@@ -29,7 +29,6 @@ use Rattle.promises.proofs.Promises as rules
 use Rattle.row.proofs.skip_row as skip-row
 use Rattle.decode.proofs.next_row as next-row
 use Rattle.encode.proofs.encode as encode
-use Rattle.call_promises.proofs.Rooms.{row-tested}
 
 -- the format that four slices hold
 abbrev pub format : RefT (List ℕ) → RefT (List ℕ) → RefT (List ℕ) → RefT (List ℕ) → Format
@@ -77,28 +76,27 @@ module _ (κs : Lfts 5) (settings : Settings) (table names : RefT (List ℕ)) (f
         met ∙ rules.encoded-canonically (format table names references registry) settings first count (records .now) (payload .now) (output .now) position asked v is (rw (ap (λ (d : Encoded). d .answer) met) at h)
 
     -- Those bytes, as they stand in the output, anywhere in a stream of a checked format whose table 0 has that schema:
-    module _ (e : Extent) (yes : writtenSaid answer ≡ rowSaid e) (settings′ : Settings) (table′ names′ references′ registry′ input : RefT (List ℕ)) (place : ℕ) (records′ payload′ : RefT (List ℕ))
+    module _ (e : Extent) (yes : writtenSaid answer ≡ rowSaid e) (settings′ : Settings) (table′ names′ references′ registry′ input : RefT (List ℕ)) (place : ℕ)
         (checked : formatRule (format table′ names′ references′ registry′) ≡ Checked.Accepted) (below : 0 < tables (format table′ names′ references′ registry′))
         (same : schemaOf (format table′ names′ references′ registry′) 0 ≡ schemaOf (format table names references registry) 0)
-        (ask : ReadAsked settings settings′ v e (part (encoded κs answer s .output) position (e .bytes)) (input .now) place (records′ .now) (payload′ .now)) where
-      -- the rule reads them back
-      rule-reads-back : decodeRule (format table′ names′ references′ registry′) settings′ (input .now) place (records′ .now) (payload′ .now) ≡ decodedAs e (records .now) (payload .now) (records′ .now) (payload′ .now)
-      rule-reads-back =
-          rules.decodes-to-the-value (format table names references registry) settings first count (records .now) (payload .now) (output .now) position asked v is e
-          (rw (ap (λ (d : Encoded). d .answer) met) at yes) (format table′ names′ references′ registry′) checked below same
-          settings′ (input .now) place (records′ .now) (payload′ .now) (rw (ap (λ (d : Encoded). d .output) met) at ask)
-
-      -- whatever meets next_row's contract there answers that row, and leaves the very records and payload that were encoded,
-      pub decodes-to-the-value : (κs′ : Lfts 7) (read : Read) (t : AtExit (endedOf 7 next-row.Kinds.ps next-row.Kinds.r) κs′) →
-          next-row.Reads.Post κs′ (settings′, (table′, (names′, (references′, (registry′, (input, (place, (records′, (payload′, tt))))))))) read t →
-          decoded κs′ read t ≡ decodedAs e (records .now) (payload .now) (records′ .now) (payload′ .now)
-      decodes-to-the-value κs′ read t p = p ∙ rule-reads-back
-
-      -- and whatever meets skip_row's contract there answers that row too.
+        (ask : SkipAsked settings settings′ v (part (encoded κs answer s .output) position (e .bytes)) (input .now) place) where
+      -- whatever meets skip_row's contract there answers that row,
       pub skips-the-row : (κs′ : Lfts 5) (read : Read) (t : AtExit (endedOf 5 skip-row.Kinds.ps skip-row.Kinds.r) κs′) →
           skip-row.Reads.Post κs′ (settings′, (table′, (names′, (references′, (registry′, (input, (place, tt))))))) read t → read ≡ Read.Row e
       skips-the-row κs′ read t p =
-          p ∙ row-tested place (records′ .now) (payload′ .now) _ e (sym (rules.skip-is-decode place (records′ .now) (payload′ .now) (format table′ names′ references′ registry′) settings′ (input .now)) ∙ ap (λ (d : Decoded). d .answer) rule-reads-back)
+          p ∙ rules.skips-the-row (format table names references registry) settings first count (records .now) (payload .now) (output .now) position asked v is e
+          (rw (ap (λ (d : Encoded). d .answer) met) at yes) (format table′ names′ references′ registry′) checked below same
+          settings′ (input .now) place (rw (ap (λ (d : Encoded). d .output) met) at ask)
+
+      -- and whatever meets next_row's contract there, with room, answers it too, and leaves the very records and payload that were encoded.
+      pub decodes-to-the-value : (records′ payload′ : RefT (List ℕ)) → HasRoom e (records′ .now) (payload′ .now) →
+          (κs′ : Lfts 7) (read : Read) (t : AtExit (endedOf 7 next-row.Kinds.ps next-row.Kinds.r) κs′) →
+          next-row.Reads.Post κs′ (settings′, (table′, (names′, (references′, (registry′, (input, (place, (records′, (payload′, tt))))))))) read t →
+          decoded κs′ read t ≡ decodedAs e (records .now) (payload .now) (records′ .now) (payload′ .now)
+      decodes-to-the-value records′ payload′ fit κs′ read t p =
+          p ∙ rules.decodes-to-the-value (format table names references registry) settings first count (records .now) (payload .now) (output .now) position asked v is e
+          (rw (ap (λ (d : Encoded). d .answer) met) at yes) (format table′ names′ references′ registry′) checked below same
+          settings′ (input .now) place (rw (ap (λ (d : Encoded). d .output) met) at ask) (records′ .now) (payload′ .now) fit
 
 -- ---- next_row and skip_row
 
@@ -141,12 +139,12 @@ module _ (κs : Lfts 7) (settings : Settings) (table names references registry i
         ap (λ (d : Encoded). d .answer) rule-wrote ∙ rules.encodes-again (format table names references registry) settings (input .now) position (records .now) (payload .now) bs e (rw (ap (λ (d : Decoded). d .answer) met) at row) zero
         first count (records′ .now) (payload′ .now) (output .now) place (rw (ap (λ (d : Decoded). d .records) met) at its-records) (rw (ap (λ (d : Decoded). d .payload) met) at its-payload) asked fits
 
-    -- leaves in the output, where the canonical row of some value stood in the stream, the very bytes of the stream,
-    pub writes-again : (w : Value) → Conforms (schemaOf (format table names references registry) 0) w → Fits w → Stands (input .now) position (encodedRow (schemaOf (format table names references registry) 0) w) →
-        encoded κs′ written t .output ≡ over (output .now) place (part (input .now) position (e .bytes))
-    writes-again w c ok st =
-        ap (λ (d : Encoded). d .output) rule-wrote ∙ rules.writes-again (format table names references registry) settings (input .now) position (records .now) (payload .now) bs e (rw (ap (λ (d : Decoded). d .answer) met) at row) zero
-        first count (records′ .now) (payload′ .now) (output .now) place (rw (ap (λ (d : Decoded). d .records) met) at its-records) (rw (ap (λ (d : Decoded). d .payload) met) at its-payload) asked fits w c ok st
+    -- leaves in the output the very bytes of the row that stood in the stream, exactly where every boolean byte of it is 0 or 1,
+    pub writes-again : (w : Value) (b : List ℕ) (r : TableRow (tables (format table names references registry)) (schemaOf (format table names references registry)) 0 w b) → Stands (input .now) position b →
+        (encoded κs′ written t .output ≡ over (output .now) place (part (input .now) position (e .bytes))) ↔ PlainRow r
+    writes-again w b r st =
+        rw (ap (λ (d : Encoded). d .output) rule-wrote) (rules.writes-again (format table names references registry) settings (input .now) position (records .now) (payload .now) bs e (rw (ap (λ (d : Decoded). d .answer) met) at row) zero
+        first count (records′ .now) (payload′ .now) (output .now) place (rw (ap (λ (d : Decoded). d .records) met) at its-records) (rw (ap (λ (d : Decoded). d .payload) met) at its-payload) asked fits w b r st)
 
     -- and whatever meets next_row's contract on its bytes, anywhere in a stream, leaves the same table.
     pub reads-again : (table″ names″ references″ registry″ input″ : RefT (List ℕ)) (place″ : ℕ) (records″ payload″ : RefT (List ℕ)) →

@@ -1,4 +1,3 @@
-pub mod Rooms
 pub mod OneAnswer
 pub mod Steps
 pub mod Demand3

@@ -1,5 +1,7 @@
 pub mod Apart
 pub mod Tables
+pub mod Lengths
+pub mod Plain
 pub mod RoundTrip
 pub mod Again
 pub mod Promises

@@ -14,16 +14,16 @@ use Rattle.rules.specs.Block.{records, blockTree, Denotes, Formed, blockOk, Ord
 use Rattle.rules.specs.SchemaRules.{schemaRule, ruleAt, firstOf, preorder}
 use Rattle.rules.specs.Format.{Format, tables, tableSchema, formatRule, formatRules, schemaAnswer, encoderRule}
 use Rattle.rules.specs.Good.{GoodSchema, GoodTable, GoodFormat, TableSchema}
-use Rattle.rules.specs.Value.{Value, Fits}
+use Rattle.rules.specs.Value.{Value}
 use Rattle.rules.specs.ValueRecord.{valueRecordStart}
 use Rattle.rules.specs.ValueTable.{TableOf, Whole, tableEnd, tableValue}
-use Rattle.rules.specs.Grammar.{Row, Conforms, encodedRow}
+use Rattle.rules.specs.Grammar.{Row, TableRow}
 use Rattle.rules.specs.Walk.{Limits, Pos, Got, Refused}
 use Rattle.rules.specs.Reading.{limits, rowAt, schemaOf, Accepts, skipRule, room, recordRoom, roomTest, untouched, decodeRule, NoRow, LeavesRow, runRule, Iterated, byteCount, ranOf}
 use Rattle.rules.specs.Reasons.{RowReason, RowJudged}
 use Rattle.rules.specs.Windows.{movedAnswer, WasCut, goesOn, continued, added, runAfter}
 use Rattle.rules.specs.Writing.{encodeRule, encodeFrom}
-use Rattle.rules.specs.RoundTrip.{EncodeAsked, Encodable, encodedInto, EncodeRefuses, ReadAsked, decodedAs}
+use Rattle.rules.specs.RoundTrip.{EncodeAsked, Encodable, encodedInto, EncodeRefuses, SkipAsked, HasRoom, decodedAs, PlainRow}
 use Rattle.rules.specs.Rows.{outcome, lines, outcomes}
 use Rattle.rules.specs.declared.settings.Settings.{Settings}
 use Rattle.rules.specs.declared.refusal.Refusal.{Refusal}
@@ -55,7 +55,7 @@ use Rattle.value_laws.proofs.Flat.{one-value}
 use Rattle.value_laws.proofs.Flat as values
 use Rattle.promises.proofs.Apart.{refusals-apart, reads-apart, stops-apart, writings-apart, checks-apart}
 use Rattle.promises.proofs.Tables.{table-encodes, decoded-row, decoded-none}
-use Rattle.promises.proofs.RoundTrip.{encoded-when, encoded-as, refused-leaves, refused-in-order, reads-back}
+use Rattle.promises.proofs.RoundTrip.{encoded-when, encoded-as, refused-leaves, refused-in-order, skips-back, reads-back}
 use Rattle.promises.proofs.Again as again
 
 -- ---- the document's own examples: its table of rows, computed on the rules of the whole calls
@@ -203,14 +203,18 @@ module _ (f : Format) (s : Settings) (first n : ℕ) (recs pay out : List ℕ) (
       encodeFrom f s first n recs pay out at ≡ encodedInto (schemaOf f 0) v out at
   encoded-canonically = encoded-as f s first n recs pay out at asked v is
 
-  -- those bytes, as they stand in the output, decode anywhere in a stream, of a checked format whose table 0 has that schema, to that
-  -- value bit for bit, and no further byte is taken.
-  pub decodes-to-the-value : (e : Extent) → writtenSaid (encodeFrom f s first n recs pay out at .answer) ≡ rowSaid e →
-      (f′ : Format) → formatRule f′ ≡ Accepted → 0 < tables f′ → schemaOf f′ 0 ≡ schemaOf f 0 →
-      (s′ : Settings) (inp : List ℕ) (position : ℕ) (rs ps : List ℕ) →
-      ReadAsked s s′ v e (part (encodeFrom f s first n recs pay out at .output) at (e .bytes)) inp position rs ps →
-      decodeRule f′ s′ inp position rs ps ≡ decodedAs e recs pay rs ps
-  decodes-to-the-value = reads-back f s first n recs pay out at asked v is
+  -- those bytes, as they stand in the output, anywhere in a stream of a checked format whose table 0 has that schema,
+  module _ (e : Extent) (yes : writtenSaid (encodeFrom f s first n recs pay out at .answer) ≡ rowSaid e)
+      (f′ : Format) (checked : formatRule f′ ≡ Accepted) (below : 0 < tables f′) (same : schemaOf f′ 0 ≡ schemaOf f 0)
+      (s′ : Settings) (inp : List ℕ) (position : ℕ)
+      (ask : SkipAsked s s′ v (part (encodeFrom f s first n recs pay out at .output) at (e .bytes)) inp position) where
+    -- are skipped as that row,
+    pub skips-the-row : skipRule f′ s′ inp position ≡ Read.Row e
+    skips-the-row = skips-back f s first n recs pay out at asked v is e yes f′ checked below same s′ inp position ask
+
+    -- and decode, where there is room, to that value bit for bit, and no further byte is taken.
+    pub decodes-to-the-value : (rs ps : List ℕ) → HasRoom e rs ps → decodeRule f′ s′ inp position rs ps ≡ decodedAs e recs pay rs ps
+    decodes-to-the-value = reads-back f s first n recs pay out at asked v is e yes f′ checked below same s′ inp position ask
 
 -- Whatever is asked: a refused encode leaves the output,
 pub refused-encode-leaves : (s : Settings) (table names : List ℕ) (first n : ℕ) (recs pay out : List ℕ) (at : ℕ) →
@@ -241,8 +245,9 @@ module _ (f : Format) (s : Settings) (inp : List ℕ) (at : ℕ) (rs ps : List �
   pub encodes-again : encodeFrom f s first n recs pay out place .answer ≡ Written.Row e
   encodes-again = again.encodes-again f s inp at rs ps bs e read zero first n recs pay out place records payload asked fits
 
-  -- where the canonical row of some value stood in the stream, that is written byte for byte,
-  pub writes-again : (w : Value) → Conforms (schemaOf f 0) w → Fits w → Stands inp at (encodedRow (schemaOf f 0) w) → encodeFrom f s first n recs pay out place .output ≡ over out place (part inp at (e .bytes))
+  -- leaves the very bytes of the row that stood in the stream, exactly where every boolean byte of it is 0 or 1,
+  pub writes-again : (w : Value) (b : List ℕ) (r : TableRow (tables f) (schemaOf f) 0 w b) → Stands inp at b →
+      (encodeFrom f s first n recs pay out place .output ≡ over out place (part inp at (e .bytes))) ↔ PlainRow r
   writes-again = again.writes-again f s inp at rs ps bs e read zero first n recs pay out place records payload asked fits
 
   -- and its bytes, as they stand in the output, decode anywhere in a stream to the same table.

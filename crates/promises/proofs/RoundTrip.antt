@@ -20,14 +20,15 @@ use Rattle.rules.specs.Value.{Value, nothing, boolean, number, wide, blob, vari
 use Rattle.rules.specs.ValueTable.{TableOf, Parsed, Whole, Broken, tableValue}
 use Rattle.rules.specs.Grammar.{Row, table-row, encoded, encodedRow}
 use Rattle.rules.specs.Walk.{blobLimit, Pos, after}
-use Rattle.rules.specs.Reading.{limits, start, schemaOf, Accepts, extent, whenAccepted, room, recordRoom, decodeRule}
+use Rattle.rules.specs.Reading.{limits, start, schemaOf, Accepts, extent, whenAccepted, room, recordRoom, skipRule, decodeRule}
 use Rattle.rules.specs.Answers.{Said, said, rowSaid, writtenSaid}
 use Rattle.rules.specs.Writing.{Wrote, Put, writeRow, Encoded, unwritten, placed, encodeValue, encodeOk, encodeRule, encodeFrom}
-use Rattle.rules.specs.RoundTrip.{EncodeAsked, Encodable, encodedInto, EncodeRefuses, by-setting, by-schema, by-table, by-row, by-room, ReadAsked, decodedAs}
+use Rattle.rules.specs.RoundTrip.{EncodeAsked, Encodable, encodedInto, EncodeRefuses, by-setting, by-schema, by-table, by-row, by-room, SkipAsked, HasRoom, decodedAs}
 use Rattle.rules.specs.declared.settings.Settings.{Settings}
 use Rattle.rules.specs.declared.refusal.Refusal.{Refusal}
 use Rattle.rules.specs.declared.answer.Checked.{Checked}
 use Rattle.rules.specs.declared.answer.Extent.{Extent}
+use Rattle.rules.specs.declared.answer.Read.{Read}
 use Rattle.rules.specs.declared.answer.Written.{Written}
 use Rattle.rules.proofs.Tests.{and-both}
 use Rattle.rules.proofs.Checks.{pick-accepted}
@@ -36,7 +37,7 @@ use Rattle.rules.proofs.Stands.{stands-seam, stands-part}
 use Rattle.rules.proofs.Over.{over-is}
 use Rattle.row_laws.proofs.Conform.{encoded-row}
 use Rattle.row_laws.proofs.Door.{MayAsk}
-use Rattle.row_laws.proofs.Decoding.{decode-accepts, decodedRow}
+use Rattle.row_laws.proofs.Decoding.{skip-accepts, decode-accepts, decodedRow}
 use Rattle.value_laws.proofs.Parse.{is-table}
 use Rattle.value_laws.proofs.Flat.{accepted, no-table}
 use Rattle.value_laws.proofs.Written.{writes-row}
@@ -191,7 +192,7 @@ mutual
   within-higherV low high h (more v vs) w = (within-higher low high h v (w .0), within-higherV low high h vs (w .1))
 
 -- the bytes that were written over a list stand in it
-over-part : (xs s : List ℕ) (at : ℕ) → at + length xs ≤ length s → part (over s at xs) at (length xs) ≡ xs
+pub over-part : (xs s : List ℕ) (at : ℕ) → at + length xs ≤ length s → part (over s at xs) at (length xs) ≡ xs
 over-part xs s at h =
     let l : length (take at s) ≡ at = length-take-le at s (omega arith) in
     let o = over-is xs s at h in
@@ -216,53 +217,65 @@ module _ (f : Format) (s : Settings) (first n : ℕ) (recs pay out : List ℕ) (
   extent-is : record { table = 0; bytes = length (encodedRow sch v); records = recordsOf v; payload = payloadOf v } ≡ e
   extent-is = unfold writtenSaid in let z = ap (λ (d : Encoded). writtenSaid (d .answer)) is-so in one-row _ e (sym z ∙ yes)
 
-  -- the row that was put out, anywhere in a stream of a checked format whose table 0 has that schema, decodes to the very records and
-  -- payload, and no further byte is taken
-  pub reads-back : (f′ : Format) → formatRule f′ ≡ Checked.Accepted → 0 < tables f′ → schemaOf f′ 0 ≡ schemaOf f 0 → (s′ : Settings) (inp : List ℕ) (place : ℕ) (rs ps : List ℕ) →
-      ReadAsked s s′ v e (part (encodeFrom f s first n recs pay out at .output) at (e .bytes)) inp place rs ps → decodeRule f′ s′ inp place rs ps ≡ decodedAs e recs pay rs ps
-  reads-back f′ checked below same s′ inp place rs ps r = decode-accepts f′ s′ inp asked place here rs ps records-fit payload-fits ∙ tidy
-    where
-      b : List ℕ
-      b = encodedRow sch v
+  -- the row that was put out, anywhere in a stream of a checked format whose table 0 has that schema
+  module _ (f′ : Format) (checked : formatRule f′ ≡ Checked.Accepted) (below : 0 < tables f′) (same : schemaOf f′ 0 ≡ schemaOf f 0) (s′ : Settings) (inp : List ℕ) (place : ℕ)
+      (r : SkipAsked s s′ v (part (encodeFrom f s first n recs pay out at .output) at (e .bytes)) inp place) where
+    abbrev b : List ℕ
+    b = encodedRow sch v
 
-      row-is : part (encodeFrom f s first n recs pay out at .output) at (e .bytes) ≡ b
-      row-is = unfold room in
-          let p : length b ≡ e .bytes = ap (λ (x : Extent). x .bytes) extent-is in
-          rw (is-so, ← p) (over-part b out at (omega (arith, can .fits)))
+    row-is : part (encodeFrom f s first n recs pay out at .output) at (e .bytes) ≡ b
+    row-is = unfold room in
+        let p : length b ≡ e .bytes = ap (λ (x : Extent). x .bytes) extent-is in
+        rw (is-so, ← p) (over-part b out at (omega (arith, can .fits)))
 
-      at-home : Stood f 0 first n
-      at-home = stood f (ok .format) 0 first n (ok .block)
+    at-home : Stood f 0 first n
+    at-home = stood f (ok .format) 0 first n (ok .block)
 
-      asked : MayAsk f′ s′ inp
-      asked = unfold formatRule in
-          let p = pick-accepted _ _ _ checked in
-          record { settings = r .settings; sizes = p .0; short = r .short; format = p .1 }
+    asked : MayAsk f′ s′ inp
+    asked = unfold formatRule in
+        let p = pick-accepted _ _ _ checked in
+        record { settings = r .settings; sizes = p .0; short = r .short; format = p .1 }
 
-      records-fit : recordsOf v ≤ recordRoom rs
-      records-fit = let p = ap (λ (x : Extent). x .records) extent-is in rw p (r .nodes)
+    abbrev q : Pos
+    q = after (limits s′) v (length b) (start (limits s′) place)
 
-      payload-fits : payloadOf v ≤ room ps
-      payload-fits = let p = ap (λ (x : Extent). x .payload) extent-is in rw p (r .payload)
+    a-row : Row (schemaOf f′ 0) v (encoded sch v)
+    a-row = rw same (encoded-row (can .conforms) (is .fits) (at-home .valid))
 
-      q : Pos
-      q = after (limits s′) v (length b) (start (limits s′) place)
+    there : Accepts f′ inp (limits s′) place 0 v q
+    there = unfold encodedRow in record {
+      bytes = le 2 0 ++ encoded sch v;
+      is = table-row {t = 0} (omega arith) below a-row refl;
+      stands = rw row-is at (r .stands);
+      within = within-higher (blobLimit (limits s)) (blobLimit (limits s′)) (r .blobs) v (can .within);
+      afford = r .charge;
+      ends = refl;
+    }
 
-      a-row : Row (schemaOf f′ 0) v (encoded sch v)
-      a-row = rw same (encoded-row (can .conforms) (is .fits) (at-home .valid))
+    extent-there : extent place 0 q ≡ e
+    extent-there = unfold extent after start in
+        let x : (place + length b) - place ≡ length b = omega arith in
+        let y : 0 + recordsOf v ≡ recordsOf v = omega arith in
+        let z : 0 + payloadOf v ≡ payloadOf v = omega arith in
+        rw (x, y, z) extent-is
 
-      here : Accepts f′ inp (limits s′) place 0 v q
-      here = unfold encodedRow in record {
-        bytes = le 2 0 ++ encoded sch v;
-        is = table-row {t = 0} (omega arith) below a-row refl;
-        stands = rw row-is at (r .stands);
-        within = within-higher (blobLimit (limits s)) (blobLimit (limits s′)) (r .blobs) v (can .within);
-        afford = r .charge;
-        ends = refl;
-      }
+    -- is skipped whole
+    pub skips-back : skipRule f′ s′ inp place ≡ Read.Row e
+    skips-back = skip-accepts f′ s′ inp asked place there ∙ ap Read.Row extent-there
 
-      tidy : decodedRow place rs ps 0 v q ≡ decodedAs e recs pay rs ps
-      tidy = unfold extent after start in
-          let x : (place + length b) - place ≡ length b = omega arith in
-          let y : 0 + recordsOf v ≡ recordsOf v = omega arith in
-          let z : 0 + payloadOf v ≡ payloadOf v = omega arith in
-          rw (x, y, z, is .rows, is .payload, ← extent-is)
+    -- and decodes to the very records and payload, and no further byte is taken
+    pub reads-back : (rs ps : List ℕ) → HasRoom e rs ps → decodeRule f′ s′ inp place rs ps ≡ decodedAs e recs pay rs ps
+    reads-back rs ps h = decode-accepts f′ s′ inp asked place there rs ps records-fit payload-fits ∙ tidy
+      where
+        records-fit : recordsOf v ≤ recordRoom rs
+        records-fit = let p = ap (λ (x : Extent). x .records) extent-is in rw p (h .nodes)
+
+        payload-fits : payloadOf v ≤ room ps
+        payload-fits = let p = ap (λ (x : Extent). x .payload) extent-is in rw p (h .payload)
+
+        tidy : decodedRow place rs ps 0 v q ≡ decodedAs e recs pay rs ps
+        tidy = unfold extent after start in
+            let x : (place + length b) - place ≡ length b = omega arith in
+            let y : 0 + recordsOf v ≡ recordsOf v = omega arith in
+            let z : 0 + payloadOf v ≡ payloadOf v = omega arith in
+            rw (x, y, z, is .rows, is .payload, ← extent-is)

@@ -7,12 +7,13 @@ use mathlib.Core.List.{List, [], _∷_}
 use lib.ListN.{length}
 use Rattle.rules.specs.Bytes.{Stands, over}
 use Rattle.rules.specs.Answers.{Said, said}
-use Rattle.rules.specs.Schema.{Schema}
+use Rattle.rules.specs.Wire.{Form}
+use Rattle.rules.specs.Schema.{Schema, Schemas}
 use Rattle.rules.specs.Block.{block}
 use Rattle.rules.specs.Format.{Format, tableSchema, formatRule, encoderRules}
-use Rattle.rules.specs.Value.{Value, Within, costs, recordsOf, payloadOf}
+use Rattle.rules.specs.Value.{Value, Items, Values, Within, costs, recordsOf, payloadOf}
 use Rattle.rules.specs.ValueTable.{TableOf}
-use Rattle.rules.specs.Grammar.{Conforms, encodedRow}
+use Rattle.rules.specs.Grammar.{Row, row, Body, a-nothing, a-false, a-true, a-number, a-wide, a-blob, a-variant, a-repeated, a-tuple, Pairs, end, pair, Fields, no-field, field, TableRow, table-row, Conforms, encodedRow}
 use Rattle.rules.specs.Walk.{Limits, blobLimit}
 use Rattle.rules.specs.Reading.{settingsOk, limits, Decoded, room, recordRoom}
 use Rattle.rules.specs.Writing.{Wrote, Put, writeRow, Encoded, encodeOk}
@@ -75,16 +76,48 @@ module _ (s : Settings) (table names : List ℕ) (first n : ℕ) (recs pay out :
 -- ---- reading back
 
 -- A row of v stands somewhere in a stream that is not too long; the reader's settings are inside document 01's bounds, its blob limits no
--- lower than the writer's, its row limit covers the row's charge, and there is room for what the row e takes.
-pub record ReadAsked (s s′ : Settings) (v : Value) (e : Extent) (row inp : List ℕ) (place : ℕ) (rs ps : List ℕ) : Type 0 where
+-- lower than the writer's, and its row limit covers the row's charge.
+pub record SkipAsked (s s′ : Settings) (v : Value) (row inp : List ℕ) (place : ℕ) : Type 0 where
   pub stands : Stands inp place row
   pub short : length inp ≤ 4294967295
   pub settings : settingsOk s′ ≡ true
   pub blobs : (k : ℕ) → blobLimit (limits s) k ≤ blobLimit (limits s′) k
   pub charge : costs (limits s′ .charge) v ≤ limits s′ .row
+
+-- There is room for what the row e takes.
+pub record HasRoom (e : Extent) (rs ps : List ℕ) : Type 0 where
   pub nodes : e .records ≤ recordRoom rs
   pub payload : e .payload ≤ room ps
 
 -- The answer and the two slices of a decode that gives back a row e: these records and this payload, from the start of each slice.
 abbrev pub decodedAs : Extent → List ℕ → List ℕ → List ℕ → List ℕ → Decoded
 decodedAs e recs pay rs ps = record { answer = Read.Row e; records = over rs 0 recs; payload = over ps 0 pay }
+
+-- ---- written again
+
+-- every boolean byte of a row is 0 or 1
+unfoldable mutual
+  pub PlainBooleans : {s : Schema} {v : Value} {b : List ℕ} → Row s v b → Type 0
+  PlainBooleans (row h) = PlainBody h
+
+  pub PlainBody : {f : Form} {k : ℕ} {ss : Schemas} {v : Value} {b : List ℕ} → Body f k ss v b → Type 0
+  PlainBody a-nothing = Unit
+  PlainBody a-false = Unit
+  PlainBody (a-true {x = x} h) = x ≡ 1
+  PlainBody (a-number h e) = Unit
+  PlainBody (a-wide h) = Unit
+  PlainBody (a-blob h e) = Unit
+  PlainBody (a-variant h l r e) = PlainBooleans r
+  PlainBody (a-repeated h) = PlainPairs h
+  PlainBody (a-tuple h) = PlainFields h
+
+  pub PlainPairs : {w : ℕ} {ss : Schemas} {is : Items} {b : List ℕ} → Pairs w ss is b → Type 0
+  PlainPairs (end e) = Unit
+  PlainPairs (pair h l r p e) = PlainBooleans r × PlainPairs p
+
+  pub PlainFields : {ss : Schemas} {vs : Values} {b : List ℕ} → Fields ss vs b → Type 0
+  PlainFields no-field = Unit
+  PlainFields (field r h e) = PlainBooleans r × PlainFields h
+
+unfoldable pub PlainRow : {n t : ℕ} {schema : ℕ → Schema} {v : Value} {b : List ℕ} → TableRow n schema t v b → Type 0
+PlainRow (table-row h l r e) = PlainBooleans r
