@@ -27,7 +27,7 @@ past-is w h = eqb-true _ _ (all-each (λ i. eqb (getD (1 ∷ 256 ∷ 65536 ∷ 1
 
 -- the codes below 13: what is wider than a record's eight bytes is payload, all else a number, the boolean being code 1
 unfoldable heldOk : Form → ℕ → Bool
-heldOk empty k = true
+heldOk empty k = eqb k 0
 heldOk truth k = eqb k 1
 heldOk (fixed w) k = leb w 8
 heldOk (raw w) k = ltb 8 w
@@ -40,6 +40,42 @@ heldOk unknown k = false
 held-ok : (k : ℕ) → k < 13 → heldOk (form k) k ≡ true
 unfolding heldOk all _and_ wireTypes typeIn typeOf written writtenIf form
 held-ok k h = all-each (λ i. heldOk (form i) i) 13 k refl h
+
+pub false-not : {A : Type 0} → false ≡ true → A
+false-not e = let z : _≡_ {A = ℕ} 0 1 = cc in absurd (omega arith)
+
+fixed-form : (f : Form) (k : ℕ) → heldOk f k ≡ true → widthOf f ≤ 8 → (k ≡ 0 → ⊥) → (k ≡ 1 → ⊥) → f ≡ fixed (widthOf f)
+unfolding heldOk widthOf
+fixed-form empty k c l m n = absurd (m (eqb-true k 0 c))
+fixed-form truth k c l m n = absurd (n (eqb-true k 1 c))
+fixed-form (fixed w) k c l m n = refl
+fixed-form (raw w) k c l m n = absurd (omega (arith, ltb-true 8 w c))
+fixed-form sized k c l m n = false-not c
+fixed-form (variant-form w) k c l m n = false-not c
+fixed-form (repeated-form w) k c l m n = false-not c
+fixed-form tuple-form k c l m n = false-not c
+fixed-form unknown k c l m n = false-not c
+
+raw-form : (f : Form) (k : ℕ) → heldOk f k ≡ true → 8 < widthOf f → f ≡ raw (widthOf f)
+unfolding heldOk widthOf
+raw-form empty k c l = absurd (omega arith)
+raw-form truth k c l = absurd (omega arith)
+raw-form (fixed w) k c l = absurd (omega (arith, leb-true w 8 c))
+raw-form (raw w) k c l = refl
+raw-form sized k c l = false-not c
+raw-form (variant-form w) k c l = false-not c
+raw-form (repeated-form w) k c l = false-not c
+raw-form tuple-form k c l = false-not c
+raw-form unknown k c l = false-not c
+
+module _ (k w : ℕ) (h : k ≤ 12) (e : w ≡ widthOf (form k)) where
+  -- a number has at most eight bytes
+  pub fixed-is : w ≤ 8 → (k ≡ 0 → ⊥) → (k ≡ 1 → ⊥) → form k ≡ fixed w
+  fixed-is l m n = rw e (fixed-form (form k) k (held-ok k (omega arith)) (omega arith) m n)
+
+  -- int128 and int256 have more
+  pub raw-is : 8 < w → form k ≡ raw w
+  raw-is l = rw e (raw-form (form k) k (held-ok k (omega arith)) (omega arith))
 
 -- int128 and int256 have few bytes
 unfoldable rawOk : Form → ℕ → Bool
@@ -56,9 +92,6 @@ rawOk unknown k = true
 pub raw-width : (k w : ℕ) → form k ≡ raw w → w ≤ 32
 unfolding rawOk all _and_ wireTypes typeIn typeOf written writtenIf form
 raw-width k w e = leb-true w 32 (rw e at (every-form rawOk refl (λ i. refl) k))
-
-pub false-not : {A : Type 0} → false ≡ true → A
-false-not e = let z : _≡_ {A = ℕ} 0 1 = cc in absurd (omega arith)
 
 -- 13 and 14 are blobs
 pub blob-form : (k : ℕ) → 12 < k → k < 15 → form k ≡ sized
