@@ -9,12 +9,13 @@ use native.Mathlib.Numerals.{add-one}
 use native.Mathlib.Nat.{pow-le-pow-right}
 use borrow.Author.Tests.{lt-ltb, le-ltb, ltb-true, leb-true, leb-false}
 use lib.Dec.{leb}
+use lib.ListN.{length}
 use mir.Syntax.{w64}
 use mir.Val.{SFits}
 use lib.IntN.{ℤ, pos, negsuc}
 use Rattle.rules.specs.Choice.{pick, _and_}
 use Rattle.rules.specs.Wire.{fixed, form}
-use Rattle.rules.specs.Query.{scalarAlone, recordAlone, recordGood, recordSeen, signed}
+use Rattle.rules.specs.Query.{scalarAlone, recordAlone, recordThere, recordGood, recordSeen, signed}
 use Rattle.rules.specs.declared.table_record.ValueRecord.{ValueRecord}
 use Rattle.rules.specs.declared.query.Seen.{Seen}
 use Rattle.rules.specs.declared.query.Seen.the-variants.{Record, Refused}
@@ -54,18 +55,24 @@ signed-fits w x h l = by (leb x (top / 2)) refl
 
 -- ---- what a record that was seen is known for
 
-unfoldable Alone : Seen → Type 0
-Alone (Record r) = recordAlone r ≡ true
-Alone (Refused r) = Unit
+unfoldable Known : List ℕ → ℕ → Seen → Type 0
+Known table i (Record r) = (recordThere table i ≡ true) × (recordAlone r ≡ true)
+Known table i (Refused r) = Unit
 
-alone : (table : List ℕ) (i : ℕ) → Alone (recordSeen table i)
-unfolding Alone recordGood recordSeen
-alone table i = either Alone _ (λ t. either Alone _ (λ g. and-both _ _ g .1) (λ g. tt)) (λ t. tt)
+known : (table : List ℕ) (i : ℕ) → Known table i (recordSeen table i)
+unfolding Known recordGood recordSeen
+known table i = either (Known table i) _ (λ t. either (Known table i) _ (λ g. (t, and-both _ _ g .1)) (λ g. tt)) (λ t. tt)
 
--- it is right by itself
-pub seen-alone : (table : List ℕ) (i : ℕ) (s : Seen) (r : ValueRecord) → s ≡ recordSeen table i → s ≡ Record r → recordAlone r ≡ true
-unfolding Alone
-seen-alone table i s r e b = rw (← e, b) at (alone table i)
+module _ (table : List ℕ) (i : ℕ) (s : Seen) (r : ValueRecord) (e : s ≡ recordSeen table i) (b : s ≡ Record r) where
+  -- it is right by itself
+  pub seen-alone : recordAlone r ≡ true
+  unfolding Known
+  seen-alone = (rw (← e, b) at (known table i)) .1
+
+  -- and is there, in a slice that is not too long
+  pub seen-short : length table ≤ 4294967295
+  unfolding Known recordThere
+  seen-short = leb-true _ _ (and-both _ _ ((rw (← e, b) at (known table i)) .0) .0)
 
 -- a scalar's record too
 pub scalar-alone : (r : ValueRecord) → recordAlone r ≡ true → r .kind < 15 → scalarAlone (form (r .kind)) (r .size) (r .content) ≡ true

@@ -5,7 +5,7 @@ use mathlib.Core.List.{List, [], _∷_, _++_}
 use mathlib.Core.Path.{_≡_}
 use lib.ListN.{length}
 use Rattle.rules.specs.Wire.{form, widthOf}
-use Rattle.rules.specs.Value.{Value, nothing, boolean, number, wide, blob, variant, repeated, tuple, Items, done, item, Values, none, more, items, values, payloadOf}
+use Rattle.rules.specs.Value.{Value, nothing, boolean, number, wide, blob, variant, repeated, tuple, Items, done, item, Values, none, more, items, values, recordsOf, payloadOf}
 use Rattle.rules.specs.Query.{numberSaid}
 use Rattle.rules.specs.declared.query.Scalar.{Scalar}
 use Rattle.rules.specs.declared.query.Scalar.the-variants.{Nothing, Truth, Payload, Children}
@@ -60,3 +60,41 @@ valueSaid (blob k x) p = Payload p (length x)
 valueSaid (variant t v) p = Children 1
 valueSaid (repeated is) p = Children (items is)
 valueSaid (tuple vs) p = Children (values vs)
+
+-- ---- children
+
+-- field k of a tuple is this value
+unfoldable pub FieldIs : Values → ℕ → Value → Type 0
+FieldIs none k u = ⊥
+FieldIs (more v vs) zero u = v ≡ u
+FieldIs (more v vs) (suc k) u = FieldIs vs k u
+
+-- the nodes of the fields before field k
+unfoldable pub nodesBefore : Values → ℕ → ℕ
+nodesBefore none k = 0
+nodesBefore (more v vs) zero = 0
+nodesBefore (more v vs) (suc k) = recordsOf v + nodesBefore vs k
+
+-- the first child of a value is this one
+unfoldable pub FirstChild : Value → Value → Type 0
+FirstChild nothing u = ⊥
+FirstChild (boolean x) u = ⊥
+FirstChild (number k x) u = ⊥
+FirstChild (wide k x) u = ⊥
+FirstChild (blob k x) u = ⊥
+FirstChild (variant t v) u = v ≡ u
+FirstChild (repeated done) u = ⊥
+FirstChild (repeated (item t v is)) u = v ≡ u
+FirstChild (tuple none) u = ⊥
+FirstChild (tuple (more v vs)) u = v ≡ u
+
+-- how many children a value has
+unfoldable pub childrenOf : Value → ℕ
+childrenOf nothing = 0
+childrenOf (boolean x) = 0
+childrenOf (number k x) = 0
+childrenOf (wide k x) = 0
+childrenOf (blob k x) = 0
+childrenOf (variant t v) = 1
+childrenOf (repeated is) = items is
+childrenOf (tuple vs) = values vs
