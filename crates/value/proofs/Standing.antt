@@ -15,7 +15,7 @@ use Rattle.rules.specs.ValueRecord.{valueRecordStart, valueRecordsIn, layout, v
 use Rattle.rules.specs.declared.table_record.ValueRecord.{ValueRecord}
 use Rattle.rules.proofs.Tests.{and-both, and-true}
 use Rattle.rules.proofs.Stands.{length-le, leAt-stands, stands-both}
-use Rattle.value_laws.proofs.Records.{RecordIs, is-record, record-in, kind-is, tag-is, size-is, content-is}
+use Rattle.value_laws.proofs.Records.{RecordIs, is-record, record-in, kind-is, spare-is, tag-is, size-is, content-is}
 
 -- two tests that follow from each other are one
 pub same-test : (a b : Bool) → (a ≡ true → b ≡ true) → (b ≡ true → a ≡ true) → a ≡ b
@@ -29,11 +29,6 @@ unfoldable pub isEach : ValueRecord → ValueRecord → Bool
 isEach a b = ((eqb (a .kind) (b .kind) and eqb (a .spare) (b .spare)) and eqb (a .tag) (b .tag)) and (eqb (a .size) (b .size) and eqb (a .content) (b .content))
 
 module _ (table : List ℕ) (i : ℕ) where
-  -- byte 1, as it is read
-  spare-is : (r : ValueRecord) → RecordIs table i r → valueRecordAt table i .spare ≡ r .spare
-  unfolding RecordIs valueRecordAt layout Stands
-  spare-is r h = h .1 .0 .1
-
   module _ (bs : Bytes table) where
     field-stands : (at w x : ℕ) → at + w ≤ length table → leAt table at w ≡ x → Stands table at (le w x)
     field-stands at w x l e = rw (← e) (leAt-stands table bs at w l)
@@ -58,7 +53,7 @@ module _ (table : List ℕ) (i : ℕ) where
         (λ e.
         let h = is-record table i r .0 e in
         and-true _ _ (lt-ltb i (valueRecordsIn (length table)) (omega (arith, record-in table i r h)))
-        (and-true _ _ (and-true _ _ (and-true _ _ (eq-eqb _ _ (kind-is table i r h)) (eq-eqb _ _ (spare-is r h))) (eq-eqb _ _ (tag-is table i r h t)))
+        (and-true _ _ (and-true _ _ (and-true _ _ (eq-eqb _ _ (kind-is table i r h)) (eq-eqb _ _ (spare-is table i r h))) (eq-eqb _ _ (tag-is table i r h t)))
         (and-true _ _ (eq-eqb _ _ (size-is table i r h z)) (eq-eqb _ _ (content-is table i r h c)))))
         (λ e.
         let p = and-both _ _ e in

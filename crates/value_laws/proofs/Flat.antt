@@ -25,18 +25,18 @@ use Rattle.value_laws.proofs.Span.{Span, left, right, the-record, rest-
 use Rattle.value_laws.proofs.Parse.{Reads, is-table}
 
 -- a boolean as a number, and back
-test-bit : (x : Bool) → ltb 0 (bit x) ≡ x
+pub test-bit : (x : Bool) → ltb 0 (bit x) ≡ x
 unfolding bit
 test-bit true = refl
 test-bit false = refl
 
-bit-small : (x : Bool) → bit x < 2
+pub bit-small : (x : Bool) → bit x < 2
 unfolding bit
 bit-small true = omega arith
 bit-small false = omega arith
 
 -- what fits in w bytes fits in more
-wider : (w n x : ℕ) → w ≤ n → x < 256 ^ w → x < 256 ^ n
+pub wider : (w n x : ℕ) → w ≤ n → x < 256 ^ w → x < 256 ^ n
 wider w n x h l = lt-of-lt-of-le l (pow-le-pow-right (omega arith) h)
 
 -- an answer ends where its reading ends

@@ -5,6 +5,11 @@ pub mod Children
 pub mod Span
 pub mod Parse
 pub mod Flat
+pub mod Nodes
+pub mod Query
+pub mod Steps
+pub mod Subtrees
+pub mod View
 pub mod Says
 pub mod Written
 pub mod Meets

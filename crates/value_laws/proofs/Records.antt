@@ -106,6 +106,11 @@ module _ (table : List ℕ) (i : ℕ) (r : ValueRecord) (h : RecordIs table i r)
   unfolding RecordIs valueRecordAt layout Stands
   kind-is = h .0 .1
 
+  -- byte 1
+  pub spare-is : valueRecordAt table i .spare ≡ r .spare
+  unfolding RecordIs valueRecordAt layout Stands
+  spare-is = h .1 .0 .1
+
   pub tag-is : r .tag < 256 ^ 2 → valueRecordAt table i .tag ≡ r .tag
   unfolding valueRecordAt
   tag-is l = stands-le table (valueRecordStart i + 2) 2 (r .tag) l tag-stands
@@ -117,6 +122,10 @@ module _ (table : List ℕ) (i : ℕ) (r : ValueRecord) (h : RecordIs table i r)
   pub content-is : r .content < 256 ^ 8 → valueRecordAt table i .content ≡ r .content
   unfolding valueRecordAt
   content-is l = stands-le table (valueRecordStart i + 8) 8 (r .content) l content-stands
+
+  -- all of it
+  pub fields-are : r .tag < 256 ^ 2 → r .size < 256 ^ 4 → r .content < 256 ^ 8 → valueRecordAt table i ≡ r
+  fields-are t z c = λ j. record { kind = kind-is j; spare = spare-is j; tag = tag-is t j; size = size-is z j; content = content-is c j }
 
   pub tag-fits : valueRecordAt table i .tag < 256 ^ 2
   unfolding valueRecordAt
@@ -156,15 +165,16 @@ module _ (table : List ℕ) where
       let e : i + suc (length rs) ≡ (i + 1) + length rs = omega arith in
       (h .0, shows-both (i + 1) rs ss (h .1) (rw e at k))
 
+  -- the table does not end before the last of them
+  pub shows-end : (i : ℕ) (r : ValueRecord) (rs : List ValueRecord) → Shows table i (r ∷ rs) → valueRecordStart (i + length (r ∷ rs)) ≤ length table
+  unfolding Shows
+  shows-end i r [] h = omega (arith, record-in table i r (h .0))
+  shows-end i r (s ∷ rs) h = omega (arith, shows-end (i + 1) s rs (h .1))
+
   -- they are no more than there is room for
   pub shows-in : (i : ℕ) (rs : List ValueRecord) → Shows table i rs → valueRecordStart (length rs) ≤ length table
-  unfolding Shows
   shows-in i [] h = omega arith
-  shows-in i (r ∷ rs) h = omega (arith, ends i r rs h)
-    where
-      ends : (j : ℕ) (a : ValueRecord) (bs : List ValueRecord) → Shows table j (a ∷ bs) → valueRecordStart (j + length (a ∷ bs)) ≤ length table
-      ends j a [] k = omega (arith, record-in table j a (k .0))
-      ends j a (b ∷ bs) k = omega (arith, ends (j + 1) b bs (k .1))
+  shows-in i (r ∷ rs) h = omega (arith, shows-end i r rs h)
 
   -- their bytes stand there
   shows-stand : (i : ℕ) (rs : List ValueRecord) → valueRecordStart i ≤ length table → Shows table i rs → Stands table (valueRecordStart i) (layouts rs)

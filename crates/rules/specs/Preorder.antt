@@ -1,0 +1,100 @@
+-- The nodes of a value in preorder, each with where it stands; and what a host is told of each.
+-- Assumes nothing: these are definitions.
+use Prim.Native.Nat.{ℕ, zero, suc, _+_}
+use mathlib.Core.List.{List, [], _∷_, _++_}
+use mathlib.Core.Path.{_≡_}
+use lib.ListN.{length}
+use Rattle.rules.specs.Wire.{form, widthOf}
+use Rattle.rules.specs.Value.{Value, nothing, boolean, number, wide, blob, variant, repeated, tuple, Items, done, item, Values, none, more, items, values, recordsOf, payloadOf}
+use Rattle.rules.specs.Query.{numberSaid}
+use Rattle.rules.specs.declared.query.Scalar.{Scalar}
+use Rattle.rules.specs.declared.query.Scalar.the-variants.{Nothing, Truth, Payload, Children}
+
+-- a node: its value, the tag by which its parent chose it, how many payload bytes are before its own, and its depth, the root's being 1
+pub record Placed : Type 0 where
+  pub value : Value
+  pub tag : ℕ
+  pub before : ℕ
+  pub depth : ℕ
+
+abbrev pub placed : Value → ℕ → ℕ → ℕ → Placed
+placed v tag p depth = record { value = v; tag = tag; before = p; depth = depth }
+
+-- the nodes below one, that are so deep
+unfoldable mutual
+  pub nodesBelow : Value → ℕ → ℕ → List Placed
+  nodesBelow nothing p d = []
+  nodesBelow (boolean x) p d = []
+  nodesBelow (number k x) p d = []
+  nodesBelow (wide k x) p d = []
+  nodesBelow (blob k x) p d = []
+  nodesBelow (variant t v) p d = placed v t p d ∷ nodesBelow v p (suc d)
+  nodesBelow (repeated is) p d = nodesBelowI is p d
+  nodesBelow (tuple vs) p d = nodesBelowV vs p d
+
+  pub nodesBelowI : Items → ℕ → ℕ → List Placed
+  nodesBelowI done p d = []
+  nodesBelowI (item t v is) p d = placed v t p d ∷ (nodesBelow v p (suc d) ++ nodesBelowI is (p + payloadOf v) d)
+
+  pub nodesBelowV : Values → ℕ → ℕ → List Placed
+  nodesBelowV none p d = []
+  nodesBelowV (more v vs) p d = placed v 0 p d ∷ (nodesBelow v p (suc d) ++ nodesBelowV vs (p + payloadOf v) d)
+
+-- the nodes of a value
+unfoldable pub nodes : Value → List Placed
+nodes v = placed v 0 0 1 ∷ nodesBelow v 0 2
+
+-- node i is this one
+unfoldable pub NodeIs : List Placed → ℕ → Placed → Type 0
+NodeIs [] i n = ⊥
+NodeIs (m ∷ ms) zero n = m ≡ n
+NodeIs (m ∷ ms) (suc i) n = NodeIs ms i n
+
+-- what the query says of a node
+unfoldable pub valueSaid : Value → ℕ → Scalar
+valueSaid nothing p = Nothing
+valueSaid (boolean x) p = Truth x
+valueSaid (number k x) p = numberSaid k (widthOf (form k)) x
+valueSaid (wide k x) p = Payload p (length x)
+valueSaid (blob k x) p = Payload p (length x)
+valueSaid (variant t v) p = Children 1
+valueSaid (repeated is) p = Children (items is)
+valueSaid (tuple vs) p = Children (values vs)
+
+-- ---- children
+
+-- field k of a tuple is this value
+unfoldable pub FieldIs : Values → ℕ → Value → Type 0
+FieldIs none k u = ⊥
+FieldIs (more v vs) zero u = v ≡ u
+FieldIs (more v vs) (suc k) u = FieldIs vs k u
+
+-- the nodes of the fields before field k
+unfoldable pub nodesBefore : Values → ℕ → ℕ
+nodesBefore none k = 0
+nodesBefore (more v vs) zero = 0
+nodesBefore (more v vs) (suc k) = recordsOf v + nodesBefore vs k
+
+-- the first child of a value is this one
+unfoldable pub FirstChild : Value → Value → Type 0
+FirstChild nothing u = ⊥
+FirstChild (boolean x) u = ⊥
+FirstChild (number k x) u = ⊥
+FirstChild (wide k x) u = ⊥
+FirstChild (blob k x) u = ⊥
+FirstChild (variant t v) u = v ≡ u
+FirstChild (repeated done) u = ⊥
+FirstChild (repeated (item t v is)) u = v ≡ u
+FirstChild (tuple none) u = ⊥
+FirstChild (tuple (more v vs)) u = v ≡ u
+
+-- how many children a value has
+unfoldable pub childrenOf : Value → ℕ
+childrenOf nothing = 0
+childrenOf (boolean x) = 0
+childrenOf (number k x) = 0
+childrenOf (wide k x) = 0
+childrenOf (blob k x) = 0
+childrenOf (variant t v) = 1
+childrenOf (repeated is) = items is
+childrenOf (tuple vs) = values vs
