@@ -46,6 +46,7 @@ use Rattle.schema.proofs.format.table_schema as table-schema
 use Rattle.read.proofs.budget.RowBudget.new as budget-new
 use Rattle.read.proofs.budget.RowBudget.charge as charge
 use Rattle.read.proofs.budget.blob_limit as blob-limit
+use Rattle.charge.proofs.lower as lower
 use Rattle.read.proofs.fields.read_tag as read-tag
 use Rattle.read.proofs.fields.read_table as read-table
 use Rattle.read.proofs.fields.read_length as read-length
@@ -207,6 +208,9 @@ budget-new-one-answer κs a x y s t p q = p ∙ sym q
 
 pub charge-one-answer : OneAnswer charge.Kinds.ps charge.Kinds.r charge.Reads.Post
 charge-one-answer κs a x y s t p q = p ∙ sym q
+
+pub lower-one-answer : OneAnswer lower.Kinds.ps lower.Kinds.r lower.Reads.Post
+lower-one-answer κs a x y s t p q = p ∙ sym q
 
 pub blob-limit-one-answer : OneAnswer blob-limit.Kinds.ps blob-limit.Kinds.r blob-limit.Reads.Post
 blob-limit-one-answer κs a x y s t p q = p ∙ sym q
