@@ -65,6 +65,7 @@ use Rattle.skiff.proofs.answer.answer_of_read as answer-of-read
 use Rattle.skiff.proofs.answer.answer_of_ran as answer-of-ran
 use Rattle.skiff.proofs.answer.answer_of_written as answer-of-written
 use Rattle.skiff.proofs.answer.answer_of_checked as answer-of-checked
+use Rattle.skiff.proofs.answer.answer_of_known as answer-of-known
 use Rattle.skiff.proofs.answer.give as give
 use Rattle.wire.proofs.store.put16 as put16
 use Rattle.wire.proofs.store.put32 as put32
@@ -277,6 +278,9 @@ answer-of-written-one-answer κs a x y s t p q = p ∙ sym q
 
 pub answer-of-checked-one-answer : OneAnswer answer-of-checked.Kinds.ps answer-of-checked.Kinds.r answer-of-checked.Reads.Post
 answer-of-checked-one-answer κs a x y s t p q = p ∙ sym q
+
+pub answer-of-known-one-answer : OneAnswer answer-of-known.Kinds.ps answer-of-known.Kinds.r answer-of-known.Reads.Post
+answer-of-known-one-answer κs a x y s t p q = p ∙ sym q
 
 -- ---- steps that write
 pub put16-one-answer : OneOutcome put16.Kinds.ps put16.Kinds.r (λ κs (s, _). s .now ∷ []) put16.Reads.Post
