@@ -1,4 +1,5 @@
 pub mod OneAnswer
 pub mod Steps
 pub mod Host
+pub mod Charge
 pub mod Demand3
