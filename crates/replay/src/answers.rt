@@ -1,4 +1,8 @@
 // What each op answers, in numbers.
+use cases::reports::accepted;
+use cases::reports::accepted_row;
+use cases::reports::checked;
+use cases::reports::nothing;
 use row::skip_row;
 use rules::Checked;
 use rules::Known;
@@ -18,34 +22,6 @@ use wire::code_of;
 use wire::fixed_width;
 use wire::from_code;
 use wire::parse;
-
-fn accepted(x: u64, y: u64) -> Report {
-    Report {
-        number: 0,
-        place: 0,
-        a: x,
-        b: y,
-        c: 0,
-    }
-}
-
-// No wire type, or no fixed width: no refusal of document 01.
-fn nothing() -> Report {
-    Report {
-        number: 255,
-        place: 0,
-        a: 0,
-        b: 0,
-        c: 0,
-    }
-}
-
-fn checked(c: Checked) -> Report {
-    match c {
-        Checked::Accepted => accepted(0, 0),
-        Checked::Refused(r) => r.in_numbers(),
-    }
-}
 
 fn parsed(name: &[u8]) -> Report {
     let k = parse(name);
@@ -89,16 +65,10 @@ fn located(records: &[u8], names: &[u8], references: &[u8], registry: &[u8], t: 
     }
 }
 
-// A row is its table, bytes, records and payload bytes. The end is all zeros, which no row is: a row has bytes.
+// The end is all zeros, which no row is: a row has bytes.
 pub fn read(r: Read) -> Report {
     match r {
-        Read::Row(row) => Report {
-            number: 0,
-            place: row.table,
-            a: row.bytes,
-            b: row.records,
-            c: row.payload,
-        },
+        Read::Row(row) => accepted_row(row),
         Read::End => accepted(0, 0),
         Read::Refused(why) => why.in_numbers(),
     }

@@ -1,9 +1,11 @@
 // A row decoded into two lent slices.
 use crate::answers::read;
-use crate::lines::write_decoded;
+use cases::lines::end_line;
+use cases::lines::shown;
+use cases::lines::write_bytes;
+use cases::lines::write_report;
 use decode::next_row;
 use rules::Settings;
-ghost use Prim.Native.Nat.{_≤_};
 ghost use lib.ListN.{length};
 ghost use mathlib.Core.Path.{_≡_};
 
@@ -15,16 +17,6 @@ fn room() -> [u8; 4096]
     ensures { λ r. ⌜ 4096 ≡ length r ⌝ }
 {
     [UNTOUCHED; 4096]
-}
-
-// A lent slice's length. One over the room counts as the room.
-fn size_of(bytes: u64) -> usize
-    ensures { λ r. ⌜ r ≤ 4096 ⌝ }
-{
-    if 4096 < bytes {
-        return 4096;
-    }
-    bytes as usize
 }
 
 // Decodes the row at a position and writes its line.
@@ -50,11 +42,14 @@ fn write_into(
         records,
         payload,
     );
-    write_decoded(read(row), records, payload);
+    write_report(read(row));
+    write_bytes(records);
+    write_bytes(payload);
+    end_line();
 }
 
 // The same with slices of its own, whose lengths are the halves of `sizes`.
-pub fn write_row(
+pub fn decode_row(
     settings: Settings,
     table: &[u8],
     names: &[u8],
@@ -64,8 +59,8 @@ pub fn write_row(
     position: u64,
     sizes: u64,
 ) {
-    let n = size_of(sizes % 4294967296);
-    let m = size_of(sizes / 4294967296);
+    let n = shown(sizes % 4294967296);
+    let m = shown(sizes / 4294967296);
     let mut records = room();
     let mut payload = room();
     write_into(

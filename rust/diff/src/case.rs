@@ -15,12 +15,26 @@ pub mod op {
     pub const RUN: u32 = 8;
     /// Of the row at `a`, into slices whose lengths are the halves of `b`.
     pub const DECODE: u32 = 9;
+    /// Of the value table that stands in `references` and `registry`, by the block whose first record and
+    /// count are the halves of `a`, at position `b` of an output that is `input` before the call.
+    pub const ENCODE: u32 = 10;
+    /// Of the value table alone.
+    pub const CHECK_TABLE: u32 = 11;
+}
+
+/// Two numbers of 32 bits as one.
+pub fn halves(numbers: [u64; 2]) -> u64 {
+    let [low, high] = numbers.map(|number| u64::from(u32::try_from(number).expect("32 bits")));
+    low | high << 32
 }
 
 pub const HEADER_BYTES: usize = 64;
 
 /// The five strings of a case have at most this many bytes together.
 pub const MOST_BYTES: usize = 4_194_304;
+
+/// The program has room for so many bytes of a fifth string.
+pub const MOST_INPUT: usize = 4096;
 
 /// What every byte of a slice is that the program lends to a decoding call.
 pub const UNTOUCHED: u8 = 0xA5;
@@ -30,7 +44,7 @@ pub struct Case {
     pub op: u32,
     pub a: u64,
     pub b: u64,
-    /// The settings and the input are those of the reading calls, and nothing elsewhere.
+    /// The settings and the input are those of the reading and writing calls, and nothing elsewhere.
     pub node_charge: u64,
     pub max_blob_bytes: u64,
     pub max_row_bytes: u64,
@@ -63,8 +77,7 @@ impl Case {
     }
 
     pub fn with_lent(self, bytes: [usize; 2]) -> Self {
-        let [records, payload] = bytes.map(|bytes| u64::from(u32::try_from(bytes).expect("32 bits")));
-        Self { b: records | payload << 32, ..self }
+        Self { b: halves(bytes.map(|bytes| bytes as u64)), ..self }
     }
 
     pub fn strings(&self) -> [&Vec<u8>; 5] {
@@ -120,7 +133,7 @@ impl Case {
 }
 
 /// An answer line: number, place and the three values; for a run also its rows and bytes, and for a
-/// decoding call what both lent slices hold after it.
+/// decoding call what both lent slices hold after it, and for an encoding one what its output holds.
 #[derive(Debug, Clone, PartialEq, Eq, Default)]
 pub struct Answer {
     pub number: u64,
@@ -129,11 +142,13 @@ pub struct Answer {
     pub values: [u64; 3],
     pub run: Option<[u64; 2]>,
     pub lent: Option<[Vec<u8>; 2]>,
+    pub output: Option<Vec<u8>>,
 }
 
 impl Answer {
     /// No type, or no fixed width.
-    pub const NONE: Answer = Answer { number: 255, place: 0, values: [0, 0, 0], run: None, lent: None };
+    pub const NONE: Answer =
+        Answer { number: 255, place: 0, values: [0, 0, 0], run: None, lent: None, output: None };
 
     pub fn accepted(values: [u64; 3]) -> Self {
         Self { values, ..Self::default() }
@@ -151,7 +166,7 @@ impl fmt::Display for Answer {
         if let Some([rows, bytes]) = self.run {
             write!(formatter, " {rows} {bytes}")?;
         }
-        for slice in self.lent.iter().flatten() {
+        for slice in self.lent.iter().flatten().chain(&self.output) {
             write!(formatter, " {}", if slice.is_empty() { "-".to_owned() } else { hex(slice) })?;
         }
         Ok(())
@@ -208,7 +223,8 @@ mod tests {
         assert_eq!(answer.to_string(), "5 3 17 256 255");
         assert_eq!(Answer { run: Some([7, 8]), ..answer.clone() }.to_string(), "5 3 17 256 255 7 8");
         let lent = Some([vec![0xA5, 7], vec![]]);
-        assert_eq!(Answer { lent, ..answer }.to_string(), "5 3 17 256 255 a507 -");
+        assert_eq!(Answer { lent, ..answer.clone() }.to_string(), "5 3 17 256 255 a507 -");
+        assert_eq!(Answer { output: Some(vec![0x5C]), ..answer }.to_string(), "5 3 17 256 255 5c");
         assert_eq!(Answer::NONE.to_string(), "255 0 0 0 0");
     }
 }

@@ -6,9 +6,11 @@ use plain::format::{table_schema, validate_encoder, validate_format, validate_sc
 use plain::reading::{run, skip};
 use plain::report::{what, Report};
 use plain::tables::{Block, FormatTables};
+use plain::value_table::check;
 use plain::wire_type::{fixed_width, parse};
 
 use crate::case::{op, Answer, Case, UNTOUCHED};
+use crate::writing::{encoded_line, plain_encoded_into, WriteCase};
 
 pub fn tables(case: &Case) -> FormatTables<'_> {
     FormatTables {
@@ -85,6 +87,12 @@ pub fn plain_answer(case: &Case) -> Answer {
             let (report, lent) = plain_decoded(case, case.lent().map(|bytes| vec![UNTOUCHED; bytes]));
             decoded_line(&report, lent)
         }
+        op::ENCODE => {
+            let mut output = case.input.clone();
+            let done = plain_encoded_into(&WriteCase::of(case), &mut output);
+            encoded_line(&done, output)
+        }
+        op::CHECK_TABLE => checked(check(&case.references, &case.registry)),
         other => panic!("no such operation: {other}"),
     }
 }

@@ -16,8 +16,8 @@ usage:
       WORDS, which go before it, in SKIFF_RUNNER. --save writes the smallest differing case found
       (or the batch up to it, where the case alone is answered rightly).
       From 1,500,000 cases on, all schemas of four nodes are among them
-  schema-diff record CASES ANSWERS [--seed N]
-      writes a sample of small cases and their answers
+  schema-diff record PROGRAM CASES ANSWERS [--seed N]
+      writes the sample of small cases that the gate puts to replay or replay_write, and their answers
   schema-diff bench-cases FOLDER [--count K]
       writes files of K equal format checks (10 by default) for several sizes of schema
   schema-diff show CASES [--count N]
@@ -66,7 +66,7 @@ fn main() -> ExitCode {
         let words: Vec<&str> = options.words.iter().map(String::as_str).collect();
         match words.as_slice() {
             ["run"] => run(&options),
-            ["record", cases, answers] => write_record(&options, cases, answers),
+            ["record", program, cases, answers] => write_record(&options, program, cases, answers),
             ["bench-cases", folder] => write_bench(&options, folder),
             ["show", file] => show(&options, file),
             _ => Err(USAGE.to_owned()),
@@ -148,8 +148,9 @@ fn write(file: &str, bytes: &[u8]) -> Result<(), String> {
     fs::write(file, bytes).map_err(|error| format!("{file}: {error}"))
 }
 
-fn write_record(options: &Options, cases: &str, answers: &str) -> Result<ExitCode, String> {
-    let recording = record::record(options.seed);
+fn write_record(options: &Options, program: &str, cases: &str, answers: &str) -> Result<ExitCode, String> {
+    let part = record::Part::of(program).ok_or_else(|| format!("nothing is recorded for {program}"))?;
+    let recording = record::record(part, options.seed);
     write(cases, &recording.cases)?;
     write(answers, recording.answers.as_bytes())?;
     println!("{} {} and {} bytes", recording.tally, recording.cases.len(), recording.answers.len());

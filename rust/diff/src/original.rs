@@ -11,12 +11,14 @@ use std::collections::BTreeMap;
 use std::fmt;
 
 use oracle::{CodecError, Encoder, Format, Schema, SchemaError, SchemaRef, WireType};
-use plain::answer::number::{NO_NODE_ROOM, NO_PAYLOAD_ROOM};
+use plain::answer::number::{BAD_VALUE_TABLE, NO_NODE_ROOM, NO_OUTPUT_ROOM, NO_PAYLOAD_ROOM};
 use plain::decoding::ValueTable;
 use plain::tables::{entries, references, schema_record, Block, Reference, Span};
 
 use crate::case::{op, Answer, Case};
 use crate::judge::lone_block;
+use crate::writing::WriteCase;
+use writing::Wrote;
 
 /// The original's types in document 01's code order.
 const TYPES: [WireType; 20] = [
@@ -46,7 +48,8 @@ fn code(wire_type: WireType) -> u64 {
     TYPES.iter().position(|known| *known == wire_type).expect("all twenty are listed") as u64
 }
 
-/// Number and carried values; the table of a row; a run's rows and bytes; what a decoded row is.
+/// Number and carried values; the table of a row; a run's rows and bytes; what a decoded row is; what was
+/// written of a value, and where it has to stand.
 #[derive(Debug, Clone, PartialEq, Eq)]
 pub struct Said {
     pub number: u64,
@@ -54,11 +57,12 @@ pub struct Said {
     pub values: [u64; 3],
     pub run: Option<[u64; 2]>,
     pub row: Option<ValueTable>,
+    pub wrote: Option<(u64, Vec<u8>)>,
 }
 
 impl Said {
     fn new(number: u64, values: [u64; 3]) -> Self {
-        Self { number, table: None, values, run: None, row: None }
+        Self { number, table: None, values, run: None, row: None, wrote: None }
     }
 
     fn accepted() -> Self {
@@ -66,7 +70,10 @@ impl Said {
     }
 
     pub fn agrees_with(&self, answer: &Answer) -> bool {
-        let [_, records, payload] = self.values;
+        let [bytes, records, payload] = self.values;
+        if let (Some((position, _)), NO_OUTPUT_ROOM) = (&self.wrote, answer.number) {
+            return answer.values == [bytes, 0, 0] && answer.place == *position;
+        }
         match (&self.row, answer.number) {
             // The original takes the room that it needs, and that is what has to be asked for.
             (Some(_), NO_NODE_ROOM) => answer.values == [records, 0, 0],
@@ -77,6 +84,7 @@ impl Said {
                     && self.values == answer.values
                     && self.run == answer.run
                     && row.as_ref().is_none_or(|row| stands_in(row, answer))
+                    && self.wrote.as_ref().is_none_or(|(at, bytes)| stands_at(*at, bytes, answer))
             }
         }
     }
@@ -88,6 +96,12 @@ fn stands_in(row: &ValueTable, answer: &Answer) -> bool {
         records.starts_with(&row.records) && payload.starts_with(&row.payload)
     };
     answer.lent.as_ref().is_some_and(begins)
+}
+
+/// The output has what was written where it has to stand.
+fn stands_at(position: u64, bytes: &[u8], answer: &Answer) -> bool {
+    let from = |output: &Vec<u8>| output[position as usize..].starts_with(bytes);
+    answer.output.as_ref().is_some_and(from)
 }
 
 impl fmt::Display for Said {
@@ -149,7 +163,22 @@ pub fn ask(case: &Case, plain: &Answer) -> Option<Said> {
         }
         op::SKIP | op::RUN => rows::ask(case),
         op::DECODE => rows::decode(case, plain),
+        // It has no value tables, and none is made of what is none.
+        op::CHECK_TABLE => None,
+        op::ENCODE if plain.number == BAD_VALUE_TABLE => None,
+        op::ENCODE => writing::write(&WriteCase::of(case)).map(|wrote| said(case, wrote)),
         other => panic!("no such operation: {other}"),
+    }
+}
+
+fn said(case: &Case, wrote: Wrote) -> Said {
+    match wrote {
+        Wrote::Row(bytes) => {
+            let values = [bytes.len(), case.references.len() / 16, case.registry.len()];
+            let wrote = Some((case.b, bytes));
+            Said { table: Some(0), wrote, ..Said::new(0, values.map(|value| value as u64)) }
+        }
+        Wrote::Refused(number, values) => Said::new(number, values),
     }
 }
 
@@ -262,6 +291,34 @@ mod tests {
             }
         }
         assert!(!said.agrees_with(&Answer { lent: None, ..right }));
+    }
+
+    /// The same value encoded among bytes that stay.
+    #[test]
+    fn an_encoded_row_is_compared_in_every_byte() {
+        let decoded = plain_answer(&decoding([64, 2])).lent.expect("slices were lent");
+        let [references, registry] = decoded;
+        let case = Case {
+            op: op::ENCODE,
+            a: 5 << 32,
+            b: 3,
+            references,
+            registry,
+            input: vec![0x5C; 20],
+            ..decoding([64, 2])
+        };
+        let right = plain_answer(&case);
+        assert_eq!(right.output.as_ref().map(|output| &output[3..13]), Some(&FULL[..]));
+        let said = ask(&case, &right).expect("it is in the domain");
+        assert!(said.agrees_with(&right));
+        for at in 3..13 {
+            let mut wrong = right.clone();
+            wrong.output.as_mut().expect("there is an output")[at] ^= 1;
+            assert!(!said.agrees_with(&wrong), "byte {at}");
+        }
+        let short = plain_answer(&Case { input: vec![0x5C; 12], ..case.clone() });
+        assert_eq!((short.number, short.values), (NO_OUTPUT_ROOM, [10, 0, 0]));
+        assert!(said.agrees_with(&short) && !said.agrees_with(&Answer { values: [9, 0, 0], ..short }));
     }
 
     #[test]

@@ -1,21 +1,49 @@
-//! A sample of small cases with their answers, to be replayed where the original is not at hand.
+//! A sample of small cases with their answers, to be replayed where the original is not at hand. It has two
+//! parts, a program each.
 
 mod wanted;
+mod wanted_writes;
 
 use std::collections::BTreeMap;
 
-use crate::case::{op, Case};
+use crate::case::{op, Case, MOST_INPUT};
 use crate::compare::{Expected, Tally};
-use crate::generate::{self, edges, rows, words, Kind};
+use crate::generate::{self, edges, rows, words, writes, Kind};
 use crate::judge::plain_answer;
 use crate::rng::Rng;
-use plain::answer::number::{NO_NODE_ROOM, NO_PAYLOAD_ROOM};
+use crate::writing::{run, WriteCase};
+use plain::decoding::ValueTable;
 use wanted::{answered, Answered, Wanted, IS_ROW};
 
-/// No case that is chosen by chance has more bytes than this, or is lent more.
-const LONGEST: usize = 320;
-const MOST_LENT: usize = 256;
+/// What is recorded apart: the schema side with the reading of rows, and their writing.
+#[derive(Debug, Clone, Copy, PartialEq, Eq)]
+pub enum Part {
+    Reading,
+    Writing,
+}
+
+impl Part {
+    /// By the program that replays it.
+    pub fn of(program: &str) -> Option<Self> {
+        match program {
+            "replay" => Some(Self::Reading),
+            "replay_write" => Some(Self::Writing),
+            _ => None,
+        }
+    }
+}
+
+/// No case that is chosen by chance has more bytes than this.
+const LONGEST_SCHEMA: usize = 160;
+const LONGEST_ROWS: usize = 128;
+const LONGEST_WRITING: usize = 320;
+
+/// So many are drawn by chance.
 const RANDOM: u64 = 200_000;
+const RANDOM_WRITING: u64 = 40_000;
+
+/// No decoding call that is chosen by chance is lent more bytes.
+const MOST_LENT: usize = 128;
 
 /// Both files' contents.
 pub struct Recording {
@@ -24,84 +52,154 @@ pub struct Recording {
     pub tally: Tally,
 }
 
-/// So many cases are kept of each kind and answer: of decoding, mostly rows and those that lack room.
-fn most_kept(answered: Answered) -> usize {
-    match answered {
-        (op::DECODE, 0, IS_ROW) => 24,
-        (op::DECODE, NO_NODE_ROOM | NO_PAYLOAD_ROOM, _) => 8,
-        (op::DECODE, _, _) => 2,
-        _ => 8,
+/// So many cases are kept of each kind and answer. All of a part together have to fit into the steps of one
+/// run on the interpreter.
+fn most_kept(answered: Answered, kind: Kind) -> usize {
+    match (answered, kind) {
+        ((op::DECODE, 0, IS_ROW), _) => 4,
+        ((op::SKIP | op::RUN | op::DECODE, _, _), _) => 1,
+        ((op::ENCODE, 0, 12), "scalars") => 12,
+        ((op::ENCODE, 0, _), "scalars" | "limits") => 3,
+        ((op::ENCODE, _, _), "odd settings") => 8,
+        ((op::ENCODE, 14, _), "limits") => 4,
+        ((op::ENCODE, 17, _), "tags") => 3,
+        ((op::ENCODE, 16 | 21, _), _) => 3,
+        ((op::ENCODE, _, _), _) => 1,
+        ((op::CHECK_TABLE, _, _), _) => 2,
+        _ => 2,
     }
 }
 
-fn is_short(case: &Case) -> bool {
-    let lent = if case.op == op::DECODE { case.lent().iter().sum() } else { 0 };
-    case.bytes() <= LONGEST && lent <= MOST_LENT
+/// A run and a decoding call refuse a row as skip does, for which all kinds are told apart.
+fn kind_told((op, number, _): Answered, kind: Kind) -> Kind {
+    match op {
+        op::RUN | op::DECODE if number > 0 => "any",
+        _ => kind,
+    }
 }
 
 #[derive(Default)]
 struct Sample {
-    kept: BTreeMap<(Answered, Kind), (usize, Vec<Case>)>,
-    readings: u64,
+    kept: BTreeMap<(Answered, Kind), (usize, Vec<(Kind, Case)>)>,
+    offered: u64,
 }
 
 impl Sample {
     /// Keeps a fair choice of all cases that come for one place.
     fn offer(&mut self, rng: &mut Rng, kind: Kind, case: Case) {
-        if !is_short(&case) {
-            return;
-        }
         let answered = answered(&case, &plain_answer(&case));
-        let most = most_kept(answered);
-        let (met, kept) = self.kept.entry((answered, kind)).or_default();
+        let most = most_kept(answered, kind);
+        let (met, kept) = self.kept.entry((answered, kind_told(answered, kind))).or_default();
         *met += 1;
         let place = rng.below(*met);
         if kept.len() < most {
-            kept.push(case);
+            kept.push((kind, case));
         } else if place < most {
-            kept[place] = case;
+            kept[place] = (kind, case);
         }
     }
 
     /// A case of skip or run, and what is decoded of it.
     fn offer_reading(&mut self, rng: &mut Rng, kind: Kind, case: Case) {
-        if !is_short(&case) {
-            return;
-        }
-        self.readings += 1;
-        for (decoding, room) in rows::decoding::calls(self.readings, &case) {
-            self.offer(rng, kind, room.lend(decoding));
+        self.offered += 1;
+        for (decoding, room) in rows::decoding::calls(self.offered, &case) {
+            let decoding = room.lend(decoding);
+            if decoding.lent().iter().sum::<usize>() <= MOST_LENT {
+                self.offer(rng, kind, decoding);
+            }
         }
         self.offer(rng, kind, case);
     }
+
+    /// The calls that are made of a writing case, and the check of its value table.
+    fn offer_writing(&mut self, rng: &mut Rng, kind: Kind, case: WriteCase) {
+        self.offer(rng, kind, table_check(case.value.clone()));
+        if case.schema.a.max(case.schema.b) > u64::from(u32::MAX) {
+            return;
+        }
+        for call in run::calls(case, self.offered) {
+            self.offered += 1;
+            self.offer(rng, kind, call.asked());
+        }
+    }
+
+    fn chosen(self) -> Vec<(Kind, Case)> {
+        self.kept.into_values().flat_map(|(_, kept)| kept).collect()
+    }
 }
 
-pub fn record(seed: u64) -> Recording {
-    let mut rng = Rng::new(seed);
-    let mut sample = Sample::default();
-    generate::fixed(&mut |kind, case| sample.offer(&mut rng, kind, case));
-    rows::fixed(&mut |kind, case| sample.offer_reading(&mut rng, kind, case));
+fn table_check(value: ValueTable) -> Case {
+    let ValueTable { records: references, payload: registry } = value;
+    Case { op: op::CHECK_TABLE, references, registry, ..Case::default() }
+}
+
+pub fn record(part: Part, seed: u64) -> Recording {
+    let chosen = match part {
+        Part::Reading => [schema(seed), reading(seed)].concat(),
+        Part::Writing => writing(seed),
+    };
+    write(part, &chosen)
+}
+
+fn schema(seed: u64) -> Vec<(Kind, Case)> {
+    let (mut rng, mut sample) = (Rng::new(seed), Sample::default());
+    let mut take = |kind, case: Case| {
+        if case.bytes() <= LONGEST_SCHEMA {
+            sample.offer(&mut rng, kind, case);
+        }
+    };
+    generate::fixed(&mut take);
     for number in 0..RANDOM {
         let (kind, case) = generate::random(&mut Rng::for_case(seed, number));
-        sample.offer(&mut rng, kind, case);
-        let (kind, case) = rows::random(&mut Rng::for_case(seed, number));
-        sample.offer_reading(&mut rng, kind, case);
+        take(kind, case);
     }
-    let mut chosen = Vec::new();
-    for ((_, kind), (_, kept)) in sample.kept {
-        chosen.extend(kept.into_iter().map(|case| (kind, case)));
-    }
+    let mut chosen = sample.chosen();
     words::few(&mut |kind, case| chosen.push((kind, case)));
     edges::few(&mut |kind, case| chosen.push((kind, case)));
-    rows::edges::few(&mut |kind, case| chosen.push((kind, case)));
-    rows::decoding::few(LONGEST, &mut |kind, case| chosen.push((kind, case)));
-    write(&chosen)
+    chosen
 }
 
-fn write(chosen: &[(Kind, Case)]) -> Recording {
-    let mut wanted = Wanted::all();
+fn reading(seed: u64) -> Vec<(Kind, Case)> {
+    let (mut rng, mut sample) = (Rng::new(seed), Sample::default());
+    let mut take = |kind, case: Case| {
+        if case.bytes() <= LONGEST_ROWS {
+            sample.offer_reading(&mut rng, kind, case);
+        }
+    };
+    rows::fixed(&mut take);
+    for number in 0..RANDOM {
+        let (kind, case) = rows::random(&mut Rng::for_case(seed, number));
+        take(kind, case);
+    }
+    let mut chosen = sample.chosen();
+    rows::edges::few(&mut |kind, case| chosen.push((kind, case)));
+    rows::decoding::few(LONGEST_ROWS, &mut |kind, case| chosen.push((kind, case)));
+    chosen
+}
+
+fn writing(seed: u64) -> Vec<(Kind, Case)> {
+    let (mut rng, mut sample) = (Rng::new(seed), Sample::default());
+    let mut take = |kind, case: WriteCase| {
+        if case.bytes() <= LONGEST_WRITING {
+            sample.offer_writing(&mut rng, kind, case);
+        }
+    };
+    writes::edges::fixed(&mut take);
+    for number in 0..RANDOM_WRITING {
+        let (kind, case) = writes::random(&mut Rng::for_case(seed, number));
+        take(kind, case);
+    }
+    let mut chosen = sample.chosen();
+    writes::edges::few(&mut |kind, case| chosen.push((kind, case.asked())));
+    writes::tables::few(&mut |value| chosen.push(("one fault", table_check(value))));
+    chosen
+}
+
+fn write(part: Part, chosen: &[(Kind, Case)]) -> Recording {
+    let mut wanted = Wanted::of(part);
     let mut recording = Recording { cases: Vec::new(), answers: String::new(), tally: Tally::default() };
     for (kind, case) in chosen {
+        assert!(case.input.len() <= MOST_INPUT, "the program has no room for this input");
         let expected = Expected::of(case);
         assert!(
             expected.is_one(),

@@ -7,6 +7,7 @@ use plain::wire_type::NAMES;
 
 use crate::case::{hex, op, Case};
 use crate::room;
+use crate::writing::{self, WriteCase};
 
 /// More than this many lines or bytes are not printed.
 const MOST_LINES: usize = 80;
@@ -26,6 +27,8 @@ fn call(case: &Case) -> String {
             format!("decode the row at {a} of {} bytes, {}", case.input.len(), room::in_words(case))
         }
         op::RUN => format!("run over {} bytes", case.input.len()),
+        op::ENCODE => "encode a value table".to_owned(),
+        op::CHECK_TABLE => "the check of a value table".to_owned(),
         other => format!("unknown operation {other}"),
     }
 }
@@ -99,6 +102,9 @@ fn hex_of_some(bytes: &[u8]) -> String {
 
 pub fn describe(case: &Case) -> String {
     let mut out = format!("  {}\n", call(case));
+    if case.op == op::ENCODE || case.op == op::CHECK_TABLE {
+        return out + &writing::describe(&WriteCase::of(case));
+    }
     if case.op > op::FIXED_WIDTH {
         table(&mut out, "records", &case.records, &|index| record_line(case, index));
     }

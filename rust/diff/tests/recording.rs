@@ -14,15 +14,31 @@ fn replayed(cases: &str) -> String {
     String::from_utf8(output.expect("the stand-in runs").stdout).expect("answers are digits")
 }
 
-#[test]
-fn a_recording_is_small_and_replays() {
+fn recorded(program: &str, fewest: usize) {
     let folder = env!("CARGO_TARGET_TMPDIR");
-    let (cases, answers) = (format!("{folder}/stdin"), format!("{folder}/stdout"));
-    schema_diff(&["record", &cases, &answers]);
-    assert!(fs::metadata(&cases).unwrap().len() < 1_400_000);
+    let (cases, answers) = (format!("{folder}/{program}.stdin"), format!("{folder}/{program}.stdout"));
+    schema_diff(&["record", program, &cases, &answers]);
+    assert!(fs::metadata(&cases).unwrap().len() < 300_000);
     let answers = fs::read_to_string(&answers).unwrap();
-    assert!(answers.lines().count() > 4_000);
+    assert!(answers.lines().count() > fewest);
     assert_eq!(replayed(&cases), answers);
+    // What the gate has is this.
+    let gate = format!("{}/../../crates/{program}", env!("CARGO_MANIFEST_DIR"));
+    assert!(
+        fs::read(&cases).unwrap() == fs::read(format!("{gate}/stdin")).unwrap(),
+        "{program}: other cases"
+    );
+    assert!(answers == fs::read_to_string(format!("{gate}/stdout")).unwrap(), "{program}: other answers");
+}
+
+#[test]
+fn a_recording_of_reading_is_small_and_replays() {
+    recorded("replay", 900);
+}
+
+#[test]
+fn a_recording_of_writing_is_small_and_replays() {
+    recorded("replay_write", 500);
 }
 
 #[test]

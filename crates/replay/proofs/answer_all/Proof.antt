@@ -1,18 +1,16 @@
--- The loop's measure is the number of turns that are left, and it keeps the length of the space.
+-- The loop's measure is the number of turns that are left, and it keeps the lengths of the space and of the input.
 -- Assumes nothing.
-use Prim.Native.Nat.{_≤_}
 use mathlib.Core.Path.{_≡_}
 use lib.ListN.{length}
 use borrow.Author.Needs.{needs}
-use native.Mathlib.Omega.{arith}
 use Rattle.replay.proofs.answer_all.Statement.{statement}
 use Rattle.replay.proofs.answer_all.Tie as tie
 
 abbrev Inv-loop : tie.InvT-loop
-Inv-loop space₀ turns₀ space turns = length space ≡ length space₀
+Inv-loop space₀ input₀ turns₀ space input turns = (length space ≡ length space₀) × (length input ≡ length input₀)
 
 abbrev μ-loop : tie.MeasureT-loop
-μ-loop space₀ turns₀ space turns = turns
+μ-loop space₀ input₀ turns₀ space input turns = turns
 
 loop-holds : tie.Need-loop-holds Inv-loop μ-loop
 loop-holds c = search needs
@@ -22,6 +20,9 @@ answer-next-requires c κs = search needs
 
 same-length : tie.Need-same-length Inv-loop μ-loop
 same-length c = search needs
+
+same-length-2 : tie.Need-same-length-2 Inv-loop μ-loop
+same-length-2 c = search needs
 
 returns : tie.Need-returns Inv-loop μ-loop
 returns c = search needs
@@ -35,8 +36,11 @@ loop-less c = search needs
 loop-again : tie.Need-loop-again Inv-loop μ-loop
 loop-again c = search needs
 
-same-length-2 : tie.Need-same-length-2 Inv-loop μ-loop
-same-length-2 c = search needs
+same-length-3 : tie.Need-same-length-3 Inv-loop μ-loop
+same-length-3 c = search needs
+
+same-length-4 : tie.Need-same-length-4 Inv-loop μ-loop
+same-length-4 c = search needs
 
 returns-2 : tie.Need-returns-2 Inv-loop μ-loop
 returns-2 c = search needs
@@ -50,9 +54,11 @@ answer-all-spec =
     loop-holds
     answer-next-requires
     same-length
+    same-length-2
     returns
     sub-turns
     loop-less
     loop-again
-    same-length-2
+    same-length-3
+    same-length-4
     returns-2)

@@ -209,20 +209,16 @@ pub fn fixed(emit: &mut Emit) {
     long_names(emit);
 }
 
-/// The bounds again in a few cases small enough to be kept in a file.
+/// The bounds again in a few cases small enough to be kept in a file: both sides by one call, and what every
+/// call refuses.
 pub fn few(emit: &mut Emit) {
+    for (code, count) in [(15, 256), (15, 257), (17, 255)] {
+        emit("child count edge", in_call(op::VALIDATE, 3, &table_of(&fan(code, count, 2))));
+    }
     for op in [op::VALIDATE, op::ENCODER, op::FORMAT, op::TABLE_SCHEMA] {
-        for levels in [64, 65] {
-            emit("depth edge", in_call(op, 1, &chain(levels, 19, 19)));
-            emit("depth edge", in_call(op, 2, &table_of(&chain(levels - 1, 18, 1))));
-        }
-        for (code, count) in [(15, 256), (15, 257), (17, 255), (17, 256)] {
-            emit("child count edge", in_call(op, 3, &table_of(&fan(code, count, 2))));
-        }
+        emit("depth edge", in_call(op, 2, &table_of(&chain(63, 18, 1))));
+        emit("depth edge", in_call(op, 1, &chain(65, 19, 19)));
+        emit("child count edge", in_call(op, 3, &table_of(&fan(17, 256, 2))));
     }
     emit("depth edge", registered(1, &chain(65, 15, 0), false));
-    for (code, count) in [(15, 256), (15, 257), (17, 255), (17, 256)] {
-        emit("child count edge", in_call(op::VALIDATE, 0, &fan(code, count, 0)));
-        emit("child count edge", registered(1, &fan(code, count, 0), false));
-    }
 }

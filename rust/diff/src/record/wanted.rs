@@ -3,7 +3,8 @@
 use std::collections::BTreeSet;
 
 use plain::answer::number::{
-    BLOB_TOO_LARGE, MISSING_TABLE_SCHEMA, NO_NODE_ROOM, NO_PAYLOAD_ROOM, ROW_TOO_LARGE, SETTING, TRUNCATED,
+    BLOB_TOO_LARGE, INVALID_VARIANT_TAG, MISSING_TABLE_SCHEMA, NO_NODE_ROOM, NO_PAYLOAD_ROOM, ROW_TOO_LARGE,
+    SETTING, TRUNCATED, VALUE_DOES_NOT_MATCH_SCHEMA,
 };
 use plain::decoding::kind;
 use plain::settings::{Settings, MOST, MOST_NODE_CHARGE};
@@ -12,8 +13,10 @@ use plain::wire_type::{BOOLEAN, INT128, INT256, STRING32, YSON32};
 use crate::case::{op, Answer, Case};
 use crate::generate::rows;
 
-/// Operation, number, and what there is to tell apart besides: what a cut stream was cut in, and a row from
-/// an end.
+use super::{wanted_writes, Part};
+
+/// Operation, number, and what there is to tell apart besides: what a cut stream was cut in, a row from an
+/// end, and the wire type that an encoding call is about.
 pub type Answered = (u32, u64, u64);
 
 pub const IS_ROW: u64 = 1;
@@ -24,31 +27,42 @@ pub fn answered(case: &Case, answer: &Answer) -> Answered {
         (_, TRUNCATED) => first,
         // A row has bytes, and an end has none.
         (op::SKIP | op::DECODE, 0) if first > 0 => IS_ROW,
+        (op::ENCODE, 0) => wanted_writes::column(case),
+        (op::ENCODE, BLOB_TOO_LARGE | VALUE_DOES_NOT_MATCH_SCHEMA | INVALID_VARIANT_TAG) => first,
         _ => 0,
     };
     (case.op, answer.number, more)
 }
 
+/// Operations, each with numbers that it can answer.
+pub fn plainly(numbers: &[(u32, &[u64])]) -> BTreeSet<Answered> {
+    let each = |(op, numbers): &(u32, &[u64])| -> Vec<Answered> {
+        numbers.iter().map(|number| (*op, *number, 0)).collect()
+    };
+    numbers.iter().flat_map(each).collect()
+}
+
 /// Every operation with every number it can answer, the caller's slice bound (1) apart where that is
-/// all that 1 stands for; and the reading calls with every context.
-fn answers() -> BTreeSet<Answered> {
-    let reading = &[0, 1, 2, 3, 4, 5, 6, 7, 8, 10, 11, 13, 14, 17];
-    let numbers: [(u32, &[u64]); 10] = [
+/// all that 1 stands for.
+fn schema_answers() -> BTreeSet<Answered> {
+    plainly(&[
         (op::PARSE, &[0, 255]),
         (op::FIXED_WIDTH, &[0, 255]),
         (op::VALIDATE, &[0, 2, 3, 4, 5]),
         (op::ENCODER, &[0, 2, 3, 4, 5, 9, 10]),
         (op::FORMAT, &[0, 2, 3, 4, 5, 6, 7, 8, 10]),
         (op::TABLE_SCHEMA, &[0, 2, 3, 4, 5, 6, 7, 8, 10, 11]),
-        (op::SKIP, reading),
-        (op::RUN, reading),
-        (op::DECODE, reading),
-        (op::DECODE, &[NO_NODE_ROOM, NO_PAYLOAD_ROOM]),
-    ];
-    let plainly = |(op, numbers): (u32, &'static [u64])| numbers.iter().map(move |number| (op, *number, 0));
-    let cut = |op: u32| (1..=17).map(move |context| (op, TRUNCATED, context));
-    let rows = [op::SKIP, op::DECODE].map(|op| (op, 0, IS_ROW));
-    numbers.into_iter().flat_map(plainly).chain(READING.into_iter().flat_map(cut)).chain(rows).collect()
+    ])
+}
+
+/// The same of the reading calls, and each with every context.
+fn reading_answers() -> BTreeSet<Answered> {
+    let reading = &[0, 1, 2, 3, 4, 5, 6, 7, 8, 10, 11, 13, 14, 17];
+    let mut answers = plainly(&READING.map(|op| (op, &reading[..])));
+    answers.extend(plainly(&[(op::DECODE, &[NO_NODE_ROOM, NO_PAYLOAD_ROOM])]));
+    answers.extend(READING.into_iter().flat_map(|op| (1..=17).map(move |context| (op, TRUNCATED, context))));
+    answers.extend([op::SKIP, op::DECODE].map(|op| (op, 0, IS_ROW)));
+    answers
 }
 
 const READING: [u32; 3] = [op::SKIP, op::RUN, op::DECODE];
@@ -114,10 +128,12 @@ fn edges() -> Vec<Edge> {
     settings.into_iter().flat_map(reading).chain(last.into_iter().flat_map(one_row)).collect()
 }
 
-/// What a decoding call has to show, in words and as a test of it.
-type Shown = (&'static str, fn(&Case, &Answer) -> bool);
+/// What a call has to show, in words and as a test of it.
+pub type Shown = (String, Box<dyn Fn(&Case, &Answer) -> bool>);
 
-const SHOWN: [Shown; 12] = [
+type Test = fn(&Case, &Answer) -> bool;
+
+const DECODED: [(&str, Test); 12] = [
     ("int128 as payload", |_, answer| has(answer, |value| is_sized(value, INT128))),
     ("int256 as payload", |_, answer| has(answer, |value| is_sized(value, INT256))),
     ("string32 as payload", |_, answer| has(answer, |value| is_sized(value, STRING32))),
@@ -138,6 +154,14 @@ const SHOWN: [Shown; 12] = [
     }),
     ("a tail that is no record", |case, answer| has(answer, |_| true) && case.lent()[0] % 16 > 0),
 ];
+
+fn decoded() -> Vec<Shown> {
+    let of_decoding = |(words, test): (&str, Test)| -> Shown {
+        let shown = move |case: &Case, answer: &Answer| case.op == op::DECODE && test(case, answer);
+        (words.to_owned(), Box::new(shown))
+    };
+    DECODED.map(of_decoding).into()
+}
 
 /// The value records of an accepted row.
 fn values(answer: &Answer) -> Vec<&[u8]> {
@@ -182,23 +206,29 @@ pub struct Wanted {
 }
 
 impl Wanted {
-    pub fn all() -> Self {
-        Self { answers: answers(), edges: edges(), shown: SHOWN.to_vec() }
+    pub fn of(part: Part) -> Self {
+        match part {
+            Part::Reading => {
+                let answers = schema_answers().into_iter().chain(reading_answers()).collect();
+                Self { answers, edges: edges(), shown: decoded() }
+            }
+            Part::Writing => {
+                Self { answers: wanted_writes::answers(), edges: vec![], shown: wanted_writes::shown() }
+            }
+        }
     }
 
     pub fn meet(&mut self, case: &Case, answer: &Answer) {
         self.answers.remove(&answered(case, answer));
         self.edges.retain(|edge| !edge.is_met_by(case, answer));
-        if case.op == op::DECODE {
-            self.shown.retain(|(_, is_shown_by)| !is_shown_by(case, answer));
-        }
+        self.shown.retain(|(_, is_shown_by)| !is_shown_by(case, answer));
     }
 
     pub fn assert_met(&self) {
         let Self { answers, edges, shown } = self;
         assert!(answers.is_empty(), "no case was met with these operations and answers: {answers:?}");
         assert!(edges.is_empty(), "no case was met at these edges: {edges:?}");
-        let shown: Vec<&str> = shown.iter().map(|(words, _)| *words).collect();
-        assert!(shown.is_empty(), "no decoding call shows: {shown:?}");
+        let shown: Vec<&String> = shown.iter().map(|(words, _)| words).collect();
+        assert!(shown.is_empty(), "no call shows: {shown:?}");
     }
 }

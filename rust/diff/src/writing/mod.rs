@@ -14,9 +14,10 @@ use plain::answer::Refusal;
 use plain::decoding::ValueTable;
 use plain::encoding::{encode, Given};
 use plain::reading::Row;
+use plain::report::Report;
 
-use crate::case::{hex, Case};
-use crate::judge::lone_block;
+use crate::case::{halves, hex, op, Answer, Case};
+use crate::judge::{line, lone_block};
 
 /// What an encoding call is given.
 #[derive(Debug, Clone, PartialEq, Eq, Default)]
@@ -42,6 +43,35 @@ impl WriteCase {
         }
     }
 
+    /// The call as a case that a program is asked.
+    pub fn asked(&self) -> Case {
+        Case {
+            op: op::ENCODE,
+            a: halves([self.schema.a, self.schema.b]),
+            b: self.position,
+            references: self.value.records.clone(),
+            registry: self.value.payload.clone(),
+            input: filled(self.output),
+            ..self.schema.clone()
+        }
+    }
+
+    /// The call that a case asks for, but for what its output holds.
+    pub fn of(case: &Case) -> Self {
+        let value = ValueTable { records: case.references.clone(), payload: case.registry.clone() };
+        let (first, count) = (u64::from(case.a as u32), case.a >> 32);
+        let schema = Case {
+            op: op::ENCODER,
+            a: first,
+            b: count,
+            references: Vec::new(),
+            registry: Vec::new(),
+            input: Vec::new(),
+            ..case.clone()
+        };
+        Self { schema, value, output: case.input.len(), position: case.b }
+    }
+
     pub fn bytes(&self) -> usize {
         self.schema.bytes() + self.value.records.len() + self.value.payload.len()
     }
@@ -55,8 +85,17 @@ pub fn filled(bytes: usize) -> Vec<u8> {
 /// What the plain reading answers, and what it leaves in the output.
 pub fn plain_encoded(case: &WriteCase) -> (Result<Row, Refusal>, Vec<u8>) {
     let mut output = filled(case.output);
-    let done = encode(&case.given(), &mut output, case.position);
+    let done = plain_encoded_into(case, &mut output);
     (done, output)
+}
+
+pub fn plain_encoded_into(case: &WriteCase, output: &mut [u8]) -> Result<Row, Refusal> {
+    encode(&case.given(), output, case.position)
+}
+
+/// An encoding call's answer line, with what its output holds. It is told as a row that is read.
+pub fn encoded_line(done: &Result<Row, Refusal>, output: Vec<u8>) -> Answer {
+    Answer { output: Some(output), ..line(op::SKIP, &Report::of_encoded(done)) }
 }
 
 /// A case in words and in hex, record by record.

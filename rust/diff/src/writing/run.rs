@@ -132,7 +132,7 @@ const POSITIONS: [u64; 6] = [0, 0, 1, 7, 64, 3];
 const MORE: [usize; 5] = [0, 0, 1, 9, 300];
 
 /// The calls that are made of a case: with room enough, and with less; each with a position.
-fn calls(case: WriteCase, number: u64) -> Vec<WriteCase> {
+pub fn calls(case: WriteCase, number: u64) -> Vec<WriteCase> {
     let position = POSITIONS[number as usize % POSITIONS.len()];
     let start = position as usize;
     let settings_are_good = case.schema.settings().are_good();

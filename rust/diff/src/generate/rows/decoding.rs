@@ -33,20 +33,24 @@ const FEW_ROOMS: [Room; 4] = [
     Room { records: Slack::More(15), payload: Slack::More(1) },
 ];
 
-/// The rows that a sample has to have, each as the first of its input, in few rooms. Those of a format with
+/// The rows that a sample has to have, in two rooms each. Those of a format with
 /// more than `longest` bytes have value tables as long, and are left out.
 pub fn few(longest: usize, emit: &mut Emit) {
+    let mut rows = 0;
     edges::few(&mut |kind, case| {
-        if case.op != op::SKIP || case.a > 0 {
+        if case.op != op::SKIP {
             return;
         }
         let bytes = case.bytes();
         let decoding = Case { op: op::DECODE, ..case };
-        let rooms = match need(&decoding) {
-            Some(_) if bytes > longest => &[],
-            Some(_) => &FEW_ROOMS[..],
+        let rooms: Vec<Room> = match need(&decoding) {
+            Some(_) if bytes > longest => vec![],
+            Some(_) => {
+                rows += 1;
+                vec![FEW_ROOMS[0], FEW_ROOMS[1 + rows % 3]]
+            }
             // Without a row one room is as good as another.
-            None => &FEW_ROOMS[..1],
+            None => vec![FEW_ROOMS[0]],
         };
         rooms.iter().for_each(|room| emit(kind, room.lend(decoding.clone())));
     });

@@ -301,11 +301,23 @@ pub fn fixed(emit: &mut Emit) {
 }
 
 /// What a sample has to have, whatever else is in it: document 01's rows, the bounds of the settings and of
-/// a schema, and values of each form.
+/// a schema, and values of each form; from other positions than the start one row alone.
 pub fn few(emit: &mut Emit) {
-    document_rows(emit);
-    kept_values(emit);
-    bounds(emit);
-    format_bounds(emit);
-    deep(63, 17, emit);
+    let mut at_start = |kind, case: Case| {
+        if case.a == 0 || (case.input == FULL && case.settings() == usual()) {
+            emit(kind, case);
+        }
+    };
+    document_rows(&mut at_start);
+    bounds(&mut at_start);
+    let mut skipped = |kind, case: Case| {
+        if case.op == op::SKIP {
+            at_start(kind, case);
+        }
+    };
+    kept_values(&mut skipped);
+    read(&format(&[table_of(&chain(63, 19, 8))]), &[0, 0, 7], &mut skipped);
+    read(&format(&[table_of(&fan(17, 255, 2))]), &[0, 0, 254, 7, 255], &mut skipped);
+    read(&format(&[table_of(&chain(64, 19, 8))]), &[0, 0, 7], &mut at_start);
+    read(&format(&[table_of(&fan(17, 256, 2))]), &[0, 0, 254, 7, 255], &mut at_start);
 }

@@ -2,7 +2,7 @@
 //! widths, and a small table with every byte changed.
 
 use plain::decoding::kind;
-use plain::settings::Settings;
+use plain::settings::{Settings, MOST, MOST_NODE_CHARGE};
 use plain::wire_type::fixed_width;
 
 use super::draw::{lay_out, leaf, Body, Node};
@@ -23,6 +23,46 @@ pub fn fixed(emit: &mut Emit) {
     depths(emit);
     widths(emit);
     every_byte(emit);
+}
+
+/// What a sample has to have, whatever its length: tags at and past the last, also at the last that one byte
+/// has, and a child more than there may be; the deepest value, and a schema of a level more; each setting at
+/// its bounds and past them while the others are usual.
+pub fn few(emit: &mut Emit) {
+    for (code, of, most) in [(15, kind::VARIANT, 256), (17, kind::REPEATED, 255)] {
+        for (count, tag) in [(most, most - 1), (most, most), (most + 1, 0)] {
+            few_tags(emit, code, of, count, tag);
+        }
+    }
+    for code in 15..19 {
+        let of = if code < 17 { kind::VARIANT } else { kind::REPEATED };
+        [0, 1, 2, 255, 256, 65_535].into_iter().for_each(|tag| few_tags(emit, code, of, 2, tag));
+    }
+    for levels in [63, 64] {
+        let value = (1..levels).fold(Node::nothing(), |below, _| tuple(vec![below]));
+        few_with(emit, "depths", &chain(levels, 19, 0), value, usual());
+    }
+    let charges = [0, 1, MOST_NODE_CHARGE, MOST_NODE_CHARGE + 1];
+    let charges = charges.map(|node_charge| Settings { node_charge, ..usual() });
+    let limits = [0, MOST, MOST + 1];
+    let blobs = limits.map(|max_blob_bytes| Settings { max_blob_bytes, ..usual() });
+    let rows = limits.map(|max_row_bytes| Settings { max_row_bytes, ..usual() });
+    for settings in charges.into_iter().chain(blobs).chain(rows) {
+        let blob = Node::new(13, Body::Payload(b"a".to_vec()));
+        few_with(emit, "odd settings", &[Plan::new(13, 0)], blob, settings);
+    }
+}
+
+fn few_tags(emit: &mut Emit, code: u8, of: u8, count: u32, tag: u32) {
+    let chosen = Node::nothing().chosen(tag as u16, count);
+    let value = Node::new(of, Body::Children(vec![chosen]));
+    few_with(emit, "tags", &fan(code, count as usize, 0), value, usual());
+}
+
+/// With room on both sides of the row.
+fn few_with(emit: &mut Emit, what: Kind, column: &[Plan], value: Node, settings: Settings) {
+    let schema = schema_of(&table_of(column)).with_settings(settings);
+    emit(what, WriteCase { schema, value: lay_out(&tuple(vec![value])), output: 12, position: 2 });
 }
 
 fn tuple(children: Vec<Node>) -> Node {

@@ -3,6 +3,7 @@
 pub mod damage;
 pub mod draw;
 pub mod edges;
+pub mod tables;
 
 use plain::settings::{Settings, MOST, MOST_NODE_CHARGE};
 
