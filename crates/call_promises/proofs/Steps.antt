@@ -49,7 +49,7 @@ use Rattle.read.proofs.budget.blob_limit as blob-limit
 use Rattle.read.proofs.fields.read_tag as read-tag
 use Rattle.read.proofs.fields.read_table as read-table
 use Rattle.read.proofs.fields.read_length as read-length
-use Rattle.wire.proofs.codes.fixed_width as width-of-code
+use Rattle.wire.proofs.codes.code_width as width-of-code
 use Rattle.read.proofs.fields.payload_of_fixed as payload-of-fixed
 use Rattle.read.proofs.fields.ends as ends
 use Rattle.read.proofs.walk.skip_root as skip-root

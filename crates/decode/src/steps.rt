@@ -8,7 +8,7 @@ ghost use Rattle.rules.specs.Block.{block};
 ghost use Rattle.rules.specs.ValueTable.{flat, payloadBytes};
 ghost use Rattle.rules.specs.Reading.{limits, rowAt, roomFor, filled};
 ghost use Rattle.schema.specs.Slices.{slices};
-ghost use Rattle.row.specs.Steps.{Asked};
+ghost use Rattle.row.specs.Steps.{ThroughDoor};
 ghost use Rattle.fill.specs.Filling.{rowValue};
 ghost use Rattle.decode.specs.Steps.{Granted};
 use block::table::block_of;
@@ -94,7 +94,7 @@ pub fn decode_row(
     records: &mut [u8],
     payload: &mut [u8],
 ) -> Read
-    requires { ⌜ Asked (slices (now table) (now names) (now references) (now registry)) (now input) settings × (at ≤ length (now input)) ⌝ }
+    requires { ⌜ ThroughDoor (slices (now table) (now names) (now references) (now registry)) (now input) settings × (at ≤ length (now input)) ⌝ }
     ensures { λ r. ⌜ record { answer = r; records = now (records .exit); payload = now (payload .exit) }
         ≡ filled at (rowAt (slices (now (table .entry)) (now (names .entry)) (now (references .entry)) (now (registry .entry))) (now (input .entry)) (limits settings) at)
         (now (records .entry)) (now (payload .entry)) ⌝ }

@@ -1,7 +1,7 @@
 // The run over a stream as it is read.
 ghost use lib.ListN.{length};
 ghost use Rattle.windows.specs.Bounds.{Laid};
-ghost use Rattle.windows.specs.Steps.{tables};
+ghost use Rattle.windows.specs.Steps.{formatIn};
 ghost use Rattle.deliveries.specs.Outcomes.{Answers};
 use crate::outcome::Outcome;
 use crate::outcome::outcome_of_last_read;
@@ -23,7 +23,7 @@ pub fn read_one_more(fd: i32) -> isize {
 // Runs over the stream, in the window behind the tables. What stands is always the run over the bytes read so far.
 pub fn run_stream(settings: Settings, fd: i32, space: &mut [u8], ends: Ends) -> Outcome
     requires { ⌜ Laid ends (ends .registry) (length (now space)) ⌝ }
-    ensures { λ r. ⌜ Answers (tables (now (space .entry)) ends) settings ends (now (space .exit)) r ⌝ }
+    ensures { λ r. ⌜ Answers (formatIn (now (space .entry)) ends) settings ends (now (space .exit)) r ⌝ }
 {
     let w = ends.registry;
     let mut ran = run_window(settings, no_rows(Stop::End), space, ends, w);

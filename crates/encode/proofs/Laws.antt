@@ -27,7 +27,7 @@ use Rattle.rules.proofs.Tests.{and-both}
 use Rattle.rules.proofs.Checks.{refused-not, then-both, pick-accepted}
 use Rattle.block_laws.proofs.Good.{FormedBlock, form-accepts}
 use Rattle.read.proofs.Nodes.{formed-sound}
-use Rattle.write.specs.Table.{IsWhole, valueOf}
+use Rattle.write.specs.Table.{IsWhole, wholeValue}
 use Rattle.write.specs.Judging.{RowJudgeable}
 use Rattle.write.specs.Row.{placedRow}
 
@@ -55,7 +55,7 @@ accepted-whole Broken e = refused-not _ e
 
 -- the row of a whole one
 whole-value : (sch : List ℕ) (lim : Limits) (recs pay out : List ℕ) (at : ℕ) → (p : Parsed Value) → tableValue recs pay ≡ p → IsWhole p → placedRow sch lim recs pay out at ≡ encodeValue sch lim (tableValue recs pay) out at
-unfolding placedRow encodeValue IsWhole valueOf
+unfolding placedRow encodeValue IsWhole wholeValue
 whole-value sch lim recs pay out at (Whole v q) e w = rw e
 whole-value sch lim recs pay out at Broken e w = absurd w
 

@@ -15,7 +15,7 @@ use value::table_form;
 use write::row::write_row;
 
 // Settings and slices are inside document 01's bounds, and the position in what counts of the output.
-fn within_bounds(
+fn writing_within_bounds(
     settings: Settings,
     table: &[u8],
     names: &[u8],
@@ -82,7 +82,7 @@ pub fn encode(
     ensures { λ r. ⌜ record { answer = r; output = now (output .exit) } ≡ encodeRule settings (now (table .entry)) (now (names .entry)) first count
         (now (records .entry)) (now (payload .entry)) (now (output .entry)) position ⌝ }
 {
-    if !within_bounds(settings, table, names, records, payload, output, position) {
+    if !writing_within_bounds(settings, table, names, records, payload, output, position) {
         return Written::Refused(Refusal::SETTING);
     }
     let checked = check_forms(table, names, first, count, records, payload);

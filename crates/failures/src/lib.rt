@@ -2,7 +2,7 @@
 ghost use Prim.Native.Nat.{_+_, _≤_};
 ghost use lib.ListN.{length};
 ghost use Rattle.failures.specs.Failures.{reason, failureLine, usageLine};
-ghost use Rattle.lines.specs.Puts.{Put};
+ghost use Rattle.lines.specs.Puts.{TextPut};
 use lines::put_number;
 use lines::put_text;
 
@@ -16,7 +16,7 @@ pub enum Failure {
 
 fn put_no_room(buffer: &mut [u8], place: u64, room: u64) -> usize
     requires { ⌜ 128 ≤ length (now buffer) ⌝ }
-    ensures { λ r. ⌜ Put (now (buffer .entry)) 0 (reason (Failure.NoRoom place room)) (now (buffer .exit)) r ⌝ }
+    ensures { λ r. ⌜ TextPut (now (buffer .entry)) 0 (reason (Failure.NoRoom place room)) (now (buffer .exit)) r ⌝ }
     ensures { λ r. ⌜ r ≤ 128 ⌝ }
 {
     let next = put_number(buffer, 0, b"the row at ", place);
@@ -26,7 +26,7 @@ fn put_no_room(buffer: &mut [u8], place: u64, room: u64) -> usize
 
 fn put_reason(buffer: &mut [u8], failure: Failure) -> usize
     requires { ⌜ 128 ≤ length (now buffer) ⌝ }
-    ensures { λ r. ⌜ Put (now (buffer .entry)) 0 (reason failure) (now (buffer .exit)) r ⌝ }
+    ensures { λ r. ⌜ TextPut (now (buffer .entry)) 0 (reason failure) (now (buffer .exit)) r ⌝ }
     ensures { λ r. ⌜ r ≤ 128 ⌝ }
 {
     match failure {
@@ -40,7 +40,7 @@ fn put_reason(buffer: &mut [u8], failure: Failure) -> usize
 // The line about a file that stands for something, at a path.
 pub fn put_failure_line(buffer: &mut [u8], failure: Failure, file: &[u8], path: &[u8]) -> usize
     requires { ⌜ 130 + length (now file) + length (now path) ≤ length (now buffer) ⌝ }
-    ensures { λ r. ⌜ Put (now (buffer .entry)) 0 (failureLine failure (now (file .entry)) (now (path .entry))) (now (buffer .exit)) r ⌝ }
+    ensures { λ r. ⌜ TextPut (now (buffer .entry)) 0 (failureLine failure (now (file .entry)) (now (path .entry))) (now (buffer .exit)) r ⌝ }
     ensures { λ r. ⌜ r ≤ 130 + length (now (file .entry)) + length (now (path .entry)) ⌝ }
 {
     let next = put_reason(buffer, failure);
@@ -53,7 +53,7 @@ pub fn put_failure_line(buffer: &mut [u8], failure: Failure, file: &[u8], path: 
 // How a program for deliveries is called.
 pub fn put_usage_line(buffer: &mut [u8]) -> usize
     requires { ⌜ 64 ≤ length (now buffer) ⌝ }
-    ensures { λ r. ⌜ Put (now (buffer .entry)) 0 usageLine (now (buffer .exit)) r ⌝ }
+    ensures { λ r. ⌜ TextPut (now (buffer .entry)) 0 usageLine (now (buffer .exit)) r ⌝ }
     ensures { λ r. ⌜ r ≤ 64 ⌝ }
 {
     put_text(

@@ -17,26 +17,26 @@ use Rattle.rules.specs.declared.table_record.Node.{Node}
 use Rattle.rules.specs.declared.refusal.Refusal.{Refusal}
 use Rattle.rules.specs.Refusals.{RowTooLarge}
 use Rattle.row_laws.proofs.Sound.{sound}
-use Rattle.fill.specs.Plain.{Reading, Got, _>>=_, valueRead, plainNumberAt, bytesAt, leafAt, Reader, childAt, pairsAt, fieldsAt, byForm, readAt}
+use Rattle.fill.specs.Plain.{PlainRead, Got, _>>=_, valueRead, plainNumberAt, bytesAt, leafAt, Reader, childAt, pairsAt, fieldsAt, byForm, readAt}
 
 -- what is accepted is read, and leaves off at the same place
-data Agrees {A : Type 0} : Answer A → Reading A → Type 0 where
+data Agrees {A : Type 0} : Answer A → PlainRead A → Type 0 where
   both : {a : A} {q : Pos} → Agrees (rule.Got a q) (Got a (q .at))
-  refused : {r : Refusal} {x : Reading A} → Agrees (Refused r) x
+  refused : {r : Refusal} {x : PlainRead A} → Agrees (Refused r) x
 
-then : {A B : Type 0} {x : Answer A} {y : Reading A} {k : A × Pos → Answer B} (l : A × ℕ → Reading B) → Agrees x y → ((z : A × Pos) → Agrees (k z) (l (z .0, z .1 .at))) → Agrees (rule._>>=_ x k) (y >>= l)
+then : {A B : Type 0} {x : Answer A} {y : PlainRead A} {k : A × Pos → Answer B} (l : A × ℕ → PlainRead B) → Agrees x y → ((z : A × Pos) → Agrees (k z) (l (z .0, z .1 .at))) → Agrees (rule._>>=_ x k) (y >>= l)
 unfolding rule._>>=_ _>>=_
 then l (both {a = a} {q = q}) f = f (a, q)
 then l refused f = refused
 
 -- a test that both make
-either : {A : Type 0} {x x′ : Answer A} {y y′ : Reading A} (b : Bool) → Agrees x y → Agrees x′ y′ → Agrees (pick b x x′) (pick b y y′)
+either : {A : Type 0} {x x′ : Answer A} {y y′ : PlainRead A} (b : Bool) → Agrees x y → Agrees x′ y′ → Agrees (pick b x x′) (pick b y y′)
 unfolding pick
 either true f g = f
 either false f g = g
 
 -- a test that the walk alone makes
-passing : {A : Type 0} {x : Answer A} {y : Reading A} (r : Refusal) (b : Bool) → Agrees x y → Agrees (pick b x (Refused r)) y
+passing : {A : Type 0} {x : Answer A} {y : PlainRead A} (r : Refusal) (b : Bool) → Agrees x y → Agrees (pick b x (Refused r)) y
 unfolding pick
 passing r true f = f
 passing r false f = refused
@@ -51,7 +51,7 @@ module _ (inp : List ℕ) (lim : Limits) where
   bytes-agrees n context p = either _ both refused
 
   -- a charge, and what follows it
-  charge-agrees : {A : Type 0} {k : Unit × Pos → Answer A} (y : ℕ → Reading A) (cost r place : ℕ) (p : Pos) → ((z : Unit × Pos) → Agrees (k z) (y (z .1 .at))) → Agrees (rule._>>=_ (charged lim cost r place p) k) (y (p .at))
+  charge-agrees : {A : Type 0} {k : Unit × Pos → Answer A} (y : ℕ → PlainRead A) (cost r place : ℕ) (p : Pos) → ((z : Unit × Pos) → Agrees (k z) (y (z .1 .at))) → Agrees (rule._>>=_ (charged lim cost r place p) k) (y (p .at))
   unfolding charged pick rule._>>=_
   charge-agrees {A = A} {k = k} y cost r place p f = by (leb cost (p .left))
     where
@@ -112,7 +112,7 @@ module _ (inp : List ℕ) (lim : Limits) where
   pub reads : (sch : List ℕ) (d i : ℕ) (p q : Pos) (v : Value) → walk sch inp lim d i p ≡ rule.Got v q → readAt sch inp d i (p .at) ≡ Got v (q .at)
   reads sch d i p q v e = from (rw e at (walk-agrees sch d i p))
     where
-      from : {y : Reading Value} → Agrees (rule.Got v q) y → y ≡ Got v (q .at)
+      from : {y : PlainRead Value} → Agrees (rule.Got v q) y → y ≡ Got v (q .at)
       from both = refl
 
   module _ (bs : Bytes inp) (sch : List ℕ) where

@@ -21,57 +21,22 @@ use Rattle.rules.specs.declared.table_record.Node.{Node}
 use Rattle.rules.proofs.Tests.{all-each}
 use Rattle.rules.proofs.Codes.{form-unknown}
 use Rattle.value_laws.proofs.Codes.{plain}
+use Rattle.value_laws.proofs.Children.{untagged, children, below-untagged, pays-untagged, tally-untagged, count-untagged}
 use Rattle.fill.specs.declared.Next.{Next}
 use Rattle.fill.specs.declared.Next.the-variants.{Child, End}
-use Rattle.fill.specs.Plain.{Reading, Got, Not, _>>=_, IsGot, plainNumberAt, Reader, childAt, pairsAt, fieldsAt, leafAt, byForm, readAt, valueRead, endRead}
+use Rattle.fill.specs.Plain.{PlainRead, Got, Not, _>>=_, IsGot, plainNumberAt, Reader, childAt, pairsAt, fieldsAt, leafAt, byForm, readAt, valueRead, endRead}
 use Rattle.fill.specs.Filling.{tagBytes, nextOf}
 use Rattle.read.proofs.Codes.{form-choice, form-series, form-fields}
 use Rattle.fill.proofs.Got.{not-got, got-from, got-is, read-step, step, number-step, child-step}
 
--- ---- the children of a value, each with the tag that it bears
-
-unfoldable pub untagged : Values → Items
-untagged none = done
-untagged (more v vs) = item 0 v (untagged vs)
-
-unfoldable pub children : Value → Items
-children nothing = done
-children (boolean x) = done
-children (number k x) = done
-children (wide k x) = done
-children (blob k x) = done
-children (variant t v) = item t v done
-children (repeated is) = is
-children (tuple vs) = untagged vs
-
-below-untagged : (vs : Values) (p : ℕ) → belowV vs p ≡ belowI (untagged vs) p
-unfolding untagged below
-below-untagged none p = refl
-below-untagged (more v vs) p = rw (below-untagged vs (p + payloadOf v))
-
-pays-untagged : (vs : Values) → payloadBytesV vs ≡ payloadBytesI (untagged vs)
-unfolding untagged payloadBytes
-pays-untagged none = refl
-pays-untagged (more v vs) = rw (pays-untagged vs)
-
-tally-untagged : (vs : Values) (n a b : ℕ) → tallyV vs n a b ≡ tallyI (untagged vs) n a b
-unfolding untagged tally
-tally-untagged none n a b = refl
-tally-untagged (more v vs) n a b = rw (tally-untagged vs n a b)
-
-count-untagged : (vs : Values) → values vs ≡ items (untagged vs)
-unfolding untagged values items
-count-untagged none = refl
-count-untagged (more v vs) = rw (count-untagged vs)
-
 -- the table of a node with children: a record that has their count, and theirs
-pub record Parent (valueKind : ℕ) (v : Value) : Type 0 where
+pub record ParentTable (valueKind : ℕ) (v : Value) : Type 0 where
   pub table : (tag p : ℕ) → heads v tag p ≡ valueRecord valueKind tag (items (children v)) 0 ∷ belowI (children v) p
   pub bytes : payloadBytes v ≡ payloadBytesI (children v)
   pub records : recordsOf v ≡ 1 + tallyI (children v) 1 0 0
   pub payload : payloadOf v ≡ tallyI (children v) 0 1 1
 
-variant-parent : (t : ℕ) (v : Value) → Parent 15 (variant t v)
+variant-parent : (t : ℕ) (v : Value) → ParentTable 15 (variant t v)
 unfolding heads headOf valueKind sizeOf contentOf below payloadBytes children items recordsOf payloadOf tally
 variant-parent t v = record {
   table = λ tag p. simp append-nil;
@@ -80,11 +45,11 @@ variant-parent t v = record {
   payload = omega arith;
 }
 
-repeated-parent : (is : Items) → Parent 16 (repeated is)
+repeated-parent : (is : Items) → ParentTable 16 (repeated is)
 unfolding heads headOf valueKind sizeOf contentOf below payloadBytes children recordsOf payloadOf tally
 repeated-parent is = record { table = λ tag p. refl; bytes = refl; records = refl; payload = omega arith }
 
-tuple-parent : (vs : Values) → Parent 17 (tuple vs)
+tuple-parent : (vs : Values) → ParentTable 17 (tuple vs)
 unfolding heads headOf valueKind sizeOf contentOf below payloadBytes children recordsOf payloadOf tally
 tuple-parent vs = record {
   table = λ tag p. rw (count-untagged vs, below-untagged vs p);
@@ -114,7 +79,7 @@ leaf-reads inp rec n at h = plain-reads inp rec n (form (n .code)) at (all-each 
 
 module _ (inp : List ℕ) (rec : Reader) (n : Node) where
   -- what is left after i of them
-  unfoldable pub left : Form → ℕ → ℕ → ℕ → Reading Items
+  unfoldable pub left : Form → ℕ → ℕ → ℕ → PlainRead Items
   left (variant-form w) zero enough at = plainNumberAt inp w at >>= (λ (z : ℕ × ℕ). childAt rec n (z .0) (z .1) >>= (λ (y : Value × ℕ). Got (item (z .0) (y .0) done) (y .1)))
   left (variant-form w) (suc i) enough at = Got done at
   left (repeated-form w) i enough at = pairsAt inp rec n w enough at
@@ -129,7 +94,7 @@ module _ (inp : List ℕ) (rec : Reader) (n : Node) where
   -- before the first one, all are left
   pub record Start (f : Form) (at : ℕ) (v : Value) (z : ℕ) : Type 0 where
     pub all : left f 0 (suc (length inp - at)) at ≡ Got (children v) z
-    pub parent : Parent (kindFor (n .code) f) v
+    pub parent : ParentTable (kindFor (n .code) f) v
 
   choice-start : (w at z : ℕ) (v : Value) → byForm inp rec n (variant-form w) at ≡ Got v z → Start (variant-form w) at v z
   unfolding byForm left kindFor children _>>=_
@@ -209,7 +174,7 @@ module _ (inp : List ℕ) (rec : Reader) (n : Node) where
     child : {tag c q : ℕ} → Turn f i enough z is tag c q → Follows f i enough z is (Child tag c q)
     ends : {q : ℕ} → is ≡ done → z ≡ q → Follows f i enough z is (End q)
 
-  not-left : (f : Form) (i enough z : ℕ) (is : Items) (x : Next) → _≡_ {A = Reading Items} Not (Got is z) → Follows f i enough z is x
+  not-left : (f : Form) (i enough z : ℕ) (is : Items) (x : Next) → _≡_ {A = PlainRead Items} Not (Got is z) → Follows f i enough z is x
   not-left f i enough z is x e = absurd (not-got (Got is z) (sym e) (got-from (Got is z) is z refl))
 
   choice-turn : (w enough at z : ℕ) (is : Items) → left (variant-form w) 0 enough at ≡ Got is z → Follows (variant-form w) 0 enough z is (Child (leAt inp at w) (n .first + leAt inp at w) (at + w))

@@ -17,10 +17,11 @@ use Rattle.value_laws.proofs.Sizes.{length-flat, length-pays, one-record, items
 use Rattle.fill.specs.declared.FillPos.{FillPos}
 use Rattle.fill.specs.declared.Next.{Next}
 use Rattle.fill.specs.declared.Next.the-variants.{Child, End}
-use Rattle.fill.specs.Plain.{Reading, Got, valueRead, endRead, Reader}
+use Rattle.fill.specs.Plain.{PlainRead, Got, valueRead, endRead, Reader}
 use Rattle.fill.specs.Filling.{RoomToFill, pastFilled, Filled, nextOf}
 use Rattle.fill.proofs.Got.{got-from}
-use Rattle.fill.proofs.Children.{left, Parent, children, Turn, Follows, child, ends, turn}
+use Rattle.value_laws.proofs.Children.{children}
+use Rattle.fill.proofs.Children.{left, ParentTable, Turn, Follows, child, ends, turn}
 
 abbrev pub spot : ℕ → ℕ → ℕ → FillPos
 spot at records payload = record { at = at; records = records; payload = payload }
@@ -104,7 +105,7 @@ module _ {inp : List ℕ} {rec : Reader} {n : Node} {f : Form} {all : Items} {z 
   count-fits = omega (arith, g .counted, items-within all)
 
 -- and then the node's own record stands before theirs
-module _ {inp : List ℕ} {rec : Reader} {n : Node} {f : Form} {own paid₀ : ℕ} {rs₀ ps₀ rs ps : List ℕ} {at filled paid i : ℕ} (x : Reading Value) (g : Going inp rec n f (children (valueRead x)) (endRead x) own paid₀ rs₀ ps₀ rs ps at filled paid i) (none : g .rest ≡ done) where
+module _ {inp : List ℕ} {rec : Reader} {n : Node} {f : Form} {own paid₀ : ℕ} {rs₀ ps₀ rs ps : List ℕ} {at filled paid i : ℕ} (x : PlainRead Value) (g : Going inp rec n f (children (valueRead x)) (endRead x) own paid₀ rs₀ ps₀ rs ps at filled paid i) (none : g .rest ≡ done) where
   all-records : rs ≡ over rs₀ (valueRecordStart (own + 1)) (layouts (belowI (children (valueRead x)) paid₀))
   unfolding belowI layouts
   all-records = sym (over-none rs (valueRecordStart filled)) ∙ rw none at (g .records)
@@ -125,7 +126,7 @@ module _ {inp : List ℕ} {rec : Reader} {n : Node} {f : Form} {own paid₀ : �
   unfolding items
   all-counted = omega (arith, rw none at (g .counted))
 
-  pub finish : (at₀ kind tag q : ℕ) (rs′ : List ℕ) → Parent kind (valueRead x) → endRead x ≡ q → rs′ ≡ over rs (valueRecordStart own) (layout (valueRecord kind tag i 0)) → Filled x tag (spot at₀ own paid₀) (spot q filled paid) rs₀ rs′ ps₀ ps
+  pub finish : (at₀ kind tag q : ℕ) (rs′ : List ℕ) → ParentTable kind (valueRead x) → endRead x ≡ q → rs′ ≡ over rs (valueRecordStart own) (layout (valueRecord kind tag i 0)) → Filled x tag (spot at₀ own paid₀) (spot q filled paid) rs₀ rs′ ps₀ ps
   unfolding pastFilled flat layouts
   finish at₀ kind tag q rs′ p e w =
       let a = layout (valueRecord kind tag (items (children (valueRead x))) 0) in

@@ -14,57 +14,57 @@ use Rattle.rules.specs.Wire.{form}
 use Rattle.rules.specs.Block.{nodeAt}
 use Rattle.rules.specs.Value.{Value}
 use Rattle.rules.specs.declared.table_record.Node.{Node}
-use Rattle.fill.specs.Plain.{Reading, Got, Not, _>>=_, IsGot, valueRead, endRead, plainNumberAt, bytesAt, Reader, childAt, byForm, readAt}
+use Rattle.fill.specs.Plain.{PlainRead, Got, Not, _>>=_, IsGot, valueRead, endRead, plainNumberAt, bytesAt, Reader, childAt, byForm, readAt}
 
-pub not-got : {A : Type 0} (x : Reading A) → x ≡ Not → IsGot x → ⊥
+pub not-got : {A : Type 0} (x : PlainRead A) → x ≡ Not → IsGot x → ⊥
 unfolding IsGot
 not-got x e h = rw e at h
 
 -- a test that was passed
-picked : {A B : Type 0} (b : Bool) (a : A) (q : ℕ) (k : A × ℕ → Reading B) → IsGot (pick b (Got a q) Not >>= k) → (b ≡ true) × ((pick b (Got a q) Not >>= k) ≡ k (a, q))
+picked : {A B : Type 0} (b : Bool) (a : A) (q : ℕ) (k : A × ℕ → PlainRead B) → IsGot (pick b (Got a q) Not >>= k) → (b ≡ true) × ((pick b (Got a q) Not >>= k) ≡ k (a, q))
 unfolding pick _>>=_ IsGot
 picked true a q k h = (refl, refl)
 picked false a q k h = absurd h
 
 module _ {B : Type 0} (inp : List ℕ) where
   -- a number, and what follows it
-  pub number-got : (w at : ℕ) (k : ℕ × ℕ → Reading B) → IsGot (plainNumberAt inp w at >>= k) → (w ≤ length inp - at) × ((plainNumberAt inp w at >>= k) ≡ k (leAt inp at w, at + w))
+  pub number-got : (w at : ℕ) (k : ℕ × ℕ → PlainRead B) → IsGot (plainNumberAt inp w at >>= k) → (w ≤ length inp - at) × ((plainNumberAt inp w at >>= k) ≡ k (leAt inp at w, at + w))
   unfolding plainNumberAt
   number-got w at k h = let p = picked _ _ _ k h in (leb-true _ _ (p .0), p .1)
 
   -- bytes, and what follows them
-  pub bytes-got : (n at : ℕ) (k : List ℕ × ℕ → Reading B) → IsGot (bytesAt inp n at >>= k) → (n ≤ length inp - at) × ((bytesAt inp n at >>= k) ≡ k (part inp at n, at + n))
+  pub bytes-got : (n at : ℕ) (k : List ℕ × ℕ → PlainRead B) → IsGot (bytesAt inp n at >>= k) → (n ≤ length inp - at) × ((bytesAt inp n at >>= k) ≡ k (part inp at n, at + n))
   unfolding bytesAt
   bytes-got n at k h = let p = picked _ _ _ k h in (leb-true _ _ (p .0), p .1)
 
 -- ---- a reading that got something, taken apart
 
-pub got-from : {A : Type 0} (x : Reading A) (a : A) (q : ℕ) → x ≡ Got a q → IsGot x
+pub got-from : {A : Type 0} (x : PlainRead A) (a : A) (q : ℕ) → x ≡ Got a q → IsGot x
 unfolding IsGot
 got-from x a q e = rw e tt
 
-pub got-is : (x : Reading Value) → IsGot x → x ≡ Got (valueRead x) (endRead x)
+pub got-is : (x : PlainRead Value) → IsGot x → x ≡ Got (valueRead x) (endRead x)
 unfolding IsGot valueRead endRead
 got-is (Got v q) h = refl
 got-is Not h = absurd h
 
 -- what a step got, and that the rest goes on from there
-pub record Step {A B : Type 0} (x : Reading A) (k : A × ℕ → Reading B) (b : B) (z : ℕ) : Type 0 where
+pub record Step {A B : Type 0} (x : PlainRead A) (k : A × ℕ → PlainRead B) (b : B) (z : ℕ) : Type 0 where
   pub got : A
   pub at : ℕ
   pub is : x ≡ Got got at
   pub goes : k (got, at) ≡ Got b z
 
-pub step : {A B : Type 0} (x : Reading A) (k : A × ℕ → Reading B) (b : B) (z : ℕ) → (x >>= k) ≡ Got b z → Step x k b z
+pub step : {A B : Type 0} (x : PlainRead A) (k : A × ℕ → PlainRead B) (b : B) (z : ℕ) → (x >>= k) ≡ Got b z → Step x k b z
 unfolding _>>=_
 step (Got a q) k b z e = record { got = a; at = q; is = refl; goes = e }
 step Not k b z e = absurd (not-got (Got b z) (sym e) (got-from (Got b z) b z refl))
 
 module _ {B : Type 0} (b : B) (z : ℕ) where
-  pub number-step : (inp : List ℕ) (w at : ℕ) (k : ℕ × ℕ → Reading B) → (plainNumberAt inp w at >>= k) ≡ Got b z → (w ≤ length inp - at) × (k (leAt inp at w, at + w) ≡ Got b z)
+  pub number-step : (inp : List ℕ) (w at : ℕ) (k : ℕ × ℕ → PlainRead B) → (plainNumberAt inp w at >>= k) ≡ Got b z → (w ≤ length inp - at) × (k (leAt inp at w, at + w) ≡ Got b z)
   number-step inp w at k e = let g = number-got inp w at k (got-from _ b z e) in (g .0, sym (g .1) ∙ e)
 
-  pub child-step : (rec : Reader) (n : Node) (tag at : ℕ) (k : Value × ℕ → Reading B) → (childAt rec n tag at >>= k) ≡ Got b z → (tag < n .children) × ((rec (n .first + tag) at >>= k) ≡ Got b z)
+  pub child-step : (rec : Reader) (n : Node) (tag at : ℕ) (k : Value × ℕ → PlainRead B) → (childAt rec n tag at >>= k) ≡ Got b z → (tag < n .children) × ((rec (n .first + tag) at >>= k) ≡ Got b z)
   unfolding childAt
   child-step rec n tag at k e = by (ltb tag (n .children)) refl e
     where

@@ -18,7 +18,7 @@ use Rattle.read.proofs.Codes.{form-choice, tag-some}
 use Rattle.fill.specs.declared.FillPos.{FillPos}
 use Rattle.fill.specs.declared.ToFill.{ToFill}
 use Rattle.fill.specs.declared.ToFill.the-variants.{Leaf, Children}
-use Rattle.fill.specs.Plain.{Reading, Got, IsGot, valueRead, endRead, leafAt, Reader, byForm, readAt}
+use Rattle.fill.specs.Plain.{PlainRead, Got, IsGot, valueRead, endRead, leafAt, Reader, byForm, readAt}
 use Rattle.fill.specs.Filling.{RoomToFill, pastFilled, Filled}
 use Rattle.fill.specs.Leads.{Held, Rest, LeadsToFill}
 use Rattle.fill.proofs.Got.{got-from, got-is, read-step, step, number-step, child-step}
@@ -51,7 +51,7 @@ chosen sch inp d i at h l g =
 
 -- ---- what is left to fill
 
-self-rest : (x y : Reading Value) (tag : ℕ) (s : FillPos) (rs : List ℕ) → x ≡ y → Rest x tag s rs y tag s rs
+self-rest : (x y : PlainRead Value) (tag : ℕ) (s : FillPos) (rs : List ℕ) → x ≡ y → Rest x tag s rs y tag s rs
 self-rest x y tag s rs e = record { room = λ n m h. rw e at h; fills = λ r rs″ ps ps′ w. rw e w }
 
 module _ (t : ℕ) (v : Value) where
@@ -72,7 +72,7 @@ module _ (t : ℕ) (v : Value) where
   variant-pays = refl
 
 -- of a variant, once its own record is written: its child
-variant-rest : (x y : Reading Value) (t tag at : ℕ) (s : FillPos) (rs rs′ : List ℕ) → IsGot y → valueRead x ≡ variant t (valueRead y) → endRead x ≡ endRead y →
+variant-rest : (x y : PlainRead Value) (t tag at : ℕ) (s : FillPos) (rs rs′ : List ℕ) → IsGot y → valueRead x ≡ variant t (valueRead y) → endRead x ≡ endRead y →
     rs′ ≡ over rs (valueRecordStart (s .records)) (layout (valueRecord 15 tag 1 0)) → Rest x tag s rs y t (spot at (s .records + 1) (s .payload)) rs′
 unfolding pastFilled
 variant-rest x y t tag at s rs rs′ g e f h =
@@ -134,7 +134,7 @@ module _ (sch inp : List ℕ) (d i code : ℕ) (c : code ≡ nodeAt sch i .code)
 
 -- ---- what the caller learns
 
-module _ (x : Reading Value) (inp : List ℕ) (code tag : ℕ) (s : FillPos) (rs rs′ : List ℕ) (a : ToFill) (l : LeadsToFill x inp code tag s rs rs′ a) where
+module _ (x : PlainRead Value) (inp : List ℕ) (code tag : ℕ) (s : FillPos) (rs rs′ : List ℕ) (a : ToFill) (l : LeadsToFill x inp code tag s rs rs′ a) where
   pub reached-leaf : (c t : ℕ) (q : FillPos) → a ≡ Leaf c t q → (c < 15) × Rest x tag s rs (leafAt inp c (form c) (q .at)) t q rs′
   unfolding LeadsToFill
   reached-leaf c t q e = subst (λ (y : ToFill). LeadsToFill x inp code tag s rs rs′ y) e l

@@ -12,13 +12,13 @@ use Rattle.rules.specs.Block.{nodeSize, nodeAt, Closed}
 use Rattle.rules.specs.Value.{Value, recordsOf, payloadOf}
 use Rattle.rules.specs.ValueRecord.{valueRecordStart}
 use Rattle.rules.specs.ValueTable.{bit, payloadBytes, flat}
-use Rattle.fill.specs.Plain.{Reading, IsGot, valueRead, endRead, readAt}
+use Rattle.fill.specs.Plain.{PlainRead, IsGot, valueRead, endRead, readAt}
 use Rattle.fill.specs.declared.FillPos.{FillPos}
 use Rattle.fill.specs.declared.Next.{Next}
 use Rattle.fill.specs.declared.Next.the-variants.{Child, End}
 
 -- a value was read, and n bytes have room for its records and m for its payload, from a spot on
-pub record RoomToFill (x : Reading Value) (s : FillPos) (n m : ℕ) : Type 0 where
+pub record RoomToFill (x : PlainRead Value) (s : FillPos) (n m : ℕ) : Type 0 where
   pub is : IsGot x
   pub records : valueRecordStart (s .records + recordsOf (valueRead x)) ≤ n
   pub payload : s .payload + payloadOf (valueRead x) ≤ m
@@ -28,11 +28,11 @@ abbrev pub fillStart : ℕ → FillPos
 fillStart at = record { at = at; records = 0; payload = 0 }
 
 -- where the value leaves off
-unfoldable pub pastFilled : Reading Value → FillPos → FillPos
+unfoldable pub pastFilled : PlainRead Value → FillPos → FillPos
 pastFilled x s = record { at = endRead x; records = s .records + recordsOf (valueRead x); payload = s .payload + payloadOf (valueRead x) }
 
 -- the value's table stands from a spot on, under the tag by which its parent chose it, over what stood there; q is past it
-pub record Filled (x : Reading Value) (tag : ℕ) (s q : FillPos) (rs rs′ ps ps′ : List ℕ) : Type 0 where
+pub record Filled (x : PlainRead Value) (tag : ℕ) (s q : FillPos) (rs rs′ ps ps′ : List ℕ) : Type 0 where
   pub spot : q ≡ pastFilled x s
   pub records : rs′ ≡ over rs (valueRecordStart (s .records)) (flat (valueRead x) tag (s .payload))
   pub payload : ps′ ≡ over ps (s .payload) (payloadBytes (valueRead x))

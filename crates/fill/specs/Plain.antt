@@ -13,39 +13,39 @@ use Rattle.rules.specs.Value.{Value, nothing, boolean, number, wide, blob, vari
 use Rattle.rules.specs.declared.table_record.Node.{Node}
 
 -- something read and the place after it, or nothing
-pub data Reading (A : Type 0) : Type 0 where
-  Got : A → ℕ → Reading A
-  Not : Reading A
+pub data PlainRead (A : Type 0) : Type 0 where
+  Got : A → ℕ → PlainRead A
+  Not : PlainRead A
 
 infixl 20 _>>=_
-unfoldable pub _>>=_ : {A B : Type 0} → Reading A → (A × ℕ → Reading B) → Reading B
+unfoldable pub _>>=_ : {A B : Type 0} → PlainRead A → (A × ℕ → PlainRead B) → PlainRead B
 Got a q >>= k = k (a, q)
 Not >>= k = Not
 
 -- something was read
-unfoldable pub IsGot : {A : Type 0} → Reading A → Type 0
+unfoldable pub IsGot : {A : Type 0} → PlainRead A → Type 0
 IsGot (Got a q) = Unit
 IsGot Not = ⊥
 
 -- the value that was read, and the place after it
-unfoldable pub valueRead : Reading Value → Value
+unfoldable pub valueRead : PlainRead Value → Value
 valueRead (Got v q) = v
 valueRead Not = nothing
 
-unfoldable pub endRead : Reading Value → ℕ
+unfoldable pub endRead : PlainRead Value → ℕ
 endRead (Got v q) = q
 endRead Not = 0
 
 -- a number in w bytes
-unfoldable pub plainNumberAt : List ℕ → ℕ → ℕ → Reading ℕ
+unfoldable pub plainNumberAt : List ℕ → ℕ → ℕ → PlainRead ℕ
 plainNumberAt inp w at = pick (leb w (length inp - at)) (Got (leAt inp at w) (at + w)) Not
 
 -- n bytes
-unfoldable pub bytesAt : List ℕ → ℕ → ℕ → Reading (List ℕ)
+unfoldable pub bytesAt : List ℕ → ℕ → ℕ → PlainRead (List ℕ)
 bytesAt inp n at = pick (leb n (length inp - at)) (Got (part inp at n) (at + n)) Not
 
 -- a node without children, by the form of its code. A boolean reads true for every nonzero byte
-unfoldable pub leafAt : List ℕ → ℕ → Form → ℕ → Reading Value
+unfoldable pub leafAt : List ℕ → ℕ → Form → ℕ → PlainRead Value
 leafAt inp code empty at = Got nothing at
 leafAt inp code truth at = do
   (x, q) ← plainNumberAt inp 1 at
@@ -67,14 +67,14 @@ leafAt inp code unknown at = Not
 
 -- how a child is read: by its index in the block, from a place
 abbrev pub Reader : Type 0
-Reader = ℕ → ℕ → Reading Value
+Reader = ℕ → ℕ → PlainRead Value
 
 -- the child that the tag names
-unfoldable pub childAt : Reader → Node → ℕ → ℕ → Reading Value
+unfoldable pub childAt : Reader → Node → ℕ → ℕ → PlainRead Value
 childAt rec n tag at = pick (ltb tag (n .children)) (rec (n .first + tag) at) Not
 
 -- pairs until the end tag, at most so many
-unfoldable pub pairsAt : List ℕ → Reader → Node → ℕ → ℕ → ℕ → Reading Items
+unfoldable pub pairsAt : List ℕ → Reader → Node → ℕ → ℕ → ℕ → PlainRead Items
 pairsAt inp rec n w zero at = Not
 pairsAt inp rec n w (suc enough) at = do
   (tag, q) ← plainNumberAt inp w at
@@ -85,7 +85,7 @@ pairsAt inp rec n w (suc enough) at = do
         Got (item tag v is) s)
 
 -- so many children in order, from index i on
-unfoldable pub fieldsAt : Reader → ℕ → ℕ → ℕ → Reading Values
+unfoldable pub fieldsAt : Reader → ℕ → ℕ → ℕ → PlainRead Values
 fieldsAt rec i zero at = Got none at
 fieldsAt rec i (suc children) at = do
   (v, q) ← rec i at
@@ -93,7 +93,7 @@ fieldsAt rec i (suc children) at = do
   Got (more v vs) r
 
 -- a node, by the form of its code
-unfoldable pub byForm : List ℕ → Reader → Node → Form → ℕ → Reading Value
+unfoldable pub byForm : List ℕ → Reader → Node → Form → ℕ → PlainRead Value
 byForm inp rec n (variant-form w) at = do
   (tag, q) ← plainNumberAt inp w at
   (v, r) ← childAt rec n tag q

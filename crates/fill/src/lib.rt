@@ -20,7 +20,7 @@ use record::node::node_children;
 use record::node::node_code;
 use record::node::node_first;
 use record::value::put_record;
-use wire::codes::fixed_width;
+use wire::codes::code_width;
 use wire::codes::tag_width;
 use wire::field;
 use wire::u16_at;
@@ -109,7 +109,7 @@ fn fill_leaf(
         let n = u32_at(input, at);
         return fill_bytes(code, input, at + 4, n as usize, tag, s, records, payload);
     }
-    let width = fixed_width(code);
+    let width = code_width(code);
     if 8 < width {
         return fill_bytes(code, input, at, width, tag, s, records, payload);
     }

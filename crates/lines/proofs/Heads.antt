@@ -9,14 +9,14 @@ use lib.Seq.{length-take-le}
 use Rattle.rules.specs.Choice.{pick}
 use Rattle.rules.specs.Names.{ascii}
 use Rattle.rules.specs.Refusals.{Line, lineOf, inBytes, reportOf}
-use Rattle.rules.specs.Lines.{decimal, word, labelsOf, carried, standing, endLine, refusedLine, runLineOf, runLine}
+use Rattle.rules.specs.Lines.{decimal, word, labelsOf, carried, stoppedAt, endLine, refusedLine, runLineOf, runLine}
 use Rattle.rules.specs.declared.refusal.Why.{Why}
 use Rattle.rules.specs.declared.refusal.Why.the-variants.{Setting, BadSchemaTable, TooDeep, UnexpectedChildren, TooManyChildren, EmptyTableSchemas, UnknownRegistryReference, TableSchemaRootMustBeTuple, TableSchemaMustBeTuple, TableSchemaChildMissingName, MissingTableSchema, Truncated, RowTooLarge, BlobTooLarge, ValueDoesNotMatchSchema, TupleLength, InvalidVariantTag, BadValueTable, NoNodeRoom, NoPayloadRoom, NoOutputRoom}
 use Rattle.rules.specs.declared.refusal.Refusal.{Refusal}
 use Rattle.rules.specs.declared.refusal.RefusalLine.{RefusalLine}
 use Rattle.rules.specs.declared.answer.Ran.{Ran}
 use Rattle.rules.specs.declared.answer.Stop.{Stop}
-use Rattle.lines.specs.Puts.{Put, head}
+use Rattle.lines.specs.Puts.{TextPut, head}
 
 -- the name's bytes are the name and blanks
 pub name-size : (l : Line) (r : RefusalLine) → r ≡ inBytes l → length (r .name) ≡ 28
@@ -58,7 +58,7 @@ module _ (r : Refusal) (rows bytes : ℕ) where
   rest = carried (labelsOf (reportOf r .number)) (reportOf r .a) (reportOf r .b) (reportOf r .c)
 
   abbrev stands : List ℕ
-  stands = standing (r .place) rows bytes
+  stands = stoppedAt (r .place) rows bytes
 
   -- the head and where the run stands are the line
   pub head-stands : (l : RefusalLine) → l ≡ inBytes (lineOf (r .why)) → head l ++ stands ≡ refusedLine r rows bytes
@@ -69,10 +69,10 @@ module _ (r : Refusal) (rows bytes : ℕ) where
 
 -- a run's line, by how it stops
 module _ (s t : List ℕ) (end : ℕ) (ran : Ran) where
-  pub run-ended : ran .stop ≡ Stop.End → Put s 0 (endLine (ran .rows) (ran .bytes)) t end → Put s 0 (runLine ran) t end
+  pub run-ended : ran .stop ≡ Stop.End → TextPut s 0 (endLine (ran .rows) (ran .bytes)) t end → TextPut s 0 (runLine ran) t end
   unfolding runLine runLineOf
   run-ended e p = rw e p
 
-  pub run-refused : (r : Refusal) → ran .stop ≡ Stop.Refused r → Put s 0 (refusedLine r (ran .rows) (ran .bytes)) t end → Put s 0 (runLine ran) t end
+  pub run-refused : (r : Refusal) → ran .stop ≡ Stop.Refused r → TextPut s 0 (refusedLine r (ran .rows) (ran .bytes)) t end → TextPut s 0 (runLine ran) t end
   unfolding runLine runLineOf
   run-refused r e p = rw e p

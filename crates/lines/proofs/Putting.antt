@@ -16,25 +16,25 @@ use Rattle.rules.specs.Bytes.{over}
 use Rattle.rules.specs.Names.{ascii}
 use Rattle.rules.proofs.Over.{over-at}
 use Rattle.rules.specs.Lines.{decimal, word, isNone, spaced, item, closing}
-use Rattle.lines.specs.Puts.{Put}
+use Rattle.lines.specs.Puts.{TextPut}
 use Rattle.lines.proofs.Decimals.{decimal-small, decimal-more}
 
 -- two texts are one
-pub put-both : (s₀ s t xs ys : List ℕ) (at mid end : ℕ) → Put s₀ at xs s mid → Put s mid ys t end → Put s₀ at (xs ++ ys) t end
+pub put-both : (s₀ s t xs ys : List ℕ) (at mid end : ℕ) → TextPut s₀ at xs s mid → TextPut s mid ys t end → TextPut s₀ at (xs ++ ys) t end
 put-both s₀ s t xs ys at mid end p q = record {
   holds = q .holds ∙ rw (p .holds) (over-at xs ys s₀ at mid (p .ends));
   ends = q .ends ∙ rw (p .ends, length-append xs ys) (omega arith);
 }
 
 -- a digit
-pub put-digit : (s : List ℕ) (at d : ℕ) → Put s at (d ∷ []) (set s at d) (at + 1)
+pub put-digit : (s : List ℕ) (at d : ℕ) → TextPut s at (d ∷ []) (set s at d) (at + 1)
 unfolding over
 put-digit s at d = record { holds = refl; ends = refl }
 
-pub put-small : (s : List ℕ) (at n : ℕ) → n < 10 → Put s at (decimal n) (set s at (48 + n)) (at + 1)
+pub put-small : (s : List ℕ) (at n : ℕ) → n < 10 → TextPut s at (decimal n) (set s at (48 + n)) (at + 1)
 put-small s at n h = rw (decimal-small n h) (put-digit s at (48 + n))
 
-pub put-more : (s₀ s : List ℕ) (at last n : ℕ) → 10 ≤ n → Put s₀ at (decimal (n / 10)) s last → Put s₀ at (decimal n) (set s last (48 + n % 10)) (last + 1)
+pub put-more : (s₀ s : List ℕ) (at last n : ℕ) → 10 ≤ n → TextPut s₀ at (decimal (n / 10)) s last → TextPut s₀ at (decimal n) (set s last (48 + n % 10)) (last + 1)
 put-more s₀ s at last n h p = rw (decimal-more n h) (put-both _ _ _ _ _ _ _ _ p (put-digit s last (48 + n % 10)))
 
 -- byte by byte, turn by turn: what is left to put, over what is put, is the whole
@@ -54,7 +54,7 @@ module _ (s₀ text : List ℕ) (at : ℕ) where
         let x : (at + k) + 1 ≡ at + (k + 1) = omega arith in
         record { within = omega arith; size = length-set s (at + k) (getD text k 0) ∙ p .size; left = rw (← x) (rw (drop-cons text k 0 h, ← add-one k) at (p .left)) }
 
-    pub puts-end : length text ≤ k → Put s₀ at text s (at + k)
+    pub puts-end : length text ≤ k → TextPut s₀ at text s (at + k)
     unfolding over
     puts-end h =
         let e : k ≡ length text = omega (arith, p .within) in
@@ -95,14 +95,14 @@ module _ (s₀ text : List ℕ) (at : ℕ) where
           count = let c = rw e at (p .count) in omega (arith, c);
         }
 
-    ends-here : word (drop k text) ≡ [] → Put s₀ at (word text) s (at + k)
+    ends-here : word (drop k text) ≡ [] → TextPut s₀ at (word text) s (at + k)
     unfolding over
     ends-here e = record { holds = rw e at (p .left); ends = let c = rw e at (p .count) in omega (arith, c) }
 
-    pub puts-word-blank : k < length text → getD text k 0 ≡ 32 → Put s₀ at (word text) s (at + k)
+    pub puts-word-blank : k < length text → getD text k 0 ≡ 32 → TextPut s₀ at (word text) s (at + k)
     puts-word-blank h b = ends-here (rw (drop-cons text k 0 h) (word-ends (getD text k 0) (drop (suc k) text) b))
 
-    pub puts-word-end : length text ≤ k → Put s₀ at (word text) s (at + k)
+    pub puts-word-end : length text ≤ k → TextPut s₀ at (word text) s (at + k)
     puts-word-end h = ends-here (rw (drop-of-length-le {A = ℕ} text {i = k} h) (unfold word in refl))
 
 -- whether a text has a word
@@ -121,41 +121,41 @@ none-blank (x ∷ xs) h = by (eqb x 32)
     by false = refl
 
 -- nothing is put
-pub put-none : (s : List ℕ) (at : ℕ) → Put s at [] s at
+pub put-none : (s : List ℕ) (at : ℕ) → TextPut s at [] s at
 unfolding over
 put-none s at = record { holds = refl; ends = omega arith }
 
 module _ (s : List ℕ) (at : ℕ) (w : List ℕ) where
-  pub put-no-spaced : isNone w ≡ true → Put s at (spaced w) s at
+  pub put-no-spaced : isNone w ≡ true → TextPut s at (spaced w) s at
   unfolding spaced pick
   put-no-spaced e = rw e (put-none s at)
 
-  pub put-the-spaced : (t : List ℕ) (end : ℕ) → isNone w ≡ false → Put s at (32 ∷ w) t end → Put s at (spaced w) t end
+  pub put-the-spaced : (t : List ℕ) (end : ℕ) → isNone w ≡ false → TextPut s at (32 ∷ w) t end → TextPut s at (spaced w) t end
   unfolding spaced pick
   put-the-spaced t end e p = rw e p
 
 module _ (s : List ℕ) (at : ℕ) (before label : List ℕ) (value : ℕ) (w : List ℕ) where
-  pub put-no-item : isNone label ≡ true → Put s at (item before label value w) s at
+  pub put-no-item : isNone label ≡ true → TextPut s at (item before label value w) s at
   unfolding item pick
   put-no-item e = rw e (put-none s at)
 
-  pub put-the-item : (t : List ℕ) (end : ℕ) → isNone label ≡ false → Put s at (before ++ (label ++ ((32 ∷ decimal value) ++ spaced w))) t end → Put s at (item before label value w) t end
+  pub put-the-item : (t : List ℕ) (end : ℕ) → isNone label ≡ false → TextPut s at (before ++ (label ++ ((32 ∷ decimal value) ++ spaced w))) t end → TextPut s at (item before label value w) t end
   unfolding item pick
   put-the-item t end e p = rw e p
 
 -- the same text by another name
-pub put-same : {A : Type 0} (text : A → List ℕ) (s t : List ℕ) (at end : ℕ) (x y : A) → x ≡ y → Put s at (text y) t end → Put s at (text x) t end
+pub put-same : {A : Type 0} (text : A → List ℕ) (s t : List ℕ) (at end : ℕ) (x y : A) → x ≡ y → TextPut s at (text y) t end → TextPut s at (text x) t end
 put-same text s t at end x y e p = rw e p
 
 -- the same item by other names
-pub put-item-is : (s t : List ℕ) (at end : ℕ) (before label label′ : List ℕ) (value : ℕ) (w w′ : List ℕ) → label ≡ label′ → w ≡ w′ → Put s at (item before label value w) t end → Put s at (item before label′ value w′) t end
+pub put-item-is : (s t : List ℕ) (at end : ℕ) (before label label′ : List ℕ) (value : ℕ) (w w′ : List ℕ) → label ≡ label′ → w ≡ w′ → TextPut s at (item before label value w) t end → TextPut s at (item before label′ value w′) t end
 put-item-is s t at end before label label′ value w w′ e k p = rw (← e, ← k) p
 
 module _ (s : List ℕ) (at : ℕ) (label label′ : List ℕ) (is : label ≡ label′) where
-  pub put-no-closing : isNone label ≡ true → Put s at (closing label′) s at
+  pub put-no-closing : isNone label ≡ true → TextPut s at (closing label′) s at
   unfolding closing pick
   put-no-closing e = rw (← is, e) (put-none s at)
 
-  pub put-the-closing : (t : List ℕ) (end : ℕ) → isNone label ≡ false → Put s at (ascii ")") t end → Put s at (closing label′) t end
+  pub put-the-closing : (t : List ℕ) (end : ℕ) → isNone label ≡ false → TextPut s at (ascii ")") t end → TextPut s at (closing label′) t end
   unfolding closing pick
   put-the-closing t end e p = rw (← is, e) p

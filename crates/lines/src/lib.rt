@@ -3,9 +3,9 @@ ghost use Prim.Native.Nat.{_+_, _≤_};
 ghost use mathlib.Core.List.{_++_, []};
 ghost use lib.ListN.{length};
 ghost use mathlib.Core.Path.{_≡_};
-ghost use Rattle.rules.specs.Lines.{decimal, word, isNone, spaced, item, wordOf, labelsOf, closing, carried, standing, endLine, refusedLine, runLine};
+ghost use Rattle.rules.specs.Lines.{decimal, word, isNone, spaced, item, wordOf, labelsOf, closing, carried, stoppedAt, endLine, refusedLine, runLine};
 ghost use Rattle.rules.specs.Names.{ascii};
-ghost use Rattle.lines.specs.Puts.{Put, head};
+ghost use Rattle.lines.specs.Puts.{TextPut, head};
 use rules::Ran;
 use rules::Refusal;
 use rules::RefusalLine;
@@ -19,7 +19,7 @@ use words::word_of;
 // A text, byte by byte.
 pub fn put_text(buffer: &mut [u8], at: usize, text: &[u8]) -> usize
     requires { ⌜ at + length (now text) ≤ length (now buffer) ⌝ }
-    ensures { λ r. ⌜ Put (now (buffer .entry)) at (now (text .entry)) (now (buffer .exit)) r ⌝ }
+    ensures { λ r. ⌜ TextPut (now (buffer .entry)) at (now (text .entry)) (now (buffer .exit)) r ⌝ }
 {
     let mut k = 0;
     while k < text.len() {
@@ -32,7 +32,7 @@ pub fn put_text(buffer: &mut [u8], at: usize, text: &[u8]) -> usize
 // A number in decimal digits: those of a tenth of it, and then its last.
 pub fn put_decimal(buffer: &mut [u8], at: usize, n: u64) -> usize
     requires { ⌜ at + length (decimal n) ≤ length (now buffer) ⌝ }
-    ensures { λ r. ⌜ Put (now (buffer .entry)) at (decimal n) (now (buffer .exit)) r ⌝ }
+    ensures { λ r. ⌜ TextPut (now (buffer .entry)) at (decimal n) (now (buffer .exit)) r ⌝ }
 {
     if n < 10 {
         buffer[at] = 48 + n as u8;
@@ -46,7 +46,7 @@ pub fn put_decimal(buffer: &mut [u8], at: usize, n: u64) -> usize
 // A text and then a number.
 pub fn put_number(buffer: &mut [u8], at: usize, text: &[u8], n: u64) -> usize
     requires { ⌜ at + length (now text) + 20 ≤ length (now buffer) ⌝ }
-    ensures { λ r. ⌜ Put (now (buffer .entry)) at (now (text .entry) ++ decimal n) (now (buffer .exit)) r ⌝ }
+    ensures { λ r. ⌜ TextPut (now (buffer .entry)) at (now (text .entry) ++ decimal n) (now (buffer .exit)) r ⌝ }
     ensures { λ r. ⌜ r ≤ at + length (now (text .entry)) + 20 ⌝ }
 {
     let next = put_text(buffer, at, text);
@@ -56,7 +56,7 @@ pub fn put_number(buffer: &mut [u8], at: usize, text: &[u8], n: u64) -> usize
 // A text up to its first blank.
 pub fn put_word(buffer: &mut [u8], at: usize, text: &[u8]) -> usize
     requires { ⌜ at + length (now text) ≤ length (now buffer) ⌝ }
-    ensures { λ r. ⌜ Put (now (buffer .entry)) at (word (now (text .entry))) (now (buffer .exit)) r ⌝ }
+    ensures { λ r. ⌜ TextPut (now (buffer .entry)) at (word (now (text .entry))) (now (buffer .exit)) r ⌝ }
     ensures { λ r. ⌜ r ≤ at + length (now (text .entry)) ⌝ }
 {
     let mut k = 0;
@@ -84,7 +84,7 @@ fn no_word(text: &[u8]) -> bool
 // A text's word behind a blank, if there is one.
 fn put_spaced(buffer: &mut [u8], at: usize, text: &[u8]) -> usize
     requires { ⌜ at + 1 + length (now text) ≤ length (now buffer) ⌝ }
-    ensures { λ r. ⌜ Put (now (buffer .entry)) at (spaced (word (now (text .entry)))) (now (buffer .exit)) r ⌝ }
+    ensures { λ r. ⌜ TextPut (now (buffer .entry)) at (spaced (word (now (text .entry)))) (now (buffer .exit)) r ⌝ }
     ensures { λ r. ⌜ r ≤ at + 1 + length (now (text .entry)) ⌝ }
 {
     if no_word(text) {
@@ -104,7 +104,7 @@ fn put_item(
     text: &[u8],
 ) -> usize
     requires { ⌜ at + length (now before) + length (now label) + length (now text) + 22 ≤ length (now buffer) ⌝ }
-    ensures { λ r. ⌜ Put (now (buffer .entry)) at (item (now (before .entry)) (word (now (label .entry))) value (word (now (text .entry)))) (now (buffer .exit)) r ⌝ }
+    ensures { λ r. ⌜ TextPut (now (buffer .entry)) at (item (now (before .entry)) (word (now (label .entry))) value (word (now (text .entry)))) (now (buffer .exit)) r ⌝ }
     ensures { λ r. ⌜ r ≤ at + length (now (before .entry)) + length (now (label .entry)) + length (now (text .entry)) + 22 ⌝ }
 {
     if no_word(label) {
@@ -119,7 +119,7 @@ fn put_item(
 // The first value that a refusal carries, behind an opening bracket.
 fn put_first(buffer: &mut [u8], at: usize, number: u32, value: u64) -> usize
     requires { ⌜ at + 64 ≤ length (now buffer) ⌝ }
-    ensures { λ r. ⌜ Put (now (buffer .entry)) at (item (ascii " (") (ascii (labelsOf number .first)) value (wordOf (labelsOf number .kind) value)) (now (buffer .exit)) r ⌝ }
+    ensures { λ r. ⌜ TextPut (now (buffer .entry)) at (item (ascii " (") (ascii (labelsOf number .first)) value (wordOf (labelsOf number .kind) value)) (now (buffer .exit)) r ⌝ }
     ensures { λ r. ⌜ r ≤ at + 64 ⌝ }
 {
     let label = first_label(number);
@@ -130,7 +130,7 @@ fn put_first(buffer: &mut [u8], at: usize, number: u32, value: u64) -> usize
 // The second, behind a comma.
 fn put_second(buffer: &mut [u8], at: usize, number: u32, value: u64) -> usize
     requires { ⌜ at + 45 ≤ length (now buffer) ⌝ }
-    ensures { λ r. ⌜ Put (now (buffer .entry)) at (item (ascii ", ") (ascii (labelsOf number .second)) value []) (now (buffer .exit)) r ⌝ }
+    ensures { λ r. ⌜ TextPut (now (buffer .entry)) at (item (ascii ", ") (ascii (labelsOf number .second)) value []) (now (buffer .exit)) r ⌝ }
     ensures { λ r. ⌜ r ≤ at + 45 ⌝ }
 {
     let label = second_label(number);
@@ -140,7 +140,7 @@ fn put_second(buffer: &mut [u8], at: usize, number: u32, value: u64) -> usize
 // The third.
 fn put_third(buffer: &mut [u8], at: usize, number: u32, value: u64) -> usize
     requires { ⌜ at + 45 ≤ length (now buffer) ⌝ }
-    ensures { λ r. ⌜ Put (now (buffer .entry)) at (item (ascii ", ") (ascii (labelsOf number .third)) value []) (now (buffer .exit)) r ⌝ }
+    ensures { λ r. ⌜ TextPut (now (buffer .entry)) at (item (ascii ", ") (ascii (labelsOf number .third)) value []) (now (buffer .exit)) r ⌝ }
     ensures { λ r. ⌜ r ≤ at + 45 ⌝ }
 {
     let label = third_label(number);
@@ -150,7 +150,7 @@ fn put_third(buffer: &mut [u8], at: usize, number: u32, value: u64) -> usize
 // The closing bracket.
 fn put_closing(buffer: &mut [u8], at: usize, number: u32) -> usize
     requires { ⌜ at + 1 ≤ length (now buffer) ⌝ }
-    ensures { λ r. ⌜ Put (now (buffer .entry)) at (closing (ascii (labelsOf number .first))) (now (buffer .exit)) r ⌝ }
+    ensures { λ r. ⌜ TextPut (now (buffer .entry)) at (closing (ascii (labelsOf number .first))) (now (buffer .exit)) r ⌝ }
     ensures { λ r. ⌜ r ≤ at + 1 ⌝ }
 {
     let label = first_label(number);
@@ -163,7 +163,7 @@ fn put_closing(buffer: &mut [u8], at: usize, number: u32) -> usize
 // What a refusal carries, in brackets.
 fn put_carried(buffer: &mut [u8], at: usize, number: u32, a: u64, b: u64, c: u64) -> usize
     requires { ⌜ at + 155 ≤ length (now buffer) ⌝ }
-    ensures { λ r. ⌜ Put (now (buffer .entry)) at (carried (labelsOf number) a b c) (now (buffer .exit)) r ⌝ }
+    ensures { λ r. ⌜ TextPut (now (buffer .entry)) at (carried (labelsOf number) a b c) (now (buffer .exit)) r ⌝ }
     ensures { λ r. ⌜ r ≤ at + 155 ⌝ }
 {
     let next = put_first(buffer, at, number, a);
@@ -175,7 +175,7 @@ fn put_carried(buffer: &mut [u8], at: usize, number: u32, a: u64, b: u64, c: u64
 // What a refusal is: number, name, and what it carries.
 fn put_head(buffer: &mut [u8], line: RefusalLine) -> usize
     requires { ⌜ (256 ≤ length (now buffer)) × (length (line .name) ≡ 28) ⌝ }
-    ensures { λ r. ⌜ Put (now (buffer .entry)) 0 (head line) (now (buffer .exit)) r ⌝ }
+    ensures { λ r. ⌜ TextPut (now (buffer .entry)) 0 (head line) (now (buffer .exit)) r ⌝ }
     ensures { λ r. ⌜ r ≤ 256 ⌝ }
 {
     let name = line.name;
@@ -188,7 +188,7 @@ fn put_head(buffer: &mut [u8], line: RefusalLine) -> usize
 // Where a refused run stands.
 fn put_standing(buffer: &mut [u8], at: usize, place: u64, rows: u64, bytes: u64) -> usize
     requires { ⌜ at + 96 ≤ length (now buffer) ⌝ }
-    ensures { λ r. ⌜ Put (now (buffer .entry)) at (standing place rows bytes) (now (buffer .exit)) r ⌝ }
+    ensures { λ r. ⌜ TextPut (now (buffer .entry)) at (stoppedAt place rows bytes) (now (buffer .exit)) r ⌝ }
     ensures { λ r. ⌜ r ≤ at + 96 ⌝ }
 {
     let next = put_number(buffer, at, b" at ", place);
@@ -200,7 +200,7 @@ fn put_standing(buffer: &mut [u8], at: usize, place: u64, rows: u64, bytes: u64)
 // The line of a run that came to the stream's end.
 fn put_end_line(buffer: &mut [u8], rows: u64, bytes: u64) -> usize
     requires { ⌜ 64 ≤ length (now buffer) ⌝ }
-    ensures { λ r. ⌜ Put (now (buffer .entry)) 0 (endLine rows bytes) (now (buffer .exit)) r ⌝ }
+    ensures { λ r. ⌜ TextPut (now (buffer .entry)) 0 (endLine rows bytes) (now (buffer .exit)) r ⌝ }
     ensures { λ r. ⌜ r ≤ 64 ⌝ }
 {
     let next = put_number(buffer, 0, b"end ", rows);
@@ -211,7 +211,7 @@ fn put_end_line(buffer: &mut [u8], rows: u64, bytes: u64) -> usize
 // The line of a run that a refusal ended.
 fn put_refused_line(buffer: &mut [u8], refusal: Refusal, rows: u64, bytes: u64) -> usize
     requires { ⌜ 512 ≤ length (now buffer) ⌝ }
-    ensures { λ r. ⌜ Put (now (buffer .entry)) 0 (refusedLine refusal rows bytes) (now (buffer .exit)) r ⌝ }
+    ensures { λ r. ⌜ TextPut (now (buffer .entry)) 0 (refusedLine refusal rows bytes) (now (buffer .exit)) r ⌝ }
     ensures { λ r. ⌜ r ≤ 512 ⌝ }
 {
     let why = refusal.why;
@@ -223,7 +223,7 @@ fn put_refused_line(buffer: &mut [u8], refusal: Refusal, rows: u64, bytes: u64) 
 // The line of a run.
 pub fn put_run_line(buffer: &mut [u8], ran: Ran) -> usize
     requires { ⌜ 512 ≤ length (now buffer) ⌝ }
-    ensures { λ r. ⌜ Put (now (buffer .entry)) 0 (runLine ran) (now (buffer .exit)) r ⌝ }
+    ensures { λ r. ⌜ TextPut (now (buffer .entry)) 0 (runLine ran) (now (buffer .exit)) r ⌝ }
     ensures { λ r. ⌜ r ≤ 512 ⌝ }
 {
     let stop = ran.stop;

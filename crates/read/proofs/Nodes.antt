@@ -19,7 +19,7 @@ use Rattle.block_laws.proofs.Form as blocks
 use Rattle.read.specs.Budget.{spent}
 use Rattle.read.specs.Fields.{payloadOfFixed}
 use Rattle.read.specs.Children.{shapeOf}
-use Rattle.read.specs.Skim.{standing, _>>=_, passed, stored, having, skimCharge, counted, skimBytes, skimFixed, skimLeaf, Skimmer, skimForm, skimNode, skim}
+use Rattle.read.specs.Skim.{standing, _>>=_, bytesPast, stored, having, skimCharge, counted, skimBytes, skimFixed, skimLeaf, Skimmer, skimForm, skimNode, skim}
 use Rattle.read.specs.Ready.{SoundNodes, Coded}
 use Rattle.read.specs.declared.budget.RowBudget.{RowBudget}
 use Rattle.read.specs.declared.budget.Charged.{Charged}
@@ -45,8 +45,8 @@ plain tuple-form = false
 plain unknown = false
 
 -- no payload bytes more are none
-unstored : (inp : List ℕ) (w context : ℕ) (p : SkipPos) → passed inp w context p ≡ skimBytes inp w context 0 p
-unfolding skimBytes passed stored pick _>>=_
+unstored : (inp : List ℕ) (w context : ℕ) (p : SkipPos) → bytesPast inp w context p ≡ skimBytes inp w context 0 p
+unfolding skimBytes bytesPast stored pick _>>=_
 unstored inp w context p = go (leb w (length inp - p .at))
   where
     go : (b : Bool) → pick b (At (standing (p .at + w) (p .budget) (p .records) (p .payload))) (Refused (Truncated context (p .at)))
@@ -55,14 +55,14 @@ unstored inp w context p = go (leb w (length inp - p .at))
     go false = refl
 
 -- no bytes more are none
-none-passed : (inp : List ℕ) (context : ℕ) (p : SkipPos) → At p ≡ passed inp 0 context p
-unfolding passed pick
-none-passed inp context p = rw (le-leb 0 (length inp - p .at) (omega arith), add-zero (p .at))
+none-past : (inp : List ℕ) (context : ℕ) (p : SkipPos) → At p ≡ bytesPast inp 0 context p
+unfolding bytesPast pick
+none-past inp context p = rw (le-leb 0 (length inp - p .at) (omega arith), add-zero (p .at))
 
 module _ (inp : List ℕ) (rec : Skimmer) (code first count : ℕ) (p : SkipPos) where
   plain-value : (f : Form) → plain f ≡ true → skimForm inp rec code first count f p ≡ skimBytes inp (widthOf f) code (payloadOfFixed (widthOf f)) p
   unfolding plain skimForm widthOf payloadOfFixed pick
-  plain-value empty e = none-passed inp code p ∙ unstored inp 0 code p
+  plain-value empty e = none-past inp code p ∙ unstored inp 0 code p
   plain-value truth e = unstored inp 1 code p
   plain-value (fixed w) e = rw e (unstored inp w code p)
   plain-value (raw w) e = rw (lt-leb w 8 (ltb-true 8 w e))

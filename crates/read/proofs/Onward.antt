@@ -15,7 +15,7 @@ use Rattle.rules.specs.declared.refusal.Refusal.{Refusal}
 use Rattle.rules.specs.Refusals.{Truncated, RowTooLarge}
 use Rattle.read.specs.Budget.{leaving, spent}
 use Rattle.read.specs.Fields.{readNumberAt}
-use Rattle.read.specs.Skim.{standing, _>>=_, reading, passed, having, skimCharge, counted, stored, skimBytes, skimBlob, Skimmer, skimChild, skimVariant, skimPairs, skimFields, skimForm, skimNode, skim}
+use Rattle.read.specs.Skim.{standing, _>>=_, reading, bytesPast, having, skimCharge, counted, stored, skimBytes, skimBlob, Skimmer, skimChild, skimVariant, skimPairs, skimFields, skimForm, skimNode, skim}
 use Rattle.read.specs.Ready.{Ready}
 use Rattle.read.specs.declared.budget.Charged.the-variants.{Left}
 use Rattle.read.specs.declared.budget.Charged.the-variants as charged-is
@@ -70,9 +70,9 @@ module _ (inp : List ℕ) where
           later {q = next} (record { on = omega arith; paid = omega arith; bytes = omega arith }) (g (leAt inp (p .at) w) next (omega (arith, l)))
       go false e = off
 
-  passed-goes : (n context : ℕ) → Goes inp (passed inp n context)
-  unfolding passed pick
-  passed-goes n context p h = go (leb n (length inp - p .at)) refl
+  bytes-past-goes : (n context : ℕ) → Goes inp (bytesPast inp n context)
+  unfolding bytesPast pick
+  bytes-past-goes n context p h = go (leb n (length inp - p .at)) refl
     where
       go : (b : Bool) → leb n (length inp - p .at) ≡ b → Onward inp p (pick b (At (standing (p .at + n) (p .budget) (p .records) (p .payload))) (Refused (Truncated context (p .at))))
       go true e = at {q = standing (p .at + n) (p .budget) (p .records) (p .payload)} (record { on = omega arith; paid = omega arith; bytes = omega arith }) (omega (arith, leb-true n (length inp - p .at) e))
@@ -80,7 +80,7 @@ module _ (inp : List ℕ) where
 
   -- bytes, all of them payload
   bytes-goes : (n context : ℕ) → Goes inp (skimBytes inp n context n)
-  unfolding skimBytes passed stored pick _>>=_
+  unfolding skimBytes bytesPast stored pick _>>=_
   bytes-goes n context p h = go (leb n (length inp - p .at)) refl
     where
       go : (b : Bool) → leb n (length inp - p .at) ≡ b → Onward inp p (pick b (At (standing (p .at + n) (p .budget) (p .records) (p .payload))) (Refused (Truncated context (p .at))) >>= (λ q. At (stored n q)))
@@ -132,8 +132,8 @@ module _ (inp : List ℕ) where
     value-goes : (code first count : ℕ) (f : Form) → Goes inp (skimForm inp rec code first count f)
     unfolding skimForm skimVariant
     value-goes code first count empty p h = stays p h
-    value-goes code first count truth p h = passed-goes 1 code p h
-    value-goes code first count (fixed w) p h = passed-goes w code p h
+    value-goes code first count truth p h = bytes-past-goes 1 code p h
+    value-goes code first count (fixed w) p h = bytes-past-goes w code p h
     value-goes code first count (raw w) p h = bytes-goes w code p h
     value-goes code first count sized p h = blob-goes code p h
     value-goes code first count (variant-form w) p h = reading-goes w (14 + w) p _ (λ tag. child-goes code first count (p .at) tag) h

@@ -17,7 +17,7 @@ use Rattle.rules.specs.declared.table_record.Node.{Node}
 use Rattle.rules.specs.Refusals.{Truncated, RowTooLarge}
 use Rattle.read.specs.Budget.{spent, longest}
 use Rattle.read.specs.Fields.{readNumberAt}
-use Rattle.read.specs.Skim.{skimPos, skimmed, _>>=_, reading, passed, having, skimCharge, counted, stored, skimBytes, skimBlob, Skimmer, skimChild, skimVariant, skimPairs, skimFields, skimForm, skimNode, skim}
+use Rattle.read.specs.Skim.{skimPos, skimmed, _>>=_, reading, bytesPast, having, skimCharge, counted, stored, skimBytes, skimBlob, Skimmer, skimChild, skimVariant, skimPairs, skimFields, skimForm, skimNode, skim}
 use Rattle.read.specs.declared.budget.Charged.the-variants.{Left}
 use Rattle.read.specs.declared.budget.Charged.the-variants as charged-is
 use Rattle.read.specs.declared.fields.ReadNumber.the-variants.{Is}
@@ -61,13 +61,13 @@ module _ (lim : rule.Limits) where
         go false = refl
 
     -- one that is wrapped
-    passed-same : {A : Type 0} (w context : ℕ) (p : rule.Pos) (f : ℕ → A) → skimmed lim (rule._>>=_ (rule.numberOf inp w context p) (λ z. rule.Got (f (z .0)) (z .1))) ≡ passed inp w context (skimPos lim p)
-    unfolding rule.numberOf skimmed skimPos passed
-    passed-same w context p f = wraps (rule.numberOf inp w context p) f ∙ picks (leb w (length inp - p .at)) _ _ _ _ refl refl
+    bytes-past-same : {A : Type 0} (w context : ℕ) (p : rule.Pos) (f : ℕ → A) → skimmed lim (rule._>>=_ (rule.numberOf inp w context p) (λ z. rule.Got (f (z .0)) (z .1))) ≡ bytesPast inp w context (skimPos lim p)
+    unfolding rule.numberOf skimmed skimPos bytesPast
+    bytes-past-same w context p f = wraps (rule.numberOf inp w context p) f ∙ picks (leb w (length inp - p .at)) _ _ _ _ refl refl
 
     -- bytes that are payload
     bytes-same : {A : Type 0} (n context : ℕ) (p : rule.Pos) (f : List ℕ → A) → skimmed lim (rule._>>=_ (rule.bytesOf inp n context p) (λ z. rule.Got (f (z .0)) (z .1))) ≡ skimBytes inp n context n (skimPos lim p)
-    unfolding rule.bytesOf skimmed skimPos skimBytes passed stored _>>=_ pick
+    unfolding rule.bytesOf skimmed skimPos skimBytes bytesPast stored _>>=_ pick
     bytes-same n context p f = wraps (rule.bytesOf inp n context p) f ∙ go (leb n (length inp - p .at))
       where
         go : (b : Bool) →
@@ -118,8 +118,8 @@ module _ (lim : rule.Limits) where
     value-same : (n : Node) (f : Form) (p : rule.Pos) → skimmed lim (rule.valueOf inp lim rec n f p) ≡ skimForm inp below (n .code) (n .first) (n .children) f (skimPos lim p)
     unfolding rule.valueOf skimForm skimVariant skimmed skimPos
     value-same n empty p = refl
-    value-same n truth p = passed-same inp 1 (n .code) p (λ x. boolean (ltb 0 x))
-    value-same n (fixed w) p = passed-same inp w (n .code) p _
+    value-same n truth p = bytes-past-same inp 1 (n .code) p (λ x. boolean (ltb 0 x))
+    value-same n (fixed w) p = bytes-past-same inp w (n .code) p _
     value-same n (raw w) p = bytes-same inp w (n .code) p _
     value-same n sized p = blob-same (n .code) p
     value-same n (variant-form w) p = number-same inp w (14 + w) p _ _ (λ (t, q). wraps _ _ ∙ child-same n t (p .at) q)

@@ -49,8 +49,8 @@ reading (Is n next) p k = k n (standing next (p .budget) (p .records) (p .payloa
 reading (ReadNumber.Refused r) p k = Refused r
 
 -- n bytes, or 12 at the cut field
-unfoldable pub passed : List ℕ → ℕ → ℕ → SkipPos → Skipped
-passed inp n context p =
+unfoldable pub bytesPast : List ℕ → ℕ → ℕ → SkipPos → Skipped
+bytesPast inp n context p =
     pick (leb n (length inp - p .at)) (At (standing (p .at + n) (p .budget) (p .records) (p .payload)))
     (Refused (Truncated context (p .at)))
 
@@ -75,7 +75,7 @@ stored b p = standing (p .at) (p .budget) (p .records) (p .payload + b)
 -- w bytes, of which so many are payload
 unfoldable pub skimBytes : List ℕ → ℕ → ℕ → ℕ → SkipPos → Skipped
 skimBytes inp w context b p = do
-  q ← passed inp w context p
+  q ← bytesPast inp w context p
   At (stored b q)
 
 -- a blob: its length, the blob limit (14), the charge for its length (13), its bytes
@@ -127,8 +127,8 @@ skimFields rec i (suc count) p = do
 -- what the form of a wire code says of the bytes of a node with so many children
 unfoldable pub skimForm : List ℕ → Skimmer → ℕ → ℕ → ℕ → Form → SkipPos → Skipped
 skimForm inp rec code first count empty p = At p
-skimForm inp rec code first count truth p = passed inp 1 code p
-skimForm inp rec code first count (fixed w) p = passed inp w code p
+skimForm inp rec code first count truth p = bytesPast inp 1 code p
+skimForm inp rec code first count (fixed w) p = bytesPast inp w code p
 skimForm inp rec code first count (raw w) p = skimBytes inp w code w p
 skimForm inp rec code first count sized p = skimBlob inp code p
 skimForm inp rec code first count (variant-form w) p = skimVariant inp rec code first count w p

@@ -1,7 +1,7 @@
 // The walk over a table's block and the input: what skip answers. A node step and a children step call each other, and
 // depth falls.
 ghost use mathlib.Core.Path.{_≡_};
-ghost use Prim.Native.Nat.{_+_, _^_, _≤_, _<_};
+ghost use Prim.Native.Nat.{_+_, _-_, _^_, _≤_, _<_};
 ghost use lib.ListN.{length};
 ghost use Rattle.rules.specs.Walk.{walk};
 ghost use Rattle.rules.specs.Reading.{limits, start};
@@ -23,7 +23,7 @@ use record::node::node_first;
 use rules::Refusal;
 use rules::Settings;
 use rules::Why;
-use wire::codes::fixed_width;
+use wire::codes::code_width;
 
 // Where the walk stands, what is left of the row's allowance, and the records and payload bytes that it has passed.
 pub struct SkipPos {
@@ -93,7 +93,7 @@ fn skip_fixed(code: u8, input: &[u8], p: SkipPos) -> Skipped
     ensures { λ r. ⌜ r ≡ skimFixed (now (input .entry)) code p ⌝ }
 {
     let at = p.at;
-    let width = fixed_width(code);
+    let width = code_width(code);
     if input.len() - at < width {
         return Skipped::Refused(Refusal {
             why: Why::Truncated { context: code },
@@ -222,7 +222,7 @@ fn leaf_at(
     charge: u64,
 ) -> ToSkip
     requires { ⌜ Coded (now block) node code × Ready (now input) charge p ⌝ }
-    ensures { λ r. ⌜ LeadsToSkip (now (block .entry)) (now (input .entry)) (skim (now (block .entry)) (now (input .entry)) charge depth) node p r ⌝ }
+    ensures { λ r. ⌜ LeadsToSkip (now (block .entry)) (now (input .entry)) (skim (now (block .entry)) (now (input .entry)) charge (depth - 1)) node p r ⌝ }
 {
     if code < 15 {
         return ToSkip::Leaf(code, p);
@@ -230,7 +230,7 @@ fn leaf_at(
     if 16 < code {
         return ToSkip::Children;
     }
-    if depth == 0 {
+    if depth < 2 {
         return ToSkip::Children;
     }
     let at = p.at;
@@ -292,7 +292,7 @@ fn skip_value(
         payload: p.payload,
     };
     let code = node_code(block, node);
-    let reached = leaf_at(block, node, code, depth - 1, input, q, charge);
+    let reached = leaf_at(block, node, code, depth, input, q, charge);
     match reached {
         ToSkip::Leaf(below, leaf) => {
             let s = skip_leaf(below, input, leaf);
@@ -306,7 +306,7 @@ fn skip_value(
             let records = block;
             let bytes = input;
             let from = q;
-            let s = skip_children(records, code, node, depth - 1, bytes, from, charge);
+            let s = skip_children(records, code, node, depth, bytes, from, charge);
             let Skipped::At(r) = s else {
                 return s;
             };
@@ -326,8 +326,8 @@ fn skip_children(
     p: SkipPos,
     charge: u64,
 ) -> Skipped
-    requires { ⌜ Coded (now block) node code × (14 < code) × Ready (now input) charge p ⌝ }
-    ensures { λ r. ⌜ r ≡ skimNode (now (block .entry)) (now (input .entry)) (skim (now (block .entry)) (now (input .entry)) charge depth) node p ⌝ }
+    requires { ⌜ (0 < depth) × Coded (now block) node code × (14 < code) × Ready (now input) charge p ⌝ }
+    ensures { λ r. ⌜ r ≡ skimNode (now (block .entry)) (now (input .entry)) (skim (now (block .entry)) (now (input .entry)) charge (depth - 1)) node p ⌝ }
 {
     let first = node_first(block, node);
     let count = node_children(block, node);
@@ -345,7 +345,7 @@ fn skip_children(
                     records: q.records,
                     payload: q.payload,
                 };
-                let s = skip_value(block, child, depth, input, from, charge);
+                let s = skip_value(block, child, depth - 1, input, from, charge);
                 let Skipped::At(r) = s else {
                     return skipped_refused_by_child(s);
                 };
@@ -388,7 +388,7 @@ pub fn skip_root(block: &[u8], input: &[u8], at: usize, settings: Settings) -> S
         records: 1,
         payload: 0,
     };
-    let s = skip_children(block, node_code(block, 0), 0, 63, input, p, charge);
+    let s = skip_children(block, node_code(block, 0), 0, 64, input, p, charge);
     let Skipped::At(q) = s else {
         return s;
     };

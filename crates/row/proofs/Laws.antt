@@ -38,7 +38,7 @@ use Rattle.read.specs.declared.walk.Skipped.the-variants.{At, Refused}
 use Rattle.read.specs.Skim.{skimPos, skimmed}
 use Rattle.read.proofs.Nodes.{formed-sound}
 use Rattle.row.specs.declared.steps.RowBlock.{RowBlock}
-use Rattle.row.specs.Steps.{Asked, Walkable, rowBlockIn, rowBlockBy, rowBlockAt, rowIn}
+use Rattle.row.specs.Steps.{ThroughDoor, Walkable, rowBlockIn, rowBlockBy, rowBlockAt, rowIn}
 
 -- the table tag, read or cut
 module _ (inp : List ℕ) (at : ℕ) (x : ReadNumber) (is : x ≡ readNumberAt inp 2 17 at) where
@@ -97,7 +97,7 @@ module _ (table names references registry inp : List ℕ) (lim : Limits) (at t :
   row-unknown e = sym (ap (skipped at) tagged ∙ rw e)
 
   -- the block that is found can be walked along
-  pub walkable : (s : Settings) → Asked (slices table names references registry) inp s → (first n : ℕ) → l ≡ Block first n → Walkable table inp at first n s
+  pub walkable : (s : Settings) → ThroughDoor (slices table names references registry) inp s → (first n : ℕ) → l ≡ Block first n → Walkable table inp at first n s
   walkable s ok first n e =
       let w : tableSchema (slices table names references registry) t ≡ Block first n = sym (schema-any table names references registry t) ∙ sym found ∙ e in
       let b = table-schema (slices table names references registry) (ok .accepted) t (located (slices table names references registry) t first n w) in

@@ -2,12 +2,11 @@
 -- Assumes nothing: these are definitions.
 use Prim.Native.Nat.{ℕ, _+_, _^_, _≤_, _<_}
 use mathlib.Core.Path.{_≡_}
-use mathlib.Core.Bool.{Bool, true}
+use mathlib.Core.Bool.{true}
 use mathlib.Core.List.{List}
 use lib.ListN.{length}
-use Rattle.rules.specs.Choice.{_and_}
 use Rattle.rules.specs.Block.{records, block}
-use Rattle.rules.specs.Format.{Format, shortOk, sizesOk, formatRules, tableSchema}
+use Rattle.rules.specs.Format.{Format, formatRules, tableSchema}
 use Rattle.rules.specs.Walk.{Limits, Got, _>>=_, walk}
 use Rattle.rules.specs.Reading.{settingsOk, start, skipped}
 use Rattle.rules.specs.declared.settings.Settings.{Settings}
@@ -22,12 +21,8 @@ use Rattle.read.specs.declared.fields.ReadNumber.the-variants.{Is}
 use Rattle.row.specs.declared.steps.RowBlock.{RowBlock}
 use Rattle.read.specs.Ready.{Rooted}
 
--- settings and slices inside document 01's bounds
-unfoldable pub boundsOk : Settings → Format → List ℕ → Bool
-boundsOk s f inp = settingsOk s and sizesOk f and shortOk inp
-
--- what was tested before a row is looked at
-pub record Asked (f : Format) (inp : List ℕ) (s : Settings) : Type 0 where
+-- the door was passed: what was tested before a row is looked at
+pub record ThroughDoor (f : Format) (inp : List ℕ) (s : Settings) : Type 0 where
   pub accepted : formatRules f ≡ Accepted
   pub settings : settingsOk s ≡ true
   pub short : length inp < 2 ^ 32

@@ -1,8 +1,7 @@
 // The door: settings, slices, position, format and end are judged here, once in each call, and nowhere else.
 ghost use mathlib.Core.Path.{_≡_};
-ghost use Rattle.rules.specs.Reading.{door};
+ghost use Rattle.rules.specs.Reading.{boundsOk, door};
 ghost use Rattle.schema.specs.Slices.{slices};
-ghost use Rattle.row.specs.Steps.{boundsOk};
 use rules::Checked;
 use rules::Door;
 use rules::LONGEST;

@@ -5,7 +5,7 @@ ghost use Prim.Native.Nat.{_≤_};
 ghost use lib.ListN.{length};
 ghost use Rattle.rules.specs.Reading.{limits, rowAt, skipped};
 ghost use Rattle.schema.specs.Slices.{slices, EntriesNamed, ReferencesNamed};
-ghost use Rattle.row.specs.Steps.{Asked, Walkable, rowBlockAt, rowIn};
+ghost use Rattle.row.specs.Steps.{ThroughDoor, Walkable, rowBlockAt, rowIn};
 use block::table::block_of;
 use read::fields::ReadNumber;
 use read::fields::read_table;
@@ -102,7 +102,7 @@ pub fn row_at(
     at: usize,
     settings: Settings,
 ) -> Read
-    requires { ⌜ Asked (slices (now table) (now names) (now references) (now registry)) (now input) settings × (at ≤ length (now input)) ⌝ }
+    requires { ⌜ ThroughDoor (slices (now table) (now names) (now references) (now registry)) (now input) settings × (at ≤ length (now input)) ⌝ }
     ensures { λ r. ⌜ r ≡ skipped at (rowAt (slices (now (table .entry)) (now (names .entry)) (now (references .entry)) (now (registry .entry)))
         (now (input .entry)) (limits settings) at) ⌝ }
 {

@@ -123,14 +123,14 @@ carried l a b c =
     ++ (item (ascii ", ") (ascii (l .second)) b [] ++ (item (ascii ", ") (ascii (l .third)) c [] ++ closing (ascii (l .first))))
 
 -- ` at PLACE after ROWS rows, BYTES bytes`
-unfoldable pub standing : ℕ → ℕ → ℕ → List ℕ
-standing place rows bytes = (ascii " at " ++ decimal place) ++ ((ascii " after " ++ decimal rows) ++ ((ascii " rows, " ++ decimal bytes) ++ (ascii " bytes" ++ (10 ∷ []))))
+unfoldable pub stoppedAt : ℕ → ℕ → ℕ → List ℕ
+stoppedAt place rows bytes = (ascii " at " ++ decimal place) ++ ((ascii " after " ++ decimal rows) ++ ((ascii " rows, " ++ decimal bytes) ++ (ascii " bytes" ++ (10 ∷ []))))
 
 -- `refused NUMBER NAME (what it carries) at PLACE after ROWS rows, BYTES bytes`
 unfoldable pub refusedLine : Refusal → ℕ → ℕ → List ℕ
 refusedLine r rows bytes =
     (ascii "refused " ++ decimal (reportOf r .number))
-    ++ (ascii " " ++ (ascii (lineOf (r .why) .name) ++ (carried (labelsOf (reportOf r .number)) (reportOf r .a) (reportOf r .b) (reportOf r .c) ++ standing (r .place) rows bytes)))
+    ++ (ascii " " ++ (ascii (lineOf (r .why) .name) ++ (carried (labelsOf (reportOf r .number)) (reportOf r .a) (reportOf r .b) (reportOf r .c) ++ stoppedAt (r .place) rows bytes)))
 
 -- the line of a run
 unfoldable pub runLineOf : ℕ → ℕ → Stop → List ℕ

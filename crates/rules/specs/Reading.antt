@@ -48,10 +48,14 @@ unfoldable pub whenAccepted : {A : Type 0} → (Refusal → A) → Checked → A
 whenAccepted refuse Checked.Accepted a = a
 whenAccepted refuse (Checked.Refused r) a = refuse r
 
+-- settings and slices are inside the bounds
+abbrev pub boundsOk : Settings → Format → List ℕ → Bool
+boundsOk s f inp = settingsOk s and sizesOk f and shortOk inp
+
 -- settings, slices and the position (1); the format; the end of the stream; else the row may be read
 unfoldable pub door : Format → Settings → List ℕ → ℕ → Door
 door f s inp at =
-    pick (settingsOk s and sizesOk f and shortOk inp and leb at (length inp))
+    pick (boundsOk s f inp and leb at (length inp))
     (whenAccepted Door.Refused (formatRules f) (pick (eqb at (length inp)) Door.End Open))
     (Door.Refused Setting)
 

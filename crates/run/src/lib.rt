@@ -4,7 +4,7 @@ ghost use Prim.Native.Nat.{suc};
 ghost use lib.ListN.{length};
 ghost use Rattle.rules.specs.Reading.{limits, runFrom, runRule, ranOf};
 ghost use Rattle.schema.specs.Slices.{slices};
-ghost use Rattle.row.specs.Steps.{Asked};
+ghost use Rattle.row.specs.Steps.{ThroughDoor};
 use row::door::door;
 use row::steps::row_at;
 use rules::Door;
@@ -33,7 +33,7 @@ pub fn run_rows(
     input: &[u8],
     settings: Settings,
 ) -> Ran
-    requires { ⌜ Asked (slices (now table) (now names) (now references) (now registry)) (now input) settings ⌝ }
+    requires { ⌜ ThroughDoor (slices (now table) (now names) (now references) (now registry)) (now input) settings ⌝ }
     ensures { λ r. ⌜ r ≡ ranOf (runFrom (slices (now (table .entry)) (now (names .entry)) (now (references .entry)) (now (registry .entry)))
         (now (input .entry)) (limits settings) (suc (length (now (input .entry)))) 0) ⌝ }
 {

@@ -22,7 +22,7 @@ use Rattle.rules.proofs.Stands.{leAt-lt, length-part}
 use Rattle.value_laws.proofs.Codes.{empty-code, truth-code}
 use Rattle.value_laws.proofs.Parse.{Holds, holds, fails, then, when}
 use Rattle.value.specs.Records.{tagOk, storedOk, scalarOk, parentOk, recordOk}
-use Rattle.value.specs.Walk.{_>>=_, past, next, children, onward, walk}
+use Rattle.value.specs.Walk.{_>>=_, past, nextRecord, walkChildren, walkOn, walkTable}
 use Rattle.value.specs.declared.TablePos.{TablePos}
 use Rattle.value.specs.declared.Walked.{Walked}
 use Rattle.value.specs.declared.Walked.the-variants.{At, Broken}
@@ -246,7 +246,7 @@ module _ (table store : List ℕ) (bs : Bytes table) (short : length store < 2 ^
 
     -- ---- nodes with children
 
-    module _ (l : p .from ≤ length store) (d : ℕ) (ok : (t : Bool) (q : rule.Spot) → q .from ≤ length store → forgot (valueAt table store d (tagFor t (q .at)) q) ≡ walk table (length store) d t (spot q)) where
+    module _ (l : p .from ≤ length store) (d : ℕ) (ok : (t : Bool) (q : rule.Spot) → q .from ≤ length store → forgot (valueAt table store d (tagFor t (q .at)) q) ≡ walkTable table (length store) d t (spot q)) where
       any : {A : Type 0} (x : Parsed A) → Holds (λ a q. Unit) x
       any (Whole a q) = holds tt
       any rule.Broken = fails
@@ -262,19 +262,19 @@ module _ (table store : List ℕ) (bs : Bytes table) (short : length store < 2 ^
       values-count zero q = holds refl
       values-count (suc n) q = then (any (valueAt table store d 0 q)) (λ y h. then (values-count n (y .1)) (λ z e. holds (ap suc e)))
 
-      items-same : (n : ℕ) (q : rule.Spot) → q .from ≤ length store → forgot (itemsAt table store (valueAt table store d) n q) ≡ children (walk table (length store) d true) n (spot q)
-      unfolding itemsAt children forgot tagFor
+      items-same : (n : ℕ) (q : rule.Spot) → q .from ≤ length store → forgot (itemsAt table store (valueAt table store d) n q) ≡ walkChildren (walkTable table (length store) d true) n (spot q)
+      unfolding itemsAt walkChildren forgot tagFor
       items-same zero q m = refl
       items-same (suc n) q m = drops _ _ _ _ (ok true q m) (λ v z e. wraps _ _ ∙ items-same n z (walk-ends table (length store) d true (spot q) (spot z) _ m refl e))
 
-      values-same : (n : ℕ) (q : rule.Spot) → q .from ≤ length store → forgot (valuesAt table store (valueAt table store d) n q) ≡ children (walk table (length store) d false) n (spot q)
-      unfolding valuesAt children forgot tagFor
+      values-same : (n : ℕ) (q : rule.Spot) → q .from ≤ length store → forgot (valuesAt table store (valueAt table store d) n q) ≡ walkChildren (walkTable table (length store) d false) n (spot q)
+      unfolding valuesAt walkChildren forgot tagFor
       values-same zero q m = refl
       values-same (suc n) q m = drops _ _ _ _ (ok false q m) (λ v z e. wraps _ _ ∙ values-same n z (walk-ends table (length store) d false (spot q) (spot z) _ m refl e))
 
-      child-same : (n : ℕ) (q : rule.Spot) → q .from ≤ length store → n ≡ 1 → forgot (valueAt table store d (tagAt table store (q .at)) q) ≡ children (walk table (length store) d true) n (spot q)
-      unfolding children tagFor
-      child-same n q m e = rw e (ok true q m ∙ only (walk table (length store) d true (spot q)))
+      child-same : (n : ℕ) (q : rule.Spot) → q .from ≤ length store → n ≡ 1 → forgot (valueAt table store d (tagAt table store (q .at)) q) ≡ walkChildren (walkTable table (length store) d true) n (spot q)
+      unfolding walkChildren tagFor
+      child-same n q m e = rw e (ok true q m ∙ only (walkTable table (length store) d true (spot q)))
         where
           only : (w : Walked) → w ≡ w >>= (λ z. At z)
           only (At z) = unfold _>>=_ in refl
@@ -283,10 +283,10 @@ module _ (table store : List ℕ) (bs : Bytes table) (short : length store < 2 ^
       -- the node, by its kind
       unfoldable Node : Type 0
       Node = forgot (ifRecordIs table store (tagFor b (p .at)) p (nodeValue table store (valueAt table store d) (kindOf (r .kind)) r p))
-          ≡ pick (ltb (p .at) (valueRecordsIn (length table)) and recordOk r b (p .from) (length store)) (onward (walk table (length store) d) r (spot p)) Broken
+          ≡ pick (ltb (p .at) (valueRecordsIn (length table)) and recordOk r b (p .from) (length store)) (walkOn (walkTable table (length store) d) r (spot p)) Broken
 
       scalar-node : r .kind < 15 → Node
-      unfolding Node recordOk onward nodeValue kindOf pick
+      unfolding Node recordOk walkOn nodeValue kindOf pick
       scalar-node h =
           let z = scalar-is l (form (r .kind)) refl in
           rw (lt-ltb (r .kind) 15 h) (heads (z .size) (z .content) (z .size-fits) (z .content-fits) _ (z .each) ∙ under _ _ _ _ _ (under _ _ _ _ _ (z .same)))
@@ -294,8 +294,8 @@ module _ (table store : List ℕ) (bs : Bytes table) (short : length store < 2 ^
       -- one with children: size and content are tested, and its children follow
       parent-node : {A : Type 0} (s : ℕ) (x : Parsed A) (f : A → Value) → s < 256 ^ 4 → 15 ≤ r .kind → nodeValue table store (valueAt table store d) (kindOf (r .kind)) r p ≡ rule._>>=_ x (λ z. Whole (f (z .0)) (z .1)) →
           Holds (λ a q. headOf (f a) (tagFor b (p .at)) (p .from) ≡ valueRecord (r .kind) (tagFor b (p .at)) s 0) x →
-          pick (eqb (r .size) s and eqb (r .content) 0) (forgot x) Broken ≡ pick (parentOk (r .kind) (r .size) (r .content)) (children (walk table (length store) d (ltb (r .kind) 17)) (r .size) (next (spot p))) Broken → Node
-      unfolding Node recordOk onward pick
+          pick (eqb (r .size) s and eqb (r .content) 0) (forgot x) Broken ≡ pick (parentOk (r .kind) (r .size) (r .content)) (walkChildren (walkTable table (length store) d (ltb (r .kind) 17)) (r .size) (nextRecord (spot p))) Broken → Node
+      unfolding Node recordOk walkOn pick
       parent-node s x f l h e each same = rw (e, le-ltb (r .kind) 15 h)
           (heads s 0 l (omega arith) (rule._>>=_ x (λ z. Whole (f (z .0)) (z .1))) (then each (λ z g. holds {a = f (z .0)} g)) ∙ under _ _ _ _ _ (under _ _ _ _ _ (rw (wraps x f) same)))
 
@@ -361,12 +361,12 @@ module _ (table store : List ℕ) (bs : Bytes table) (short : length store < 2 ^
           by false e = more (ltb 17 (r .kind)) refl (ltb-false (r .kind) 15 e)
 
   -- The walk over a value, chosen by a tag or not, ends where the rules' reading ends.
-  walk-same : (d : ℕ) (b : Bool) (p : rule.Spot) → p .from ≤ length store → forgot (valueAt table store d (tagFor b (p .at)) p) ≡ walk table (length store) d b (spot p)
-  unfolding valueAt walk forgot Node
+  walk-same : (d : ℕ) (b : Bool) (p : rule.Spot) → p .from ≤ length store → forgot (valueAt table store d (tagFor b (p .at)) p) ≡ walkTable table (length store) d b (spot p)
+  unfolding valueAt walkTable forgot Node
   walk-same zero b p l = refl
   walk-same (suc d) b p l = node-same b p l d (walk-same d)
 
   -- From the start on, for the root, which no parent chose.
-  pub root-same : forgot (valueAt table store 64 0 (record { at = 0; from = 0 })) ≡ walk table (length store) 64 false (record { at = 0; from = 0 })
+  pub root-same : forgot (valueAt table store 64 0 (record { at = 0; from = 0 })) ≡ walkTable table (length store) 64 false (record { at = 0; from = 0 })
   unfolding tagFor
   root-same = walk-same 64 false (record { at = 0; from = 0 }) (omega arith)

@@ -17,7 +17,7 @@ use Rattle.rules.specs.ValueTable.{Parsed, Whole, valueAt, ifWholeTable, tableV
 use Rattle.rules.specs.ValueCheck.{formChecked, tableForm}
 use Rattle.rules.specs.declared.answer.Checked.{Checked}
 use Rattle.rules.specs.declared.answer.Checked.the-variants.{Accepted, Refused}
-use Rattle.value.specs.Walk.{walk}
+use Rattle.value.specs.Walk.{walkTable}
 use Rattle.value.specs.declared.TablePos.{TablePos}
 use Rattle.value.specs.declared.Walked.{Walked}
 use Rattle.value.specs.declared.Walked.the-variants.{At, Broken}
@@ -44,7 +44,7 @@ module _ (table store : List ℕ) where
   form-ragged e = rw e
 
   -- else the form is what the walk's end says
-  module _ (bs : Bytes table) (short : length store < 2 ^ 64) (n : ℕ) (is : n ≡ valueRecordsIn (length table)) (e : wholeValueRecords (length table) ≡ true) (w : Walked) (h : w ≡ walk table (length store) 64 false (record { at = 0; from = 0 })) where
+  module _ (bs : Bytes table) (short : length store < 2 ^ 64) (n : ℕ) (is : n ≡ valueRecordsIn (length table)) (e : wholeValueRecords (length table) ≡ true) (w : Walked) (h : w ≡ walkTable table (length store) 64 false (record { at = 0; from = 0 })) where
     form-walked : ended w ≡ tableForm table store
     unfolding tableForm tableValue pick
     form-walked = rw (e, h, ← (root-same table store bs short)) (sym (exact-ended (valueAt table store 64 0 (record { at = 0; from = 0 }))))

@@ -22,23 +22,23 @@ Broken >>= k = Broken
 abbrev pub past : ℕ → TablePos → TablePos
 past n p = record { at = p .at + 1; from = p .from + n }
 
-abbrev pub next : TablePos → TablePos
-next p = record { at = p .at + 1; from = p .from }
+abbrev pub nextRecord : TablePos → TablePos
+nextRecord p = record { at = p .at + 1; from = p .from }
 
 -- so many values, one after another
-unfoldable pub children : (TablePos → Walked) → ℕ → TablePos → Walked
-children child zero p = At p
-children child (suc n) p = do
+unfoldable pub walkChildren : (TablePos → Walked) → ℕ → TablePos → Walked
+walkChildren child zero p = At p
+walkChildren child (suc n) p = do
   q ← child p
-  children child n q
+  walkChildren child n q
 
 -- what follows a record that is right where it stands: its payload, or its children, which bear tags in all but a tuple
-unfoldable pub onward : (Bool → TablePos → Walked) → ValueRecord → TablePos → Walked
-onward child r p = pick (ltb (r .kind) 15) (At (past (r .size) p)) (children (child (ltb (r .kind) 17)) (r .size) (next p))
+unfoldable pub walkOn : (Bool → TablePos → Walked) → ValueRecord → TablePos → Walked
+walkOn child r p = pick (ltb (r .kind) 15) (At (past (r .size) p)) (walkChildren (child (ltb (r .kind) 17)) (r .size) (nextRecord p))
 
 -- a value, at most so many levels deep, in a store of so many bytes
-unfoldable pub walk : List ℕ → ℕ → ℕ → Bool → TablePos → Walked
-walk table store zero tagged p = Broken
-walk table store (suc d) tagged p =
+unfoldable pub walkTable : List ℕ → ℕ → ℕ → Bool → TablePos → Walked
+walkTable table store zero tagged p = Broken
+walkTable table store (suc d) tagged p =
     let r = valueRecordAt table (p .at) in
-    pick (ltb (p .at) (valueRecordsIn (length table)) and recordOk r tagged (p .from) store) (onward (walk table store d) r p) Broken
+    pick (ltb (p .at) (valueRecordsIn (length table)) and recordOk r tagged (p .from) store) (walkOn (walkTable table store d) r p) Broken

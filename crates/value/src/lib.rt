@@ -1,13 +1,13 @@
 // The check of a value table: whether records and payload store are the table of some value (18). One walk over the records in
 // preorder, each looked at once; it builds nothing.
 ghost use mathlib.Core.Path.{_≡_};
-ghost use Prim.Native.Nat.{_^_, _≤_, _<_};
+ghost use Prim.Native.Nat.{_-_, _^_, _≤_, _<_};
 ghost use lib.Dec.{ltb};
 ghost use Rattle.rules.specs.Wire.{form};
 ghost use Rattle.rules.specs.Refusals.{BadValueTable};
 ghost use Rattle.rules.specs.ValueCheck.{tableForm, valueTableRule};
 ghost use Rattle.value.specs.Records.{tagOk, storedOk, scalarOk, parentOk, recordOk};
-ghost use Rattle.value.specs.Walk.{children, walk};
+ghost use Rattle.value.specs.Walk.{walkChildren, walkTable};
 use record::value::records_in;
 use record::value::value_record_at;
 use record::value::whole_records;
@@ -16,7 +16,7 @@ use rules::LONGEST;
 use rules::Refusal;
 use rules::ValueRecord;
 use rules::Why;
-use wire::codes::fixed_width;
+use wire::codes::code_width;
 
 // Where the walk stands: the next record, and the next byte of the payload store.
 pub struct TablePos {
@@ -84,7 +84,7 @@ fn scalar_ok(kind: u8, size: u64, content: u64, from: usize, store: usize) -> bo
     if 12 < kind {
         return stored_ok(size, content, from, store);
     }
-    let width = fixed_width(kind);
+    let width = code_width(kind);
     if 8 < width {
         if size != width as u64 {
             return false;
@@ -141,7 +141,7 @@ fn record_ok(r: ValueRecord, tagged: bool, from: usize, store: usize) -> bool
 // The node step. What has no children has its payload's length in the field for the size, or 0.
 fn walk_value(records: &[u8], store: usize, depth: usize, tagged: bool, p: TablePos) -> Walked
     requires { ⌜ p .from ≤ store ⌝ }
-    ensures { λ r. ⌜ r ≡ walk (now (records .entry)) store depth tagged p ⌝ }
+    ensures { λ r. ⌜ r ≡ walkTable (now (records .entry)) store depth tagged p ⌝ }
 {
     if depth == 0 {
         return Walked::Broken;
@@ -164,7 +164,7 @@ fn walk_value(records: &[u8], store: usize, depth: usize, tagged: bool, p: Table
         });
     }
     let below = TablePos { at: at + 1, from };
-    let s = walk_children(records, store, depth - 1, kind < 17, size, below);
+    let s = walk_children(records, store, depth, kind < 17, size, below);
     let Walked::At(q) = s else {
         return s;
     };
@@ -180,13 +180,13 @@ fn walk_children(
     count: u64,
     p: TablePos,
 ) -> Walked
-    requires { ⌜ p .from ≤ store ⌝ }
-    ensures { λ r. ⌜ r ≡ children (walk (now (records .entry)) store depth tagged) count p ⌝ }
+    requires { ⌜ (0 < depth) × (p .from ≤ store) ⌝ }
+    ensures { λ r. ⌜ r ≡ walkChildren (walkTable (now (records .entry)) store (depth - 1) tagged) count p ⌝ }
 {
     let mut q = p;
     let mut left = count;
     while 0 < left {
-        let s = walk_value(records, store, depth, tagged, q);
+        let s = walk_value(records, store, depth - 1, tagged, q);
         let Walked::At(next) = s else {
             return s;
         };

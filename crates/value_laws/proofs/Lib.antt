@@ -1,6 +1,7 @@
 pub mod Records
 pub mod Sizes
 pub mod Codes
+pub mod Children
 pub mod Span
 pub mod Parse
 pub mod Flat

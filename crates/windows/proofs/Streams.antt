@@ -23,7 +23,7 @@ use Rattle.rules.proofs.Stands.{length-part}
 use Rattle.rules.proofs.Over.{over-is}
 use Rattle.row_laws.proofs.Parts.{moved-none}
 use Rattle.windows.specs.Bounds.{Laid}
-use Rattle.windows.specs.Steps.{cut, tables, GoesOver, Stream}
+use Rattle.windows.specs.Steps.{cut, formatIn, GoesOver, Stream}
 use Rattle.windows.specs.declared.space.Ends.{Ends}
 use Rattle.windows.proofs.Steps.{drop-take}
 
@@ -45,11 +45,11 @@ module _ {ends : Ends} {end n : ℕ} (l : Laid ends end n) where
   w = ends .registry
 
   -- and the same tables
-  same-tables : (s s′ : List ℕ) → take w s ≡ take w s′ → tables s ends ≡ tables s′ ends
+  same-tables : (s s′ : List ℕ) → take w s ≡ take w s′ → formatIn s ends ≡ formatIn s′ ends
   same-tables s s′ e = rw (same-cut s s′ w 0 (ends .records) e (omega arith), same-cut s s′ w (ends .records) (ends .names) e (omega arith), same-cut s s′ w (ends .names) (ends .references) e (omega arith), same-cut s s′ w (ends .references) w e (omega arith))
 
   -- what is brought to the window leaves the tables
-  pub tables-stay : (s s′ : List ℕ) (from k : ℕ) → s′ ≡ over s w (part s from k) → w + k ≤ length s → tables s′ ends ≡ tables s ends
+  pub tables-stay : (s s′ : List ℕ) (from k : ℕ) → s′ ≡ over s w (part s from k) → w + k ≤ length s → formatIn s′ ends ≡ formatIn s ends
   tables-stay s s′ from k e h =
       let i : w + length (part s from k) ≤ length s = rw (length-part s from k) h in
       same-tables s′ s (rw (e, over-is (part s from k) s w i) (front s (part s from k ++ drop (w + length (part s from k)) s) w (omega arith)))
@@ -92,7 +92,7 @@ added-none none ran a b =
     unmoved (Stop.Refused r) = unfold movedStop in rw (moved-none r)
 
 -- before the first read
-pub stream-first : (set : Settings) (s : List ℕ) (ends : Ends) (none ran : Ran) → none .rows ≡ 0 → none .bytes ≡ 0 → ran ≡ added none (ranOf (runRule (tables s ends) set (cut s (ends .registry) (ends .registry)))) → Stream (tables s ends) set ends s (ends .registry) ran 0
+pub stream-first : (set : Settings) (s : List ℕ) (ends : Ends) (none ran : Ran) → none .rows ≡ 0 → none .bytes ≡ 0 → ran ≡ added none (ranOf (runRule (formatIn s ends) set (cut s (ends .registry) (ends .registry)))) → Stream (formatIn s ends) set ends s (ends .registry) ran 0
 stream-first set s ends none ran a b e =
     let n : ends .registry - ends .registry ≡ 0 = omega arith in
     record {
@@ -124,7 +124,7 @@ module _ (f : Format) (set : Settings) {ends : Ends} {end n : ℕ} (s ys : List 
   window : cut s₁ w₁ (end + got) ≡ cut s w₁ end ++ more
   window = two-cuts s₁ w₁ end (end + got) (l .window) (omega arith) ∙ rw (same-cut s₁ s end w₁ end begins (omega arith))
 
-  tables-are : tables s₁ ends ≡ f
+  tables-are : formatIn s₁ ends ≡ f
   tables-are =
       let h : take w₁ s₁ ≡ take w₁ s = sym (take-take w₁ end s₁ (l .window)) ∙ rw begins (take-take w₁ end s (l .window)) in
       same-tables l s₁ s h ∙ t .behind
@@ -142,7 +142,7 @@ module _ (f : Format) (set : Settings) {ends : Ends} {end n : ℕ} (s ys : List 
       rw (length-append (t .read) more, a, length-take-le got (drop end s₁) (omega (arith, length-drop end s₁)), t .size)
 
   -- and a step goes on over them
-  pub stream-on : n + got ≤ 4294967295 → (s₂ : List ℕ) (end₂ : ℕ) (next : Ran) → GoesOver (tables s₁ ends) set ran (cut s₁ w₁ (end + got)) next (cut s₂ w₁ end₂) → tables s₂ ends ≡ tables s₁ ends → Stream f set ends s₂ end₂ next (n + got)
+  pub stream-on : n + got ≤ 4294967295 → (s₂ : List ℕ) (end₂ : ℕ) (next : Ran) → GoesOver (formatIn s₁ ends) set ran (cut s₁ w₁ (end + got)) next (cut s₂ w₁ end₂) → formatIn s₂ ends ≡ formatIn s₁ ends → Stream f set ends s₂ end₂ next (n + got)
   unfolding GoesOver
   stream-on short s₂ end₂ next k same = record {
     read = t .read ++ more;

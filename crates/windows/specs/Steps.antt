@@ -19,8 +19,8 @@ abbrev pub cut : List ℕ → ℕ → ℕ → List ℕ
 cut s from to = take (to - from) (drop from s)
 
 -- the tables in a space
-abbrev pub tables : List ℕ → Ends → Format
-tables s ends = slices (cut s 0 (ends .records)) (cut s (ends .records) (ends .names)) (cut s (ends .names) (ends .references)) (cut s (ends .references) (ends .registry))
+abbrev pub formatIn : List ℕ → Ends → Format
+formatIn s ends = slices (cut s 0 (ends .records)) (cut s (ends .records) (ends .names)) (cut s (ends .names) (ends .references)) (cut s (ends .references) (ends .registry))
 
 -- the run over a stream, and, where bytes to come may change it, what its rows have left of the stream
 pub record RunsOver (f : Format) (s : Settings) (stream : List ℕ) (ran : Ran) (left : List ℕ) : Type 0 where
@@ -40,4 +40,4 @@ pub record Stream (f : Format) (s : Settings) (ends : Ends) (space : List ℕ) (
   pub bytes : Bytes read
   pub size : length read ≡ n
   pub runs : RunsOver f s read ran (cut space (ends .registry) end)
-  pub behind : tables space ends ≡ f
+  pub behind : formatIn space ends ≡ f

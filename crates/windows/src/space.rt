@@ -7,7 +7,7 @@ ghost use Rattle.rules.specs.Bytes.{part, over};
 ghost use Rattle.rules.specs.Reading.{runRule, ranOf};
 ghost use Rattle.rules.specs.Windows.{goesOn, added};
 ghost use Rattle.windows.specs.Bounds.{Laid, Counted, Further};
-ghost use Rattle.windows.specs.Steps.{cut, tables, GoesOver};
+ghost use Rattle.windows.specs.Steps.{cut, formatIn, GoesOver};
 use crate::goes_on;
 use crate::run_on;
 use rules::Ran;
@@ -37,7 +37,7 @@ fn move_bytes(space: &mut [u8], from: usize, to: usize, n: usize)
 // The run over the space's window, which ends at `end`.
 pub fn run_window(settings: Settings, before: Ran, space: &[u8], ends: Ends, end: usize) -> Ran
     requires { ⌜ Laid ends end (length (now space)) × Counted before (end - ends .registry) ⌝ }
-    ensures { λ r. ⌜ r ≡ added before (ranOf (runRule (tables (now (space .entry)) ends) settings (cut (now (space .entry)) (ends .registry) end))) ⌝ }
+    ensures { λ r. ⌜ r ≡ added before (ranOf (runRule (formatIn (now (space .entry)) ends) settings (cut (now (space .entry)) (ends .registry) end))) ⌝ }
     ensures { λ r. ⌜ Further before r (end - ends .registry) ⌝ }
 {
     let x = ends.records;
@@ -64,7 +64,7 @@ fn bytes_to_keep(stop: Stop, from: usize, end: usize) -> usize
 }
 
 // The run so far, and where the bytes of the window end that it has still to run over.
-pub struct Reading {
+pub struct WindowRun {
     pub ran: Ran,
     pub end: usize,
 }
@@ -76,16 +76,16 @@ pub fn run_filled_window(
     space: &mut [u8],
     ends: Ends,
     end: usize,
-) -> Reading
+) -> WindowRun
     requires { ⌜ Laid ends end (length (now space)) × Counted ran (end - ends .registry) ⌝ }
-    ensures { λ r. ⌜ GoesOver (tables (now (space .entry)) ends) settings ran (cut (now (space .entry)) (ends .registry) end) (r .ran) (cut (now (space .exit)) (ends .registry) (r .end)) ⌝ }
-    ensures { λ _. ⌜ tables (now (space .exit)) ends ≡ tables (now (space .entry)) ends ⌝ }
+    ensures { λ r. ⌜ GoesOver (formatIn (now (space .entry)) ends) settings ran (cut (now (space .entry)) (ends .registry) end) (r .ran) (cut (now (space .exit)) (ends .registry) (r .end)) ⌝ }
+    ensures { λ _. ⌜ formatIn (now (space .exit)) ends ≡ formatIn (now (space .entry)) ends ⌝ }
     ensures { λ r. ⌜ (ends .registry ≤ r .end) × (r .end ≤ end) × (r .ran .rows ≤ r .ran .bytes) × (r .ran .bytes + (r .end - ends .registry) ≤ ran .bytes + (end - ends .registry)) ⌝ }
 {
     let w = ends.registry;
     let stop = ran.stop;
     if !goes_on(stop) {
-        return Reading { ran, end: w };
+        return WindowRun { ran, end: w };
     }
     let next = run_window(settings, ran, space, ends, end);
     let from = w + (next.bytes - ran.bytes) as usize;
@@ -93,7 +93,7 @@ pub fn run_filled_window(
     let n = bytes_to_keep(stop, from, end);
     move_bytes(space, from, w, n);
     let kept = w + n;
-    Reading {
+    WindowRun {
         ran: next,
         end: kept,
     }

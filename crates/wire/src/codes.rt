@@ -6,7 +6,7 @@ use rules::Children;
 
 // How many bytes a value has. An arm for every code, nothing's too: from that the compiler makes a jump table, and the
 // place of the next node does not wait for a load.
-pub fn fixed_width(code: u8) -> usize
+pub fn code_width(code: u8) -> usize
     requires { ⌜ code < 13 ⌝ }
     ensures { λ r. ⌜ (r ≡ widthOf (form code)) × (r ≤ 32) ⌝ }
 {

@@ -72,7 +72,7 @@ pub fn fixed_width(t: WireType) -> Width
 {
     let code = code_of(t);
     if code < 13 {
-        Width::Fixed(codes::fixed_width(code) as u64)
+        Width::Fixed(codes::code_width(code) as u64)
     } else {
         Width::Variable
     }

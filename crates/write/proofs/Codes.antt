@@ -16,7 +16,7 @@ use Rattle.rules.proofs.Codes.{every-form}
 use Rattle.value_laws.proofs.Codes.{variant-taken, repeated-taken, tuple-taken}
 use Rattle.read.specs.Children.{as-variant, as-repeated, as-tuple, shapeOf}
 use Rattle.read.proofs.Codes.{shape-variant, shape-repeated, shape-tuple}
-use Rattle.write.specs.Judging.{taggedOf, pickedOf, countOk}
+use Rattle.write.specs.Judging.{taggedOf, chosenOf, countOk}
 use Rattle.write.specs.Putting.{tagBytes, closing, childOf}
 
 -- a code below 15 takes its own kind
@@ -27,11 +27,11 @@ leaf-kind code h = eqb-true code (kindFor code (form code)) (all-each (λ k. eqb
 -- ---- the forms, by the ranges
 
 -- up to 18 a tag says which child
-pub picked-tag : (code first count i tag r : ℕ) → code ≤ 18 → pickedOf code first count (shapeOf code) i tag r ≡ taggedOf code first count (widthOf (form code)) tag r
-unfolding shapeOf pick pickedOf
+pub picked-tag : (code first count i tag r : ℕ) → code ≤ 18 → chosenOf code first count (shapeOf code) i tag r ≡ taggedOf code first count (widthOf (form code)) tag r
+unfolding shapeOf pick chosenOf
 picked-tag code first count i tag r h = rw (lt-ltb code 19 (omega arith)) (either (ltb code 17))
   where
-    either : (b : Bool) → pickedOf code first count (pick b (as-variant (widthOf (form code))) (as-repeated (widthOf (form code)))) i tag r ≡ taggedOf code first count (widthOf (form code)) tag r
+    either : (b : Bool) → chosenOf code first count (pick b (as-variant (widthOf (form code))) (as-repeated (widthOf (form code)))) i tag r ≡ taggedOf code first count (widthOf (form code)) tag r
     either true = refl
     either false = refl
 

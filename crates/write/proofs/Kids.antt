@@ -19,42 +19,27 @@ use Rattle.rules.specs.ValueTable.{valueKind, sizeOf}
 use Rattle.rules.specs.Walk.{Limits}
 use Rattle.rules.specs.Refusals.{ValueDoesNotMatchSchema, TupleLength, InvalidVariantTag}
 use Rattle.rules.specs.Writing.{Wrote, Put, Refused, _>>=_, kindFor, fitting, tagged, write, writeI, writeV}
+use Rattle.value_laws.proofs.Children.{untagged, children}
 use Rattle.read.specs.Children.{Shape, as-variant, as-repeated, as-tuple, shapeOf}
-use Rattle.write.specs.Judging.{taggedOf, pickedOf, countOk}
+use Rattle.write.specs.Judging.{taggedOf, chosenOf, countOk}
 use Rattle.write.specs.Putting.{tagBytes, closing}
-use Rattle.write.specs.declared.judge.Pick.{Pick}
-use Rattle.write.specs.declared.judge.Pick.the-variants as pick-is
+use Rattle.write.specs.declared.judge.Chosen.{Chosen}
+use Rattle.write.specs.declared.judge.Chosen.the-variants as chosen-is
 use Rattle.write.proofs.Codes.{fixed-range, raw-range, sized-range, variant-shape, repeated-shape, tuple-shape}
 
--- ---- the children of a value, each with the tag that it bears
-
-unfoldable pub untagged : Values → Items
-untagged none = done
-untagged (more v vs) = item 0 v (untagged vs)
-
-unfoldable pub children : Value → Items
-children nothing = done
-children (boolean x) = done
-children (number k x) = done
-children (wide k x) = done
-children (blob k x) = done
-children (value.variant t v) = item t v done
-children (value.repeated is) = is
-children (value.tuple vs) = untagged vs
-
 -- what follows the choice of a child
-unfoldable pub choosing : Pick → (ℕ → Wrote) → Wrote
-choosing (pick-is.Child c w) k = k c
-choosing (pick-is.Refused r) k = Refused r
+unfoldable pub choosing : Chosen → (ℕ → Wrote) → Wrote
+choosing (chosen-is.Child c w) k = k c
+choosing (chosen-is.Refused r) k = Refused r
 
 module _ (sch : List ℕ) (lim : Limits) (i : ℕ) where
-  abbrev pub chosen : Shape → ℕ → ℕ → ℕ → Pick
-  chosen s j t r = pickedOf (nodeAt sch i .code) (nodeAt sch i .first) (nodeAt sch i .children) s j t r
+  abbrev pub chosenFor : Shape → ℕ → ℕ → ℕ → Chosen
+  chosenFor s j t r = chosenOf (nodeAt sch i .code) (nodeAt sch i .first) (nodeAt sch i .children) s j t r
 
   -- children of node i from the j-th on, whose records begin at r
   unfoldable pub kids : Shape → Items → ℕ → ℕ → Wrote
   kids s done j r = Put (closing s)
-  kids s (item t v is) j r = choosing (chosen s j t r) (λ c.
+  kids s (item t v is) j r = choosing (chosenFor s j t r) (λ c.
       write sch lim v c r >>= (λ x.
       kids s is (j + 1) (r + recordsOf v) >>= (λ y.
       Put (tagBytes s t ++ (x ++ y)))))
@@ -64,7 +49,7 @@ module _ (sch : List ℕ) (lim : Limits) (i : ℕ) where
   unfolding tagged taggedOf
   by-tag w t r x k e = by (ltb t (nodeAt sch i .children))
     where
-      by : (b : Bool) → pick b x (Refused (InvalidVariantTag (nodeAt sch i .code) t (nodeAt sch i .children) r)) ≡ choosing (pick b (pick-is.Child (nodeAt sch i .first + t) w) (pick-is.Refused (InvalidVariantTag (nodeAt sch i .code) t (nodeAt sch i .children) r))) k
+      by : (b : Bool) → pick b x (Refused (InvalidVariantTag (nodeAt sch i .code) t (nodeAt sch i .children) r)) ≡ choosing (pick b (chosen-is.Child (nodeAt sch i .first + t) w) (chosen-is.Refused (InvalidVariantTag (nodeAt sch i .code) t (nodeAt sch i .children) r))) k
       by true = unfold pick choosing in e
       by false = unfold pick choosing in refl
 
@@ -76,16 +61,16 @@ module _ (sch : List ℕ) (lim : Limits) (i : ℕ) where
 
   variant-kids : (w t : ℕ) (v : Value) (r : ℕ) →
       tagged sch lim t i r (write sch lim v (nodeAt sch i .first + t) r >>= (λ x. Put (le w t ++ x))) ≡ kids (as-variant w) (item t v done) 0 r
-  unfolding kids pickedOf tagBytes closing _>>=_
+  unfolding kids chosenOf tagBytes closing _>>=_
   variant-kids w t v r = by-tag w t r _ _ (last-bytes (le w t) (write sch lim v (nodeAt sch i .first + t) r))
 
   items-kids : (w : ℕ) → widthOf (form (nodeAt sch i .code)) ≡ w → (is : Items) (j r : ℕ) → writeI sch lim is i r ≡ kids (as-repeated w) is j r
-  unfolding write kids pickedOf tagBytes closing
+  unfolding write kids chosenOf tagBytes closing
   items-kids w e done j r = rw e
   items-kids w e (item t v is) j r = by-tag w t r _ _ (rw (e, items-kids w e is (j + 1) (r + recordsOf v)))
 
   values-kids : (vs : Values) (j r : ℕ) → writeV sch lim vs (nodeAt sch i .first + j) r ≡ kids as-tuple (untagged vs) j r
-  unfolding write kids pickedOf tagBytes closing untagged choosing
+  unfolding write kids chosenOf tagBytes closing untagged choosing
   values-kids none j r = refl
   values-kids (more v vs) j r =
       let e : (nodeAt sch i .first + j) + 1 ≡ nodeAt sch i .first + (j + 1) = omega arith in

@@ -18,10 +18,10 @@ use Rattle.rules.proofs.Over.{length-over, over-none}
 use Rattle.read.specs.Children.{shapeOf}
 use Rattle.read.specs.Ready.{HasNode}
 use Rattle.read.proofs.Codes.{form-choice}
-use Rattle.write.specs.Table.{valueOf, endOf, standing}
+use Rattle.write.specs.Table.{wholeValue, wholeEnd, valueStandingAt}
 use Rattle.write.specs.Putting.{tagBytes, closing, childOf, leafKept, leafSize, leafBytes, putOf, written, Writable, Parted, Placed}
 use Rattle.write.specs.Leads.{Left, LeadsToPut}
-use Rattle.write.specs.declared.put.Spot.{Spot}
+use Rattle.write.specs.declared.put.WritePos.{WritePos}
 use Rattle.write.specs.declared.put.ToPut.{ToPut}
 use Rattle.write.specs.declared.put.ToPut.the-variants.{Leaf, Children}
 use Rattle.write.proofs.Codes.{fixed-range, raw-range, sized-range, no-end}
@@ -40,7 +40,7 @@ one-child (variant t v) f e = refl
 one-child (repeated is) f e = absurd (omega (arith, e))
 one-child (tuple vs) f e = absurd (omega (arith, e))
 
-module _ (sch : List ℕ) (i depth : ℕ) (table store : List ℕ) (p : Spot) (out : List ℕ) (k : Writable sch i depth table store p (length out)) (own : ValueRecord) (m : own ≡ valueRecordAt table (p .at)) (code : ℕ) (is : code ≡ nodeAt sch i .code) where
+module _ (sch : List ℕ) (i depth : ℕ) (table store : List ℕ) (p : WritePos) (out : List ℕ) (k : Writable sch i depth table store p (length out)) (own : ValueRecord) (m : own ≡ valueRecordAt table (p .at)) (code : ℕ) (is : code ≡ nodeAt sch i .code) where
   pub leads-self : code < 15 → LeadsToPut sch i depth table store p out out (Leaf code (own .size) (own .content) p)
   unfolding LeadsToPut
   leads-self l = record {
@@ -63,7 +63,7 @@ module _ (sch : List ℕ) (i depth : ℕ) (table store : List ℕ) (p : Spot) (o
     parts : Parted sch i code table p (own .size)
     parts = parted-node sch i depth table store p (length out) k own m code is l
 
-    first-turn : Filling sch i table store (shapeOf code) (depth - 1) (own .size) (endOf (standing table store depth (p .at) (p .from))) (p .to) (putOf (written sch i depth table store (p .at) (p .from))) out out (record { at = p .at + 1; from = p .from; to = p .to }) 0
+    first-turn : Filling sch i table store (shapeOf code) (depth - 1) (own .size) (wholeEnd (valueStandingAt table store depth (p .at) (p .from))) (p .to) (putOf (written sch i depth table store (p .at) (p .from))) out out (record { at = p .at + 1; from = p .from; to = p .to }) 0
     first-turn = fill-first sch i depth table store p (length out) k code (own .size) parts out
 
     takes : 15 ≡ kindFor code (form code)
@@ -106,9 +106,9 @@ module _ (sch : List ℕ) (i depth : ℕ) (table store : List ℕ) (p : Spot) (o
 
 -- ---- what the caller learns
 
-module _ (sch : List ℕ) (i depth : ℕ) (table store : List ℕ) (p : Spot) (out out′ : List ℕ) (a : ToPut) (l : LeadsToPut sch i depth table store p out out′ a) where
+module _ (sch : List ℕ) (i depth : ℕ) (table store : List ℕ) (p : WritePos) (out out′ : List ℕ) (a : ToPut) (l : LeadsToPut sch i depth table store p out out′ a) where
   -- a leaf has room, and where it is put all is
-  module _ (code size content : ℕ) (q : Spot) (e : a ≡ Leaf code size content q) where
+  module _ (code size content : ℕ) (q : WritePos) (e : a ≡ Leaf code size content q) where
     left : Left sch i depth table store p out out′ code size content q
     unfolding LeadsToPut
     left = subst (λ (y : ToPut). LeadsToPut sch i depth table store p out out′ y) e l
@@ -116,7 +116,7 @@ module _ (sch : List ℕ) (i depth : ℕ) (table store : List ℕ) (p : Spot) (o
     pub reached-room : (code < 15) × (q .at + 1 < 2 ^ 64) × (q .from + leafKept code size ≤ length store) × (q .to + leafSize code size ≤ length out′)
     reached-room = rw (left .has-size) (leaf-room sch (left .node) (left .level) table store q (length out′) (left .may) (valueRecordAt table (q .at)) refl code (left .is) (left .leaf))
 
-    pub reached-places : (r : Spot) (out″ : List ℕ) → r ≡ record { at = q .at + 1; from = q .from + leafKept code size; to = q .to + leafSize code size } →
+    pub reached-places : (r : WritePos) (out″ : List ℕ) → r ≡ record { at = q .at + 1; from = q .from + leafKept code size; to = q .to + leafSize code size } →
         out″ ≡ over out′ (q .to) (leafBytes store code size content (q .from)) → Placed sch i depth table store p r out out″
     reached-places r out″ f g =
         left .places r out″

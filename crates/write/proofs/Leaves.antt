@@ -24,9 +24,9 @@ use Rattle.rules.proofs.Stands.{length-le}
 use Rattle.value_laws.proofs.Parse.{Reads}
 use Rattle.value_laws.proofs.Codes.{nothing-taken, boolean-taken}
 use Rattle.read.specs.Fields.{payloadOfFixed}
-use Rattle.write.specs.Table.{valueOf, standing}
-use Rattle.write.specs.Judging.{only, passed, judged, leafOf, Judgeable, Opened, judgedAt}
-use Rattle.write.specs.declared.judge.Passed.{Passed}
+use Rattle.write.specs.Table.{wholeValue, valueStandingAt}
+use Rattle.write.specs.Judging.{only, judgePos, judged, leafOf, Judgeable, Opened, judgedAt}
+use Rattle.write.specs.declared.judge.JudgePos.{JudgePos}
 use Rattle.write.specs.declared.judge.Judged.{Judged}
 use Rattle.write.specs.declared.judge.Judged.the-variants as judged-is
 use Rattle.write.proofs.Codes.{leaf-kind, fixed-range, raw-range, sized-range}
@@ -45,7 +45,7 @@ kept-all w h = rw (lt-leb w 8 h)
 blob-bytes : (x : List ℕ) → length (le 4 (length x) ++ x) ≡ 4 + length x
 blob-bytes x = simp (length-append, length-le)
 
-module _ (sch : List ℕ) (lim i : ℕ) (table store : List ℕ) (short : length table ≤ 4294967295) (code : ℕ) (is : code ≡ nodeAt sch i .code) (p : Passed) {d tag : ℕ} {z : Spot} where
+module _ (sch : List ℕ) (lim i : ℕ) (table store : List ℕ) (short : length table ≤ 4294967295) (code : ℕ) (is : code ≡ nodeAt sch i .code) (p : JudgePos) {d tag : ℕ} {z : Spot} where
   -- a value of a fixed width
   fixed-leaf : (v : Value) (b : List ℕ) → Reads table store d tag (spot (p .at) (p .from)) v z → write sch (only lim) v i (p .at) ≡ Put b → code < 13 → recordsOf v ≡ 1 → payloadOf v ≡ payloadOfFixed (widthOf (form code)) → length b ≡ widthOf (form code) →
       (size : ℕ) → leafOf lim code size p ≡ judged (p .bytes) z (write sch (only lim) v i (p .at))
@@ -66,8 +66,8 @@ module _ (sch : List ℕ) (lim i : ℕ) (table store : List ℕ) (short : length
   blob-leaf x r l e = rw (le-ltb code 13 l, length-told table store short r, ← is, eq-eqb code _ e) (by (leb (length x) (blobLimit (only lim) code)))
     where
       by : (b : Bool) →
-          pick false (judged-is.Fits (passed (p .at + 1) (p .from + payloadOfFixed (widthOf (form code))) (p .bytes + widthOf (form code))))
-          (pick b (judged-is.Fits (passed (p .at + 1) (p .from + length x) (p .bytes + (4 + length x)))) (judged-is.Refused (BlobTooLarge code (length x) (blobLimit (only lim) code) (p .at))))
+          pick false (judged-is.Fits (judgePos (p .at + 1) (p .from + payloadOfFixed (widthOf (form code))) (p .bytes + widthOf (form code))))
+          (pick b (judged-is.Fits (judgePos (p .at + 1) (p .from + length x) (p .bytes + (4 + length x)))) (judged-is.Refused (BlobTooLarge code (length x) (blobLimit (only lim) code) (p .at))))
           ≡ judged (p .bytes) z (pick true (pick b (Put (le 4 (length x) ++ x)) (rule.Refused (BlobTooLarge code (length x) (blobLimit (only lim) code) (p .at)))) (rule.Refused (ValueDoesNotMatchSchema code code (p .at))))
       by true = rw (blob-ends x r .0, blob-ends x r .1, blob-bytes x)
       by false = refl
@@ -104,7 +104,7 @@ module _ (sch : List ℕ) (lim i : ℕ) (table store : List ℕ) (short : length
 
 -- ---- the node step, in the code's numbers
 
-module _ (sch : List ℕ) (blob i depth : ℕ) (table store : List ℕ) (p : Passed) (k : Judgeable sch i depth table store p) (v : ValueRecord) (m : v ≡ valueRecordAt table (p .at)) where
+module _ (sch : List ℕ) (blob i depth : ℕ) (table store : List ℕ) (p : JudgePos) (k : Judgeable sch i depth table store p) (v : ValueRecord) (m : v ≡ valueRecordAt table (p .at)) where
   short : length table ≤ 4294967295
   short = omega (arith, k .short)
 
@@ -128,7 +128,7 @@ module _ (sch : List ℕ) (blob i depth : ℕ) (table store : List ℕ) (p : Pas
         leaf-answer l =
             let w = whole-reads sch blob i table store depth p k in
             ap (λ (u : ValueRecord). leafOf blob code (u .size) p) m
-            ∙ leaf-judged sch blob i table store short code is p (valueOf (standing table store depth (p .at) (p .from))) w l (sym (kind-told table store short w) ∙ sym (ap (λ (u : ValueRecord). u .kind) m) ∙ h ∙ e)
+            ∙ leaf-judged sch blob i table store short code is p (wholeValue (valueStandingAt table store depth (p .at) (p .from))) w l (sym (kind-told table store short w) ∙ sym (ap (λ (u : ValueRecord). u .kind) m) ∙ h ∙ e)
 
         pub opened : 15 ≤ code → Opened sch i code table p (v .size)
         opened l = record { is = is; compound = l; kind = sym (ap (λ (u : ValueRecord). u .kind) m) ∙ h ∙ e; count = ap (λ (u : ValueRecord). u .size) m }

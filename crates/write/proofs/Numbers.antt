@@ -14,7 +14,7 @@ use Rattle.rules.proofs.Over.{over-at}
 use Rattle.rules.proofs.Stands.{length-le}
 use Rattle.read.specs.Fields.{payloadOfFixed}
 use Rattle.write.specs.Putting.{leafKept, leafSize, leafBytes}
-use Rattle.write.specs.declared.put.Spot.{Spot}
+use Rattle.write.specs.declared.put.WritePos.{WritePos}
 
 module _ (s : List ℕ) (at w x : ℕ) where
   pub le-none : over s (at + 0) (le (w - 0) x) ≡ over s at (le w x)
@@ -69,7 +69,7 @@ module _ (store : List ℕ) (code size content from : ℕ) where
   narrow-is w h e l = let a = lt-ltb code 13 (omega arith) in let b = le-leb w 8 l in record { kept = rw (a, ← e, b); long = rw (a, ← e); bytes-are = rw (a, ← e, b) }
 
 -- what was put is the leaf's
-pub leaf-put : (store : List ℕ) (code size content from k n : ℕ) (bytes : List ℕ) → LeafIs store code size content from k n bytes → (at to : ℕ) (q : Spot) (s s′ : List ℕ) →
+pub leaf-put : (store : List ℕ) (code size content from k n : ℕ) (bytes : List ℕ) → LeafIs store code size content from k n bytes → (at to : ℕ) (q : WritePos) (s s′ : List ℕ) →
     q ≡ record { at = at + 1; from = from + k; to = to + n } → s′ ≡ over s to bytes →
     (q ≡ record { at = at + 1; from = from + leafKept code size; to = to + leafSize code size }) × (s′ ≡ over s to (leafBytes store code size content from))
 leaf-put store code size content from k n bytes l at to q s s′ e h = (rw (l .kept, l .long) e, rw (l .bytes-are) h)

@@ -24,15 +24,16 @@ use Rattle.rules.specs.declared.table_record.ValueRecord.{ValueRecord}
 use Rattle.rules.proofs.Over.{length-over, over-at}
 use Rattle.value_laws.proofs.Parse.{Reads, ReadsI}
 use Rattle.value_laws.proofs.Span.{span-in, lands-here}
+use Rattle.value_laws.proofs.Children.{children}
 use Rattle.read.specs.Children.{Shape, as-variant, as-repeated, as-tuple, shapeOf}
 use Rattle.read.specs.Ready.{SoundNodes}
-use Rattle.write.specs.Table.{IsWhole, valueOf, endOf, standing}
-use Rattle.write.specs.Judging.{taggedOf, pickedOf, countOk}
+use Rattle.write.specs.Table.{IsWhole, wholeValue, wholeEnd, valueStandingAt}
+use Rattle.write.specs.Judging.{taggedOf, chosenOf, countOk}
 use Rattle.write.specs.Putting.{tagBytes, closing, childOf, IsPut, putOf, unlimited, written, Writable, Parted, Placed}
-use Rattle.write.specs.declared.put.Spot.{Spot}
-use Rattle.write.specs.declared.judge.Pick.{Pick}
-use Rattle.write.specs.declared.judge.Pick.the-variants as pick-is
-use Rattle.write.proofs.Kids.{children, choosing, chosen, kids, unfit, opens}
+use Rattle.write.specs.declared.put.WritePos.{WritePos}
+use Rattle.write.specs.declared.judge.Chosen.{Chosen}
+use Rattle.write.specs.declared.judge.Chosen.the-variants as chosen-is
+use Rattle.write.proofs.Kids.{choosing, chosenFor, kids, unfit, opens}
 use Rattle.write.proofs.Standing.{spot, stands, inside, size-small, tag-small, deep, parent, below-reads, count-told, Turn, turn, turn-stands}
 use Rattle.write.proofs.Going.{compound-kind, Choice, choice, counted-tuple}
 
@@ -53,40 +54,40 @@ passed-test true w r b e = (refl, e)
 passed-test false w r b e = refused-not r b e
 
 -- a child and those after it
-pub record Part (pk : Pick) (x : ℕ → Wrote) (y : Wrote) (tag b : List ℕ) : Type 0 where
+pub record Part (pk : Chosen) (x : ℕ → Wrote) (y : Wrote) (tag b : List ℕ) : Type 0 where
   pub node : ℕ
   pub width : ℕ
   pub child : List ℕ
   pub rest : List ℕ
-  pub picks : pk ≡ pick-is.Child node width
+  pub picks : pk ≡ chosen-is.Child node width
   pub puts : x node ≡ Put child
   pub follows : y ≡ Put rest
   pub whole : b ≡ tag ++ (child ++ rest)
 
-parted : (pk : Pick) (x : ℕ → Wrote) (y : Wrote) (tag b : List ℕ) → choosing pk (λ c. x c >>= (λ u. y >>= (λ d. Put (tag ++ (u ++ d))))) ≡ Put b → Part pk x y tag b
+parted : (pk : Chosen) (x : ℕ → Wrote) (y : Wrote) (tag b : List ℕ) → choosing pk (λ c. x c >>= (λ u. y >>= (λ d. Put (tag ++ (u ++ d))))) ≡ Put b → Part pk x y tag b
 unfolding choosing
-parted (pick-is.Refused r) x y tag b e = refused-not r b e
-parted (pick-is.Child c w) x y tag b e = first (x c) refl y refl e
+parted (chosen-is.Refused r) x y tag b e = refused-not r b e
+parted (chosen-is.Child c w) x y tag b e = first (x c) refl y refl e
   where
-    second : (u : List ℕ) → x c ≡ Put u → (g : Wrote) → y ≡ g → (g >>= (λ d. Put (tag ++ (u ++ d)))) ≡ Put b → Part (pick-is.Child c w) x y tag b
+    second : (u : List ℕ) → x c ≡ Put u → (g : Wrote) → y ≡ g → (g >>= (λ d. Put (tag ++ (u ++ d)))) ≡ Put b → Part (chosen-is.Child c w) x y tag b
     second u m (Put d) n f = record { node = c; width = w; child = u; rest = d; picks = refl; puts = m; follows = n; whole = let k : Put (tag ++ (u ++ d)) ≡ Put b = unfold _>>=_ in f in cc }
     second u m (Refused r) n f = refused-not r b (unfold _>>=_ in f)
 
-    first : (f : Wrote) → x c ≡ f → (g : Wrote) → y ≡ g → (f >>= (λ u. g >>= (λ d. Put (tag ++ (u ++ d))))) ≡ Put b → Part (pick-is.Child c w) x y tag b
+    first : (f : Wrote) → x c ≡ f → (g : Wrote) → y ≡ g → (f >>= (λ u. g >>= (λ d. Put (tag ++ (u ++ d))))) ≡ Put b → Part (chosen-is.Child c w) x y tag b
     first (Put u) m g n h = second u m g n (unfold _>>=_ in h)
     first (Refused r) m g n h = refused-not r b (unfold _>>=_ in h)
 
 -- the child that is picked is the one that the walk goes to
-tagged-node : (code first count w t r c u : ℕ) → taggedOf code first count w t r ≡ pick-is.Child c u → c ≡ first + t
+tagged-node : (code first count w t r c u : ℕ) → taggedOf code first count w t r ≡ chosen-is.Child c u → c ≡ first + t
 unfolding taggedOf
 tagged-node code first count w t r c u e = by (ltb t count) e
   where
-    by : (b : Bool) → pick b (pick-is.Child (first + t) w) (pick-is.Refused (InvalidVariantTag code t count r)) ≡ pick-is.Child c u → c ≡ first + t
+    by : (b : Bool) → pick b (chosen-is.Child (first + t) w) (chosen-is.Refused (InvalidVariantTag code t count r)) ≡ chosen-is.Child c u → c ≡ first + t
     by true f = unfold pick in cc
     by false f = absurd (let z : _≡_ {A = ℕ} 0 1 = unfold pick in cc in omega arith)
 
-picked-node : (code first count : ℕ) (s : Shape) (j t r c w : ℕ) → pickedOf code first count s j t r ≡ pick-is.Child c w → c ≡ childOf s first j t
-unfolding pickedOf childOf
+picked-node : (code first count : ℕ) (s : Shape) (j t r c w : ℕ) → chosenOf code first count s j t r ≡ chosen-is.Child c w → c ≡ childOf s first j t
+unfolding chosenOf childOf
 picked-node code first count (as-variant u) j t r c w e = tagged-node code first count u t r c w e
 picked-node code first count (as-repeated u) j t r c w e = tagged-node code first count u t r c w e
 picked-node code first count as-tuple j t r c w e = (cc)
@@ -110,7 +111,7 @@ over-parts s a b tag child rest to next e f h =
 -- ---- the loop
 
 module _ (sch : List ℕ) (i : ℕ) (table store : List ℕ) where
-  pub record Filling (s : Shape) (d size : ℕ) (z : table-of.Spot) (to₀ : ℕ) (all out₀ out : List ℕ) (q : Spot) (j : ℕ) : Type 0 where
+  pub record Filling (s : Shape) (d size : ℕ) (z : table-of.Spot) (to₀ : ℕ) (all out₀ out : List ℕ) (q : WritePos) (j : ℕ) : Type 0 where
     pub rest : Items
     pub bytes : List ℕ
     pub reads : ReadsI table store d (spot (q .at) (q .from)) rest z
@@ -120,7 +121,7 @@ module _ (sch : List ℕ) (i : ℕ) (table store : List ℕ) where
     pub room : q .to + length bytes ≡ to₀ + length all
     pub same : length out ≡ length out₀
 
-  module _ {s : Shape} {d size : ℕ} {z : table-of.Spot} {to₀ : ℕ} {all out₀ out : List ℕ} {q : Spot} {j : ℕ} (short : length table ≤ 4294967295) (g : Filling s d size z to₀ all out₀ out q j) where
+  module _ {s : Shape} {d size : ℕ} {z : table-of.Spot} {to₀ : ℕ} {all out₀ out : List ℕ} {q : WritePos} {j : ℕ} (short : length table ≤ 4294967295) (g : Filling s d size z to₀ all out₀ out q j) where
     pub all-written : size ≤ j → (q .at ≡ z .at) × ((q .from ≡ z .from) × (g .bytes ≡ closing s))
     unfolding kids belowI payloadBytesI items
     all-written h = of (g .rest) (g .reads) (omega (arith, g .counted)) (g .puts)
@@ -135,7 +136,7 @@ module _ (sch : List ℕ) (i : ℕ) (table store : List ℕ) where
       pub the-turn : Turn table store short d (spot (q .at) (q .from)) z (g .rest)
       the-turn = turn table store short d (spot (q .at) (q .from)) z (g .rest) (g .reads) (omega (arith, g .counted))
 
-      pub the-part : Part (chosen sch unlimited i s j (the-turn .tag) (q .at)) (λ c. write sch unlimited (the-turn .value) c (q .at)) (kids sch unlimited i s (the-turn .rest) (j + 1) (q .at + recordsOf (the-turn .value))) (tagBytes s (the-turn .tag)) (g .bytes)
+      pub the-part : Part (chosenFor sch unlimited i s j (the-turn .tag) (q .at)) (λ c. write sch unlimited (the-turn .value) c (q .at)) (kids sch unlimited i s (the-turn .rest) (j + 1) (q .at + recordsOf (the-turn .value))) (tagBytes s (the-turn .tag)) (g .bytes)
       unfolding kids
       the-part = parted _ _ _ _ _ (rw (the-turn .first) at (g .puts))
 
@@ -150,11 +151,11 @@ module _ (sch : List ℕ) (i : ℕ) (table store : List ℕ) where
       pub sizes : length (g .bytes) ≡ length (tagBytes s (valueRecordAt table (q .at) .tag)) + (length (the-part .child) + length (the-part .rest))
       sizes = ap length (the-part .whole) ∙ rw (the-turn .bears) (simp length-append)
 
-      abbrev start : Spot
+      abbrev start : WritePos
       start = record { at = q .at; from = q .from; to = q .to + length (tagBytes s (valueRecordAt table (q .at) .tag)) }
 
       child-written : written sch (childOf s (nodeAt sch i .first) j (valueRecordAt table (q .at) .tag)) d table store (q .at) (q .from) ≡ Put (the-part .child)
-      unfolding written valueOf
+      unfolding written wholeValue
       child-written = rw (turn-stands table store short d (q .at) (q .from) z (g .rest) the-turn, ← tag-is) (the-part .puts)
 
       pub child-writable : SoundNodes sch → nodeStart (nodeAt sch i .first + nodeAt sch i .children) ≤ length sch → (s ≡ as-tuple → j < nodeAt sch i .children) → to₀ + length all ≤ length out₀ → Writable sch (childOf s (nodeAt sch i .first) j (valueRecordAt table (q .at) .tag)) d table store start (length out)
@@ -169,9 +170,9 @@ module _ (sch : List ℕ) (i : ℕ) (table store : List ℕ) where
         fits = rw child-written (omega (arith, l, g .room, g .same, sizes));
       }
 
-      module _ (out′ out″ : List ℕ) (r : Spot) (a : out′ ≡ over out (q .to) (tagBytes s (valueRecordAt table (q .at) .tag))) (p : Placed sch (childOf s (nodeAt sch i .first) j (valueRecordAt table (q .at) .tag)) d table store start r out′ out″) where
+      module _ (out′ out″ : List ℕ) (r : WritePos) (a : out′ ≡ over out (q .to) (tagBytes s (valueRecordAt table (q .at) .tag))) (p : Placed sch (childOf s (nodeAt sch i .first) j (valueRecordAt table (q .at) .tag)) d table store start r out′ out″) where
         pub filling-next : Filling s d size z to₀ all out₀ out″ r (j + 1)
-        unfolding items putOf endOf
+        unfolding items putOf wholeEnd
         filling-next =
             let e = turn-stands table store short d (q .at) (q .from) z (g .rest) the-turn in
             let m : r .at ≡ q .at + recordsOf (the-turn .value) = rw e at (p .at-end) in
@@ -191,11 +192,11 @@ module _ (sch : List ℕ) (i : ℕ) (table store : List ℕ) where
 
 -- ---- the same in the code's numbers
 
-module _ (sch : List ℕ) (i depth : ℕ) (table store : List ℕ) (p : Spot) (room : ℕ) (k : Writable sch i depth table store p room) where
+module _ (sch : List ℕ) (i depth : ℕ) (table store : List ℕ) (p : WritePos) (room : ℕ) (k : Writable sch i depth table store p room) where
   short : length table ≤ 4294967295
   short = omega (arith, k .short)
 
-  pub reads-whole : Reads table store depth (tagAt table store (p .at)) (spot (p .at) (p .from)) (valueOf (standing table store depth (p .at) (p .from))) (endOf (standing table store depth (p .at) (p .from)))
+  pub reads-whole : Reads table store depth (tagAt table store (p .at)) (spot (p .at) (p .from)) (wholeValue (valueStandingAt table store depth (p .at) (p .from))) (wholeEnd (valueStandingAt table store depth (p .at) (p .from)))
   reads-whole = stands table store short depth (p .at) (p .from) (k .within) (k .whole)
 
   pub record-in : ValueRecordIn (p .at) (length table)
@@ -204,32 +205,32 @@ module _ (sch : List ℕ) (i depth : ℕ) (table store : List ℕ) (p : Spot) (r
   pub has-depth : 0 < depth
   has-depth = deep table store short reads-whole
 
-  pub all-put : write sch unlimited (valueOf (standing table store depth (p .at) (p .from))) i (p .at) ≡ Put (putOf (written sch i depth table store (p .at) (p .from)))
+  pub all-put : write sch unlimited (wholeValue (valueStandingAt table store depth (p .at) (p .from))) i (p .at) ≡ Put (putOf (written sch i depth table store (p .at) (p .from)))
   unfolding written
   all-put = put-is _ (k .accepted)
 
-  pub right-kind : valueKind (valueOf (standing table store depth (p .at) (p .from))) ≡ kindFor (nodeAt sch i .code) (form (nodeAt sch i .code))
+  pub right-kind : valueKind (wholeValue (valueStandingAt table store depth (p .at) (p .from))) ≡ kindFor (nodeAt sch i .code) (form (nodeAt sch i .code))
   right-kind = fitted sch unlimited _ i (p .at) _ all-put
 
   module _ (code size : ℕ) (o : Parted sch i code table p size) where
     pub code-in : code ≤ 19
     code-in = rw (o .is) (k .sound .codes i (k .inside))
 
-    is-compound : 15 ≤ valueKind (valueOf (standing table store depth (p .at) (p .from)))
+    is-compound : 15 ≤ valueKind (wholeValue (valueStandingAt table store depth (p .at) (p .from)))
     is-compound = rw (right-kind, ← (o .is)) (compound-kind code (o .compound) code-in)
 
-    pub is-size : size ≡ sizeOf (valueOf (standing table store depth (p .at) (p .from)))
+    pub is-size : size ≡ sizeOf (wholeValue (valueStandingAt table store depth (p .at) (p .from)))
     is-size = o .count ∙ count-told table store short reads-whole is-compound
 
-    tested : (countOk (shapeOf code) size (nodeAt sch i .children) ≡ true) × (kids sch unlimited i (shapeOf code) (children (valueOf (standing table store depth (p .at) (p .from)))) 0 (p .at + 1) ≡ Put (putOf (written sch i depth table store (p .at) (p .from))))
+    tested : (countOk (shapeOf code) size (nodeAt sch i .children) ≡ true) × (kids sch unlimited i (shapeOf code) (children (wholeValue (valueStandingAt table store depth (p .at) (p .from)))) 0 (p .at + 1) ≡ Put (putOf (written sch i depth table store (p .at) (p .from))))
     tested = rw (o .is, is-size) (passed-test _ _ _ _ (sym (opens sch unlimited i _ (p .at) is-compound right-kind (reads-whole .fits)) ∙ all-put))
 
     pub size-fits : size < 2 ^ 32
     size-fits = omega (arith, o .count, size-small table store short reads-whole)
 
-    pub fill-first : (out : List ℕ) → Filling sch i table store (shapeOf code) (depth - 1) size (endOf (standing table store depth (p .at) (p .from))) (p .to) (putOf (written sch i depth table store (p .at) (p .from))) out out (record { at = p .at + 1; from = p .from; to = p .to }) 0
+    pub fill-first : (out : List ℕ) → Filling sch i table store (shapeOf code) (depth - 1) size (wholeEnd (valueStandingAt table store depth (p .at) (p .from))) (p .to) (putOf (written sch i depth table store (p .at) (p .from))) out out (record { at = p .at + 1; from = p .from; to = p .to }) 0
     fill-first out = record {
-      rest = children (valueOf (standing table store depth (p .at) (p .from)));
+      rest = children (wholeValue (valueStandingAt table store depth (p .at) (p .from)));
       bytes = putOf (written sch i depth table store (p .at) (p .from));
       reads = below-reads table store short reads-whole is-compound;
       counted = omega (arith, is-size, parent _ is-compound (reads-whole .fits) .count);
@@ -239,7 +240,7 @@ module _ (sch : List ℕ) (i depth : ℕ) (table store : List ℕ) (p : Spot) (r
       same = refl;
     }
 
-    module _ (first : ℕ) (the-first : first ≡ nodeAt sch i .first) {out₀ out : List ℕ} (same₀ : length out₀ ≡ room) {q : Spot} {j : ℕ} (g : Filling sch i table store (shapeOf code) (depth - 1) size (endOf (standing table store depth (p .at) (p .from))) (p .to) (putOf (written sch i depth table store (p .at) (p .from))) out₀ out q j) where
+    module _ (first : ℕ) (the-first : first ≡ nodeAt sch i .first) {out₀ out : List ℕ} (same₀ : length out₀ ≡ room) {q : WritePos} {j : ℕ} (g : Filling sch i table store (shapeOf code) (depth - 1) size (wholeEnd (valueStandingAt table store depth (p .at) (p .from))) (p .to) (putOf (written sch i depth table store (p .at) (p .from))) out₀ out q j) where
       in-block : nodeStart (nodeAt sch i .first + nodeAt sch i .children) ≤ length sch
       unfolding Closed
       in-block = k .sound .closed i (k .inside)
@@ -280,6 +281,6 @@ module _ (sch : List ℕ) (i depth : ℕ) (table store : List ℕ) (p : Spot) (r
             pub may-write : (n : ℕ) → n ≡ length out → Writable sch c (depth - 1) table store (record { at = q .at; from = q .from; to = to }) n
             may-write n e = rw (child-is, to-is, e) (child-writable sch i table store short g h (k .sound) in-block chooses (omega (arith, same₀, k .fits)))
 
-            pub fill-next : (out′ out″ : List ℕ) (r : Spot) → out′ ≡ over out (q .to) (tagBytes (shapeOf code) (v .tag)) → Placed sch c (depth - 1) table store (record { at = q .at; from = q .from; to = to }) r out′ out″ →
-                Filling sch i table store (shapeOf code) (depth - 1) size (endOf (standing table store depth (p .at) (p .from))) (p .to) (putOf (written sch i depth table store (p .at) (p .from))) out₀ out″ r (j + 1)
+            pub fill-next : (out′ out″ : List ℕ) (r : WritePos) → out′ ≡ over out (q .to) (tagBytes (shapeOf code) (v .tag)) → Placed sch c (depth - 1) table store (record { at = q .at; from = q .from; to = to }) r out′ out″ →
+                Filling sch i table store (shapeOf code) (depth - 1) size (wholeEnd (valueStandingAt table store depth (p .at) (p .from))) (p .to) (putOf (written sch i depth table store (p .at) (p .from))) out₀ out″ r (j + 1)
             fill-next out′ out″ r a w = filling-next sch i table store short g h out′ out″ r (rw told at a) (rw (child-is, to-is) at w)

@@ -24,10 +24,10 @@ use Rattle.rules.proofs.Over.{over-at}
 use Rattle.rules.proofs.Stands.{length-le}
 use Rattle.value_laws.proofs.Records.{tag-is}
 use Rattle.value_laws.proofs.Parse.{Holds, holds, Reads, reads}
-use Rattle.write.specs.Table.{IsWhole, valueOf, endOf, standing}
-use Rattle.write.specs.Judging.{only, passed, judged, Judgeable, judgedAt, RowJudgeable, judgedRow}
+use Rattle.write.specs.Table.{IsWhole, wholeValue, wholeEnd, valueStandingAt}
+use Rattle.write.specs.Judging.{only, judgePos, judged, Judgeable, judgedAt, RowJudgeable, judgedRow}
 use Rattle.write.specs.Putting.{IsPut, putOf, written, Writable, Parted, Placed, RowWritable, rowBytes}
-use Rattle.write.specs.declared.put.Spot.{Spot}
+use Rattle.write.specs.declared.put.WritePos.{WritePos}
 use Rattle.write.proofs.Standing.{spot, whole-is, stands, head, inside}
 
 module _ (table store : List ℕ) (short : length table ≤ 4294967295) where
@@ -50,8 +50,8 @@ module _ (table store : List ℕ) (short : length table ≤ 4294967295) where
   unfolding headOf
   first-tag v q (holds r) = tag-is table 0 (headOf v 0 0) (head table store short r) (omega arith)
 
-  pub table-stands : IsWhole (tableValue table store) → standing table store 64 0 0 ≡ tableValue table store
-  unfolding standing
+  pub table-stands : IsWhole (tableValue table store) → valueStandingAt table store 64 0 0 ≡ tableValue table store
+  unfolding valueStandingAt
   table-stands h =
       let e = from-first h in
       let t : tagAt table store 0 ≡ 0 = first-tag _ _ (rw (sym e ∙ whole-is (tableValue table store) h) at (reads table store 64 0 (spot 0 0) (omega arith))) in
@@ -87,12 +87,12 @@ tagged-row z (Put b) = let n : 0 + length (le 2 0 ++ b) ≡ 2 + length b = simp 
 tagged-row z (rule.Refused r) = refl
 
 module _ (sch table store : List ℕ) (k : RowJudgeable sch table store) where
-  pub root-judgeable : Judgeable sch 0 64 table store (passed 0 0 2)
+  pub root-judgeable : Judgeable sch 0 64 table store (judgePos 0 0 2)
   root-judgeable = record { sound = k .sound; inside = k .root; whole = rw (table-stands table store (omega (arith, k .short)) (k .whole)) (k .whole); short = k .short; small = k .small; within = omega arith; few = omega arith }
 
-  pub row-judged : (s : Settings) → judgedAt sch (s .«max_blob_bytes») 0 64 table store (passed 0 0 2) ≡ judgedRow sch (limits s) table store
+  pub row-judged : (s : Settings) → judgedAt sch (s .«max_blob_bytes») 0 64 table store (judgePos 0 0 2) ≡ judgedRow sch (limits s) table store
   unfolding judgedAt judgedRow writeRow limits
-  row-judged s = rw (table-stands table store (omega (arith, k .short)) (k .whole), same-limit sch (only (s .«max_blob_bytes»)) (limits s) refl (valueOf (tableValue table store)) 0 0) (tagged-row (endOf (tableValue table store)) (write sch (limits s) (valueOf (tableValue table store)) 0 0))
+  row-judged s = rw (table-stands table store (omega (arith, k .short)) (k .whole), same-limit sch (only (s .«max_blob_bytes»)) (limits s) refl (wholeValue (tableValue table store)) 0 0) (tagged-row (wholeEnd (tableValue table store)) (write sch (limits s) (wholeValue (tableValue table store)) 0 0))
 
 -- ---- the row that is written
 
@@ -103,7 +103,7 @@ row-put (Put b) h = (tt, refl)
 row-put (rule.Refused r) h = absurd h
 
 module _ (sch table store : List ℕ) (to room : ℕ) (k : RowWritable sch table store to room) where
-  whole-stands : standing table store 64 0 0 ≡ tableValue table store
+  whole-stands : valueStandingAt table store 64 0 0 ≡ tableValue table store
   whole-stands = table-stands table store (omega (arith, k .short)) (k .whole)
 
   parts : IsPut (written sch 0 64 table store 0 0) × (rowBytes sch table store ≡ le 2 0 ++ putOf (written sch 0 64 table store 0 0))
@@ -125,5 +125,5 @@ module _ (sch table store : List ℕ) (to room : ℕ) (k : RowWritable sch table
   pub root-parted : (v : ValueRecord) → v ≡ valueRecordAt table 0 → (code : ℕ) → code ≡ nodeAt sch 0 .code → Parted sch 0 code table (record { at = 0; from = 0; to = to + 2 }) (v .size)
   root-parted v m code e = record { is = e; compound = omega (arith, e, k .tuple); count = ap (λ (u : ValueRecord). u .size) m }
 
-  pub row-placed : (q : Spot) (out out′ out″ : List ℕ) → out′ ≡ over out to (le 2 0) → Placed sch 0 64 table store (record { at = 0; from = 0; to = to + 2 }) q out′ out″ → (q .to ≡ to + length (rowBytes sch table store)) × (out″ ≡ over out to (rowBytes sch table store))
+  pub row-placed : (q : WritePos) (out out′ out″ : List ℕ) → out′ ≡ over out to (le 2 0) → Placed sch 0 64 table store (record { at = 0; from = 0; to = to + 2 }) q out′ out″ → (q .to ≡ to + length (rowBytes sch table store)) × (out″ ≡ over out to (rowBytes sch table store))
   row-placed q out out′ out″ a p = (omega (arith, p .to-end, size), p .bytes ∙ rw (a, parts .1) (over-at (le 2 0) (putOf (written sch 0 64 table store 0 0)) out to (to + 2) (rw length-le)))

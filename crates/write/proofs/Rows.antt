@@ -22,11 +22,11 @@ use Rattle.rules.specs.declared.answer.Extent.{Extent}
 use Rattle.rules.specs.declared.answer.Written.{Written}
 use Rattle.rules.specs.declared.answer.Written.the-variants.{Row, Refused}
 use Rattle.value_laws.proofs.Parse.{Reads}
-use Rattle.write.specs.Table.{valueOf, endOf, standing}
+use Rattle.write.specs.Table.{wholeValue, wholeEnd, valueStandingAt}
 use Rattle.write.specs.Judging.{RowJudgeable, judgedRow}
 use Rattle.write.specs.Putting.{IsPut, putOf, unlimited, RowWritable, rowBytes}
 use Rattle.write.specs.Row.{roomFor, placedRow}
-use Rattle.write.specs.declared.judge.Passed.{Passed}
+use Rattle.write.specs.declared.judge.JudgePos.{JudgePos}
 use Rattle.write.specs.declared.judge.Judged.{Judged}
 use Rattle.write.specs.declared.judge.Judged.the-variants as judged-is
 use Rattle.write.proofs.Standing.{spot, stands, at-end, from-end}
@@ -62,10 +62,10 @@ module _ (e : Extent) (o out : List ℕ) (r : Refusal) where
   some-put false y h = absurd (let z : _≡_ {A = ℕ} 0 1 = cc in omega arith)
 
 module _ (sch table store : List ℕ) (s : Settings) (k : RowJudgeable sch table store) where
-  whole-stands : standing table store 64 0 0 ≡ tableValue table store
+  whole-stands : valueStandingAt table store 64 0 0 ≡ tableValue table store
   whole-stands = table-stands table store (omega (arith, k .short)) (k .whole)
 
-  whole-reads : Reads table store 64 (tagAt table store 0) (spot 0 0) (valueOf (tableValue table store)) (endOf (tableValue table store))
+  whole-reads : Reads table store 64 (tagAt table store 0) (spot 0 0) (wholeValue (tableValue table store)) (wholeEnd (tableValue table store))
   whole-reads = rw whole-stands at (stands table store (omega (arith, k .short)) 64 0 0 (omega arith) (rw whole-stands (k .whole)))
 
   module _ (a : Judged) (e : a ≡ judgedRow sch (limits s) table store) (out : List ℕ) (at : ℕ) where
@@ -74,19 +74,19 @@ module _ (sch table store : List ℕ) (s : Settings) (k : RowJudgeable sch table
     unfolding placedRow placed judgedRow
     row-refused x f = let w = judged-refused _ _ _ x (sym e ∙ f) in rw w (refl, refl)
 
-    module _ (p : Passed) (f : a ≡ judged-is.Fits p) where
-      put : Putting 0 (endOf (tableValue table store)) (writeRow sch (limits s) (valueOf (tableValue table store))) p
+    module _ (p : JudgePos) (f : a ≡ judged-is.Fits p) where
+      put : Putting 0 (wholeEnd (tableValue table store)) (writeRow sch (limits s) (wholeValue (tableValue table store))) p
       unfolding judgedRow
       put = judged-fits _ _ _ p (sym e ∙ f)
 
       abbrev extent : Extent
       extent = record { table = 0; bytes = p .bytes; records = p .at; payload = p .from }
 
-      is-extent : extent ≡ record { table = 0; bytes = length (put .bytes); records = recordsOf (valueOf (tableValue table store)); payload = payloadOf (valueOf (tableValue table store)) }
+      is-extent : extent ≡ record { table = 0; bytes = length (put .bytes); records = recordsOf (wholeValue (tableValue table store)); payload = payloadOf (wholeValue (tableValue table store)) }
       is-extent =
-          let n : p .bytes ≡ length (put .bytes) = omega (arith, ap (λ (u : Passed). u .bytes) (put .ends)) in
-          let i : p .at ≡ recordsOf (valueOf (tableValue table store)) = omega (arith, ap (λ (u : Passed). u .at) (put .ends), at-end table store (omega (arith, k .short)) whole-reads) in
-          let l : p .from ≡ payloadOf (valueOf (tableValue table store)) = omega (arith, ap (λ (u : Passed). u .from) (put .ends), from-end table store (omega (arith, k .short)) whole-reads) in
+          let n : p .bytes ≡ length (put .bytes) = omega (arith, ap (λ (u : JudgePos). u .bytes) (put .ends)) in
+          let i : p .at ≡ recordsOf (wholeValue (tableValue table store)) = omega (arith, ap (λ (u : JudgePos). u .at) (put .ends), at-end table store (omega (arith, k .short)) whole-reads) in
+          let l : p .from ≡ payloadOf (wholeValue (tableValue table store)) = omega (arith, ap (λ (u : JudgePos). u .from) (put .ends), from-end table store (omega (arith, k .short)) whole-reads) in
           λ j. record { table = 0; bytes = n j; records = i j; payload = l j }
 
       written-row : placedRow sch (limits s) table store out at ≡ pick (leb (at + p .bytes) (min (length out) 4294967295)) (record { answer = Row extent; output = over out at (put .bytes) }) (unwritten out (NoOutputRoom (p .bytes) at))
@@ -107,7 +107,7 @@ module _ (sch table store : List ℕ) (s : Settings) (k : RowJudgeable sch table
           unfolding roomFor
           there = let t = some-put extent (over out at (put .bytes)) out _ _ y (sym g ∙ h) in (t .0, ap (λ (u : Encoded). u .output) written-row ∙ t .1)
 
-          free : writeRow sch unlimited (valueOf (tableValue table store)) ≡ Put (put .bytes)
+          free : writeRow sch unlimited (wholeValue (tableValue table store)) ≡ Put (put .bytes)
           free = row-free sch (limits s) _ _ (whole-reads .fits) (put .is)
 
           bytes-are : rowBytes sch table store ≡ put .bytes
@@ -116,7 +116,7 @@ module _ (sch table store : List ℕ) (s : Settings) (k : RowJudgeable sch table
 
           pub row-writable : RowWritable sch table store at (length out)
           unfolding IsPut
-          row-writable = record { sound = k .sound; root = k .root; tuple = k .tuple; whole = k .whole; short = k .short; accepted = rw free tt; fits = omega (arith, ap length bytes-are, leb-true (at + p .bytes) (min (length out) 4294967295) (there .0), ap (λ (u : Passed). u .bytes) (put .ends)) }
+          row-writable = record { sound = k .sound; root = k .root; tuple = k .tuple; whole = k .whole; short = k .short; accepted = rw free tt; fits = omega (arith, ap length bytes-are, leb-true (at + p .bytes) (min (length out) 4294967295) (there .0), ap (λ (u : JudgePos). u .bytes) (put .ends)) }
 
           pub row-left : (out′ : List ℕ) → out′ ≡ over out at (rowBytes sch table store) → out′ ≡ placedRow sch (limits s) table store out at .output
           row-left out′ q = q ∙ ap (over out at) bytes-are ∙ sym (there .1)

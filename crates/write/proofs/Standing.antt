@@ -10,57 +10,30 @@ use Rattle.rules.specs.ValueRecord.{valueRecordStart, ValueRecordIn, valueRecor
 use Rattle.rules.specs.ValueTable.{payloadBytes, payloadBytesI, payloadBytesV, valueKind, sizeOf, headOf, below, belowI, belowV, heads, Spot, Parsed, Whole, Broken, tagAt}
 use Rattle.value_laws.proofs.Records.{RecordIs, record-in, kind-is, tag-is, size-is, tag-fits, size-fits, shows-in}
 use Rattle.value_laws.proofs.Sizes.{length-pays, length-heads, length-belowI, items-within}
+use Rattle.value_laws.proofs.Children.{children, below-untagged, pays-untagged, fits-untagged, tall-untagged, count-untagged}
 use Rattle.value_laws.proofs.Span.{Span, left, right, onward, the-record, rest-span, span-in}
 use Rattle.value_laws.proofs.Parse.{Holds, holds, Reads, ReadsI, reads}
 use Rattle.value_laws.proofs.Flat.{count-fits, parses}
-use Rattle.write.specs.Table.{IsWhole, valueOf, endOf, standing}
+use Rattle.write.specs.Table.{IsWhole, wholeValue, wholeEnd, valueStandingAt}
 use Rattle.write.proofs.Codes.{fixed-range, raw-range, sized-range}
-use Rattle.write.proofs.Kids.{untagged, children}
 
 abbrev pub spot : ℕ → ℕ → Spot
 spot at from = record { at = at; from = from }
 
-pub whole-is : (x : Parsed Value) → IsWhole x → x ≡ Whole (valueOf x) (endOf x)
-unfolding IsWhole valueOf endOf
+pub whole-is : (x : Parsed Value) → IsWhole x → x ≡ Whole (wholeValue x) (wholeEnd x)
+unfolding IsWhole wholeValue wholeEnd
 whole-is (Whole v q) h = refl
 whole-is Broken h = absurd h
 
--- ---- children, tagged or not
-
-below-untagged : (vs : Values) (p : ℕ) → belowV vs p ≡ belowI (untagged vs) p
-unfolding untagged below
-below-untagged none p = refl
-below-untagged (more v vs) p = rw (below-untagged vs (p + payloadOf v))
-
-pays-untagged : (vs : Values) → payloadBytesV vs ≡ payloadBytesI (untagged vs)
-unfolding untagged payloadBytes
-pays-untagged none = refl
-pays-untagged (more v vs) = rw (pays-untagged vs)
-
-fits-untagged : (vs : Values) → FitsV vs → FitsI (untagged vs)
-unfolding untagged Fits
-fits-untagged none h = tt
-fits-untagged (more v vs) h = (omega arith, (h .0, fits-untagged vs (h .1)))
-
-tall-untagged : (vs : Values) → tallV vs ≡ tallI (untagged vs)
-unfolding untagged tall
-tall-untagged none = refl
-tall-untagged (more v vs) = rw (tall-untagged vs)
-
-count-untagged : (vs : Values) → values vs ≡ items (untagged vs)
-unfolding untagged values items
-count-untagged none = refl
-count-untagged (more v vs) = rw (count-untagged vs)
-
 -- a value with children
-pub record Parent (v : Value) : Type 0 where
+pub record ParentValue (v : Value) : Type 0 where
   pub table : (p : ℕ) → below v p ≡ belowI (children v) p
   pub bytes : payloadBytes v ≡ payloadBytesI (children v)
   pub fits : FitsI (children v)
   pub depth : tall v ≡ suc (tallI (children v))
   pub count : sizeOf v ≡ items (children v)
 
-pub parent : (v : Value) → 15 ≤ valueKind v → Fits v → Parent v
+pub parent : (v : Value) → 15 ≤ valueKind v → Fits v → ParentValue v
 unfolding valueKind below payloadBytes children Fits tall sizeOf items
 parent nothing l f = absurd (omega arith)
 parent (boolean x) l f = absurd (omega arith)
@@ -86,9 +59,9 @@ one-tall (tuple vs) = omega arith
 module _ (table store : List ℕ) (short : length table ≤ 4294967295) where
   -- ---- a value that stands at a spot
 
-  pub stands : (d at from : ℕ) → from ≤ length store → IsWhole (standing table store d at from) →
-      Reads table store d (tagAt table store at) (spot at from) (valueOf (standing table store d at from)) (endOf (standing table store d at from))
-  unfolding standing
+  pub stands : (d at from : ℕ) → from ≤ length store → IsWhole (valueStandingAt table store d at from) →
+      Reads table store d (tagAt table store at) (spot at from) (wholeValue (valueStandingAt table store d at from)) (wholeEnd (valueStandingAt table store d at from))
+  unfolding valueStandingAt
   stands d at from l h = of (rw (whole-is _ h) at (reads table store d (tagAt table store at) (spot at from) l))
     where
       of : {v : Value} {q : Spot} → Holds (Reads table store d (tagAt table store at) (spot at from)) (Whole v q) → Reads table store d (tagAt table store at) (spot at from) v q
@@ -179,6 +152,6 @@ module _ (table store : List ℕ) (short : length table ≤ 4294967295) where
       }
 
   -- the next one stands where the last one ended
-  pub turn-stands : (d at from : ℕ) (z : Spot) (is : Items) (t : Turn d (spot at from) z is) → standing table store d at from ≡ Whole (t .value) (spot (at + recordsOf (t .value)) (from + payloadOf (t .value)))
-  unfolding standing
+  pub turn-stands : (d at from : ℕ) (z : Spot) (is : Items) (t : Turn d (spot at from) z is) → valueStandingAt table store d at from ≡ Whole (t .value) (spot (at + recordsOf (t .value)) (from + payloadOf (t .value)))
+  unfolding valueStandingAt
   turn-stands d at from z is t = rw (t .bears) (parses table store short d (t .value) (t .tag) (spot at from) _ (t .here))

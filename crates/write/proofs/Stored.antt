@@ -23,9 +23,9 @@ use Rattle.rules.proofs.Stands.{length-le, stands-part}
 use Rattle.value_laws.proofs.Records.{content-is}
 use Rattle.value_laws.proofs.Parse.{Reads}
 use Rattle.value_laws.proofs.Codes.{nothing-taken, boolean-taken}
-use Rattle.write.specs.Table.{valueOf, standing}
+use Rattle.write.specs.Table.{wholeValue, valueStandingAt}
 use Rattle.write.specs.Putting.{leafKept, leafSize, leafBytes, putOf, unlimited, written, Writable, Parted, Placed}
-use Rattle.write.specs.declared.put.Spot.{Spot}
+use Rattle.write.specs.declared.put.WritePos.{WritePos}
 use Rattle.write.proofs.Codes.{leaf-kind, fixed-range, raw-range, sized-range}
 use Rattle.write.proofs.Numbers.{LeafIs, blob-is, wide-is, narrow-is}
 use Rattle.write.proofs.Standing.{spot, head, at-end, from-end, from-in, length-told, inside}
@@ -94,7 +94,7 @@ module _ (sch : List ℕ) (i : ℕ) (table store : List ℕ) (short : length tab
 
 -- ---- the node step, in the code's numbers
 
-module _ (sch : List ℕ) (i depth : ℕ) (table store : List ℕ) (p : Spot) (room : ℕ) (k : Writable sch i depth table store p room) (v : ValueRecord) (m : v ≡ valueRecordAt table (p .at)) (code : ℕ) (is : code ≡ nodeAt sch i .code) where
+module _ (sch : List ℕ) (i depth : ℕ) (table store : List ℕ) (p : WritePos) (room : ℕ) (k : Writable sch i depth table store p room) (v : ValueRecord) (m : v ≡ valueRecordAt table (p .at)) (code : ℕ) (is : code ≡ nodeAt sch i .code) where
   short : length table ≤ 4294967295
   short = omega (arith, k .short)
 
@@ -102,10 +102,10 @@ module _ (sch : List ℕ) (i depth : ℕ) (table store : List ℕ) (p : Spot) (r
   parted-node l = record { is = is; compound = l; count = ap (λ (u : ValueRecord). u .size) m }
 
   module _ (l : code < 15) where
-    the-leaf : Leaf table store code (p .at) (p .from) (valueOf (standing table store depth (p .at) (p .from))) (putOf (written sch i depth table store (p .at) (p .from)))
+    the-leaf : Leaf table store code (p .at) (p .from) (wholeValue (valueStandingAt table store depth (p .at) (p .from))) (putOf (written sch i depth table store (p .at) (p .from)))
     the-leaf = leaf-stored sch i table store short code is (p .at) (p .from) _ _ (reads-whole sch i depth table store p room k) l (rw is (right-kind sch i depth table store p room k)) (all-put sch i depth table store p room k)
 
-    kept-is : leafKept code (v .size) ≡ payloadOf (valueOf (standing table store depth (p .at) (p .from)))
+    kept-is : leafKept code (v .size) ≡ payloadOf (wholeValue (valueStandingAt table store depth (p .at) (p .from)))
     kept-is = ap (λ (u : ValueRecord). leafKept code (u .size)) m ∙ the-leaf .kept
 
     size-is : leafSize code (v .size) ≡ length (putOf (written sch i depth table store (p .at) (p .from)))
@@ -116,13 +116,13 @@ module _ (sch : List ℕ) (i depth : ℕ) (table store : List ℕ) (p : Spot) (r
         let w = reads-whole sch i depth table store p room k in
         (l, omega (arith, inside table store short w, k .short), omega (arith, kept-is, from-end table store short w, from-in table store short w), omega (arith, size-is, k .fits))
 
-    pub leaf-placed : (q : Spot) (out out′ : List ℕ) → q ≡ record { at = p .at + 1; from = p .from + leafKept code (v .size); to = p .to + leafSize code (v .size) } →
+    pub leaf-placed : (q : WritePos) (out out′ : List ℕ) → q ≡ record { at = p .at + 1; from = p .from + leafKept code (v .size); to = p .to + leafSize code (v .size) } →
         out′ ≡ over out (p .to) (leafBytes store code (v .size) (v .content) (p .from)) → Placed sch i depth table store p q out out′
     leaf-placed q out out′ e f =
         let w = reads-whole sch i depth table store p room k in
         record {
-          at-end = ap (λ (u : Spot). u .at) e ∙ omega (arith, the-leaf .one, at-end table store short w);
-          from-end = ap (λ (u : Spot). u .from) e ∙ omega (arith, kept-is, from-end table store short w);
-          to-end = ap (λ (u : Spot). u .to) e ∙ omega (arith, size-is);
+          at-end = ap (λ (u : WritePos). u .at) e ∙ omega (arith, the-leaf .one, at-end table store short w);
+          from-end = ap (λ (u : WritePos). u .from) e ∙ omega (arith, kept-is, from-end table store short w);
+          to-end = ap (λ (u : WritePos). u .to) e ∙ omega (arith, size-is);
           bytes = f ∙ ap (over out (p .to)) (ap (λ (u : ValueRecord). leafBytes store code (u .size) (u .content) (p .from)) m ∙ the-leaf .bytes);
         }

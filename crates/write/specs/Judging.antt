@@ -18,44 +18,44 @@ use Rattle.rules.specs.Refusals.{BlobTooLarge, InvalidVariantTag}
 use Rattle.read.specs.Fields.{payloadOfFixed}
 use Rattle.read.specs.Children.{Shape, as-variant, as-repeated, as-tuple}
 use Rattle.read.specs.Ready.{HasNode, SoundNodes}
-use Rattle.write.specs.Table.{IsWhole, valueOf, endOf, standing}
-use Rattle.write.specs.declared.judge.Passed.{Passed}
+use Rattle.write.specs.Table.{IsWhole, wholeValue, wholeEnd, valueStandingAt}
+use Rattle.write.specs.declared.judge.JudgePos.{JudgePos}
 use Rattle.write.specs.declared.judge.Judged.{Judged}
 use Rattle.write.specs.declared.judge.Judged.the-variants.{Fits, Refused}
-use Rattle.write.specs.declared.judge.Pick.{Pick}
-use Rattle.write.specs.declared.judge.Pick.the-variants as pick-is
+use Rattle.write.specs.declared.judge.Chosen.{Chosen}
+use Rattle.write.specs.declared.judge.Chosen.the-variants as chosen-is
 
 -- of the limits, writing asks for the longest blob alone
 abbrev pub only : ℕ → Limits
 only blob = record { charge = 0; blob = blob; row = 0 }
 
-abbrev pub passed : ℕ → ℕ → ℕ → Passed
-passed at from bytes = record { at = at; from = from; bytes = bytes }
+abbrev pub judgePos : ℕ → ℕ → ℕ → JudgePos
+judgePos at from bytes = record { at = at; from = from; bytes = bytes }
 
 -- n bytes and those that are put, and where the value leaves off; or the refusal
 unfoldable pub judged : ℕ → Spot → Wrote → Judged
-judged n z (Put b) = Fits (passed (z .at) (z .from) (n + length b))
+judged n z (Put b) = Fits (judgePos (z .at) (z .from) (n + length b))
 judged n z (rule.Refused r) = Refused r
 
 -- ---- steps
 
 -- a node without children: its bytes, of which those that its record does not hold are payload; or 14 at its record
-unfoldable pub leafOf : ℕ → ℕ → ℕ → Passed → Judged
+unfoldable pub leafOf : ℕ → ℕ → ℕ → JudgePos → Judged
 leafOf blob code size p =
-    pick (ltb code 13) (Fits (passed (p .at + 1) (p .from + payloadOfFixed (widthOf (form code))) (p .bytes + widthOf (form code))))
-    (pick (leb size (blobLimit (only blob) code)) (Fits (passed (p .at + 1) (p .from + size) (p .bytes + (4 + size))))
+    pick (ltb code 13) (Fits (judgePos (p .at + 1) (p .from + payloadOfFixed (widthOf (form code))) (p .bytes + widthOf (form code))))
+    (pick (leb size (blobLimit (only blob) code)) (Fits (judgePos (p .at + 1) (p .from + size) (p .bytes + (4 + size))))
     (Refused (BlobTooLarge code size (blobLimit (only blob) code) (p .at))))
 
 module _ (code first count : ℕ) where
   -- the child that a tag of w bytes names, or 17 at record r
-  unfoldable pub taggedOf : ℕ → ℕ → ℕ → Pick
-  taggedOf w tag r = pick (ltb tag count) (pick-is.Child (first + tag) w) (pick-is.Refused (InvalidVariantTag code tag count r))
+  unfoldable pub taggedOf : ℕ → ℕ → ℕ → Chosen
+  taggedOf w tag r = pick (ltb tag count) (chosen-is.Child (first + tag) w) (chosen-is.Refused (InvalidVariantTag code tag count r))
 
   -- the child after i others, whose record r bears a tag
-  unfoldable pub pickedOf : Shape → ℕ → ℕ → ℕ → Pick
-  pickedOf (as-variant w) i tag r = taggedOf w tag r
-  pickedOf (as-repeated w) i tag r = taggedOf w tag r
-  pickedOf as-tuple i tag r = pick-is.Child (first + i) 0
+  unfoldable pub chosenOf : Shape → ℕ → ℕ → ℕ → Chosen
+  chosenOf (as-variant w) i tag r = taggedOf w tag r
+  chosenOf (as-repeated w) i tag r = taggedOf w tag r
+  chosenOf as-tuple i tag r = chosen-is.Child (first + i) 0
 
 -- a tuple has as many children as its node
 unfoldable pub countOk : Shape → ℕ → ℕ → Bool
@@ -72,27 +72,27 @@ closingBytes as-tuple = 0
 -- ---- a value
 
 -- node i of a sound block, and a value that stands in the table; the bytes so far are few, so that their count does not wrap
-pub record Judgeable (sch : List ℕ) (i depth : ℕ) (table store : List ℕ) (p : Passed) : Type 0 where
+pub record Judgeable (sch : List ℕ) (i depth : ℕ) (table store : List ℕ) (p : JudgePos) : Type 0 where
   pub sound : SoundNodes sch
   pub inside : HasNode sch i
-  pub whole : IsWhole (standing table store depth (p .at) (p .from))
+  pub whole : IsWhole (valueStandingAt table store depth (p .at) (p .from))
   pub short : length table < 2 ^ 32
   pub small : length store < 2 ^ 32
   pub within : p .from ≤ length store
   pub few : p .bytes ≤ 80 * p .at + p .from + 2
 
 -- a node with children, and a record of the kind that it takes
-pub record Opened (sch : List ℕ) (i code : ℕ) (table : List ℕ) (p : Passed) (size : ℕ) : Type 0 where
+pub record Opened (sch : List ℕ) (i code : ℕ) (table : List ℕ) (p : JudgePos) (size : ℕ) : Type 0 where
   pub is : code ≡ nodeAt sch i .code
   pub compound : 14 < code
   pub kind : valueRecordAt table (p .at) .kind ≡ kindFor code (form code)
   pub count : size ≡ valueRecordAt table (p .at) .size
 
 -- what writing the value that stands there answers
-unfoldable pub judgedAt : List ℕ → ℕ → ℕ → ℕ → List ℕ → List ℕ → Passed → Judged
+unfoldable pub judgedAt : List ℕ → ℕ → ℕ → ℕ → List ℕ → List ℕ → JudgePos → Judged
 judgedAt sch blob i depth table store p =
-    let x = standing table store depth (p .at) (p .from) in
-    judged (p .bytes) (endOf x) (write sch (only blob) (valueOf x) i (p .at))
+    let x = valueStandingAt table store depth (p .at) (p .from) in
+    judged (p .bytes) (wholeEnd x) (write sch (only blob) (wholeValue x) i (p .at))
 
 -- ---- a row
 
@@ -109,4 +109,4 @@ pub record RowJudgeable (sch table store : List ℕ) : Type 0 where
 unfoldable pub judgedRow : List ℕ → Limits → List ℕ → List ℕ → Judged
 judgedRow sch lim table store =
     let x = tableValue table store in
-    judged 0 (endOf x) (writeRow sch lim (valueOf x))
+    judged 0 (wholeEnd x) (writeRow sch lim (wholeValue x))

@@ -16,9 +16,9 @@ use Rattle.rules.specs.Writing.{Wrote, Put, Refused, write, writeRow}
 use Rattle.read.specs.Fields.{payloadOfFixed}
 use Rattle.read.specs.Children.{Shape, as-variant, as-repeated, as-tuple}
 use Rattle.read.specs.Ready.{HasNode, SoundNodes}
-use Rattle.write.specs.Table.{IsWhole, valueOf, endOf, standing}
+use Rattle.write.specs.Table.{IsWhole, wholeValue, wholeEnd, valueStandingAt}
 use Rattle.write.specs.Judging.{only}
-use Rattle.write.specs.declared.put.Spot.{Spot}
+use Rattle.write.specs.declared.put.WritePos.{WritePos}
 
 -- ---- steps
 
@@ -69,28 +69,28 @@ unlimited = only 4294967295
 
 -- the writing of the value that stands at a record, at node i
 unfoldable pub written : List ℕ → ℕ → ℕ → List ℕ → List ℕ → ℕ → ℕ → Wrote
-written sch i depth table store at from = write sch unlimited (valueOf (standing table store depth at from)) i at
+written sch i depth table store at from = write sch unlimited (wholeValue (valueStandingAt table store depth at from)) i at
 
 -- node i of a sound block, a value that stands in the table and was accepted, and room for its bytes
-pub record Writable (sch : List ℕ) (i depth : ℕ) (table store : List ℕ) (p : Spot) (room : ℕ) : Type 0 where
+pub record Writable (sch : List ℕ) (i depth : ℕ) (table store : List ℕ) (p : WritePos) (room : ℕ) : Type 0 where
   pub sound : SoundNodes sch
   pub inside : HasNode sch i
-  pub whole : IsWhole (standing table store depth (p .at) (p .from))
+  pub whole : IsWhole (valueStandingAt table store depth (p .at) (p .from))
   pub short : length table < 2 ^ 32
   pub within : p .from ≤ length store
   pub accepted : IsPut (written sch i depth table store (p .at) (p .from))
   pub fits : p .to + length (putOf (written sch i depth table store (p .at) (p .from))) ≤ room
 
 -- a node with children, and how many the value has
-pub record Parted (sch : List ℕ) (i code : ℕ) (table : List ℕ) (p : Spot) (size : ℕ) : Type 0 where
+pub record Parted (sch : List ℕ) (i code : ℕ) (table : List ℕ) (p : WritePos) (size : ℕ) : Type 0 where
   pub is : code ≡ nodeAt sch i .code
   pub compound : 14 < code
   pub count : size ≡ valueRecordAt table (p .at) .size
 
 -- the bytes stand there, over what stood there; q is past them
-pub record Placed (sch : List ℕ) (i depth : ℕ) (table store : List ℕ) (p q : Spot) (out out′ : List ℕ) : Type 0 where
-  pub at-end : q .at ≡ endOf (standing table store depth (p .at) (p .from)) .at
-  pub from-end : q .from ≡ endOf (standing table store depth (p .at) (p .from)) .from
+pub record Placed (sch : List ℕ) (i depth : ℕ) (table store : List ℕ) (p q : WritePos) (out out′ : List ℕ) : Type 0 where
+  pub at-end : q .at ≡ wholeEnd (valueStandingAt table store depth (p .at) (p .from)) .at
+  pub from-end : q .from ≡ wholeEnd (valueStandingAt table store depth (p .at) (p .from)) .from
   pub to-end : q .to ≡ p .to + length (putOf (written sch i depth table store (p .at) (p .from)))
   pub bytes : out′ ≡ over out (p .to) (putOf (written sch i depth table store (p .at) (p .from)))
 
@@ -98,7 +98,7 @@ pub record Placed (sch : List ℕ) (i depth : ℕ) (table store : List ℕ) (p q
 
 -- the bytes of the table's value as a row
 unfoldable pub rowBytes : List ℕ → List ℕ → List ℕ → List ℕ
-rowBytes sch table store = putOf (writeRow sch unlimited (valueOf (tableValue table store)))
+rowBytes sch table store = putOf (writeRow sch unlimited (wholeValue (tableValue table store)))
 
 -- a sound block whose root is a tuple, a value table whose form and whose row were accepted, and room for the row
 pub record RowWritable (sch table store : List ℕ) (at room : ℕ) : Type 0 where
@@ -107,5 +107,5 @@ pub record RowWritable (sch table store : List ℕ) (at room : ℕ) : Type 0 whe
   pub tuple : nodeAt sch 0 .code ≡ 19
   pub whole : IsWhole (tableValue table store)
   pub short : length table < 2 ^ 32
-  pub accepted : IsPut (writeRow sch unlimited (valueOf (tableValue table store)))
+  pub accepted : IsPut (writeRow sch unlimited (wholeValue (tableValue table store)))
   pub fits : at + length (rowBytes sch table store) ≤ room

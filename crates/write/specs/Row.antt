@@ -11,7 +11,7 @@ use Rattle.rules.specs.Refusals.{NoOutputRoom}
 use Rattle.rules.specs.declared.answer.Extent.{Extent}
 use Rattle.rules.specs.declared.answer.Written.{Written}
 use Rattle.rules.specs.declared.answer.Written.the-variants.{Row, Refused}
-use Rattle.write.specs.Table.{valueOf}
+use Rattle.write.specs.Table.{wholeValue}
 
 -- the row, where so much room holds it, or 21 with its bytes and the output position
 unfoldable pub roomFor : ℕ → ℕ → Extent → Written
@@ -19,4 +19,4 @@ roomFor at room row = pick (leb (at + row .bytes) room) (Row row) (Refused (NoOu
 
 -- the table's value, written as a row from a place of the output on
 unfoldable pub placedRow : List ℕ → Limits → List ℕ → List ℕ → List ℕ → ℕ → Encoded
-placedRow sch lim table store out at = let v = valueOf (tableValue table store) in placed v out at (writeRow sch lim v)
+placedRow sch lim table store out at = let v = wholeValue (tableValue table store) in placed v out at (writeRow sch lim v)

@@ -11,14 +11,14 @@ IsWhole (Whole v q) = Unit
 IsWhole Broken = ⊥
 
 -- the value, and the spot after it
-unfoldable pub valueOf : Parsed Value → Value
-valueOf (Whole v q) = v
-valueOf Broken = nothing
+unfoldable pub wholeValue : Parsed Value → Value
+wholeValue (Whole v q) = v
+wholeValue Broken = nothing
 
-unfoldable pub endOf : Parsed Value → Spot
-endOf (Whole v q) = q
-endOf Broken = record { at = 0; from = 0 }
+unfoldable pub wholeEnd : Parsed Value → Spot
+wholeEnd (Whole v q) = q
+wholeEnd Broken = record { at = 0; from = 0 }
 
 -- the value whose records begin at record `at`, with `from` payload bytes before it, as the child that the tag of that record chose
-unfoldable pub standing : List ℕ → List ℕ → ℕ → ℕ → ℕ → Parsed Value
-standing table store depth at from = valueAt table store depth (tagAt table store at) (record { at = at; from = from })
+unfoldable pub valueStandingAt : List ℕ → List ℕ → ℕ → ℕ → ℕ → Parsed Value
+valueStandingAt table store depth at from = valueAt table store depth (tagAt table store at) (record { at = at; from = from })

@@ -8,7 +8,7 @@ ghost use Rattle.rules.specs.Reading.{limits};
 ghost use Rattle.rules.specs.Walk.{blobLimit};
 ghost use Rattle.rules.specs.Writing.{kindFor};
 ghost use Rattle.read.specs.Children.{shapeOf};
-ghost use Rattle.write.specs.Judging.{only, leafOf, pickedOf, countOk, closingBytes, Judgeable, Opened, judgedAt, RowJudgeable, judgedRow};
+ghost use Rattle.write.specs.Judging.{only, leafOf, chosenOf, countOk, closingBytes, Judgeable, Opened, judgedAt, RowJudgeable, judgedRow};
 use read::fields::payload_of_fixed;
 use record::node::node_children;
 use record::node::node_code;
@@ -17,11 +17,11 @@ use record::value::value_record_at;
 use rules::Refusal;
 use rules::Settings;
 use rules::Why;
-use wire::codes::fixed_width;
+use wire::codes::code_width;
 use wire::codes::tag_width;
 
 // Where the walk stands: the next value record, the next payload byte, and the bytes of the row so far.
-pub struct Passed {
+pub struct JudgePos {
     pub at: usize,
     pub from: usize,
     pub bytes: u64,
@@ -29,12 +29,12 @@ pub struct Passed {
 
 // What judging a value answers: what it takes, or why it is not written.
 pub enum Judged {
-    Fits(Passed),
+    Fits(JudgePos),
     Refused(Refusal),
 }
 
 // A node's next child by its node and the bytes of the tag that chooses it, or why there is none.
-pub enum Pick {
+pub enum Chosen {
     Child(usize, u64),
     Refused(Refusal),
 }
@@ -42,16 +42,16 @@ pub enum Pick {
 // ---- a refusal, taken out of one answer and handed up in another. Each is called where the answer is known to be one, so that its
 // other arm is never met.
 
-fn no_child(pick: Pick) -> Judged
-    ensures { λ r. ⌜ ((why : Refusal) → pick ≡ Pick.Refused why → r ≡ Judged.Refused why) ⌝ }
+fn judged_refused_by_choice(pick: Chosen) -> Judged
+    ensures { λ r. ⌜ ((why : Refusal) → pick ≡ Chosen.Refused why → r ≡ Judged.Refused why) ⌝ }
 {
     match pick {
-        Pick::Refused(why) => Judged::Refused(why),
-        Pick::Child(_, _) => Judged::Refused(Refusal::SETTING),
+        Chosen::Refused(why) => Judged::Refused(why),
+        Chosen::Child(_, _) => Judged::Refused(Refusal::SETTING),
     }
 }
 
-fn refused(value: Judged) -> Judged
+fn judged_refused_by_child(value: Judged) -> Judged
     ensures { λ r. ⌜ ((why : Refusal) → value ≡ Judged.Refused why → r ≡ Judged.Refused why) ⌝ }
 {
     match value {
@@ -87,7 +87,7 @@ fn kind_of(code: u8) -> u8
 }
 
 // A value of a fixed width, or a blob within its limit.
-fn judge_leaf(code: u8, size: u64, max_blob_bytes: u64, p: Passed) -> Judged
+fn judge_leaf(code: u8, size: u64, max_blob_bytes: u64, p: JudgePos) -> Judged
     requires { ⌜ (code < 15) × (size < 2 ^ 32) × (p .at < 2 ^ 32) × (p .from < 2 ^ 32) × (p .bytes < 2 ^ 40) ⌝ }
     ensures { λ r. ⌜ r ≡ leafOf «max_blob_bytes» code size p ⌝ }
 {
@@ -95,8 +95,8 @@ fn judge_leaf(code: u8, size: u64, max_blob_bytes: u64, p: Passed) -> Judged
     let from = p.from;
     let bytes = p.bytes;
     if code < 13 {
-        let width = fixed_width(code);
-        return Judged::Fits(Passed {
+        let width = code_width(code);
+        return Judged::Fits(JudgePos {
             at: at + 1,
             from: from + payload_of_fixed(width) as usize,
             bytes: bytes + width as u64,
@@ -113,7 +113,7 @@ fn judge_leaf(code: u8, size: u64, max_blob_bytes: u64, p: Passed) -> Judged
             place: at as u64,
         });
     }
-    Judged::Fits(Passed {
+    Judged::Fits(JudgePos {
         at: at + 1,
         from: from + size as usize,
         bytes: bytes + (4 + size),
@@ -123,15 +123,15 @@ fn judge_leaf(code: u8, size: u64, max_blob_bytes: u64, p: Passed) -> Judged
 // ---- nodes with children
 
 // The child after i others, whose record bears `tag` and is the one at `at`.
-fn next_child(code: u8, first: u64, count: u64, i: u64, tag: u64, at: usize) -> Pick
+fn next_child(code: u8, first: u64, count: u64, i: u64, tag: u64, at: usize) -> Chosen
     requires { ⌜ (14 < code) × (code ≤ 19) × (first + count < 2 ^ 64) × (first + i < 2 ^ 64) ⌝ }
-    ensures { λ r. ⌜ r ≡ pickedOf code first count (shapeOf code) i tag at ⌝ }
+    ensures { λ r. ⌜ r ≡ chosenOf code first count (shapeOf code) i tag at ⌝ }
 {
     if 18 < code {
-        return Pick::Child((first + i) as usize, 0);
+        return Chosen::Child((first + i) as usize, 0);
     }
     if count <= tag {
-        return Pick::Refused(Refusal {
+        return Chosen::Refused(Refusal {
             why: Why::InvalidVariantTag {
                 wire_type: code,
                 tag,
@@ -140,7 +140,7 @@ fn next_child(code: u8, first: u64, count: u64, i: u64, tag: u64, at: usize) -> 
             place: at as u64,
         });
     }
-    Pick::Child((first + tag) as usize, tag_width(code) as u64)
+    Chosen::Child((first + tag) as usize, tag_width(code) as u64)
 }
 
 // Whether a node of so many children takes a value of so many: only a tuple is asked.
@@ -175,7 +175,7 @@ fn judge_value(
     max_blob_bytes: u64,
     records: &[u8],
     payload: &[u8],
-    p: Passed,
+    p: JudgePos,
 ) -> Judged
     requires { ⌜ Judgeable (now block) node depth (now records) (now payload) p ⌝ }
     ensures { λ r. ⌜ r ≡ judgedAt (now (block .entry)) «max_blob_bytes» node depth (now (records .entry)) (now (payload .entry)) p ⌝ }
@@ -228,7 +228,7 @@ fn judge_children(
     max_blob_bytes: u64,
     records: &[u8],
     payload: &[u8],
-    p: Passed,
+    p: JudgePos,
     size: u64,
 ) -> Judged
     requires { ⌜ Judgeable (now block) node depth (now records) (now payload) p × Opened (now block) node code (now records) p size ⌝ }
@@ -246,7 +246,7 @@ fn judge_children(
             place: own as u64,
         });
     }
-    let mut q = Passed {
+    let mut q = JudgePos {
         at: own + 1,
         from: p.from,
         bytes: p.bytes,
@@ -256,10 +256,10 @@ fn judge_children(
         let at = q.at;
         let below = value_record_at(records, at);
         let pick = next_child(code, first, count, i, below.tag, at);
-        let Pick::Child(child, width) = pick else {
-            return no_child(pick);
+        let Chosen::Child(child, width) = pick else {
+            return judged_refused_by_choice(pick);
         };
-        let start = Passed {
+        let start = JudgePos {
             at,
             from: q.from,
             bytes: q.bytes + width,
@@ -274,12 +274,12 @@ fn judge_children(
             start,
         );
         let Judged::Fits(r) = j else {
-            return refused(j);
+            return judged_refused_by_child(j);
         };
         q = r;
         i += 1;
     }
-    Judged::Fits(Passed {
+    Judged::Fits(JudgePos {
         at: q.at,
         from: q.from,
         bytes: q.bytes + closing(code),
@@ -291,7 +291,7 @@ pub fn judge_row(block: &[u8], settings: Settings, records: &[u8], payload: &[u8
     requires { ⌜ RowJudgeable (now block) (now records) (now payload) ⌝ }
     ensures { λ r. ⌜ r ≡ judgedRow (now (block .entry)) (limits settings) (now (records .entry)) (now (payload .entry)) ⌝ }
 {
-    let p = Passed {
+    let p = JudgePos {
         at: 0,
         from: 0,
         bytes: 2,

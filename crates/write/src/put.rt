@@ -14,14 +14,14 @@ use record::node::node_code;
 use record::node::node_first;
 use record::value::value_record_at;
 use rules::ValueRecord;
-use wire::codes::fixed_width;
+use wire::codes::code_width;
 use wire::codes::tag_width;
 use wire::store::put16;
 use wire::store::put32;
 use wire::store::put64;
 
 // Where the walk stands: the next value record, the next payload byte, the next byte of the output.
-pub struct Spot {
+pub struct WritePos {
     pub at: usize,
     pub from: usize,
     pub to: usize,
@@ -63,7 +63,14 @@ fn put_number(out: &mut [u8], at: usize, width: usize, x: u64)
 // ---- nodes without children
 
 // A blob has its length before it, int128 and int256 come from the payload store, and all else from the record.
-fn put_leaf(code: u8, size: u64, content: u64, payload: &[u8], p: Spot, out: &mut [u8]) -> Spot
+fn put_leaf(
+    code: u8,
+    size: u64,
+    content: u64,
+    payload: &[u8],
+    p: WritePos,
+    out: &mut [u8],
+) -> WritePos
     requires { ⌜ (code < 15) × (p .at + 1 < 2 ^ 64) × (p .from + leafKept code size ≤ length (now payload)) × (p .to + leafSize code size ≤ length (now out)) ⌝ }
     ensures spot { λ r. ⌜ r ≡ record { at = p .at + 1; from = p .from + leafKept code size; to = p .to + leafSize code size } ⌝ }
     ensures out { λ _. ⌜ now (out .exit) ≡ over (now (out .entry)) (p .to) (leafBytes (now (payload .entry)) code size content (p .from)) ⌝ }
@@ -75,23 +82,23 @@ fn put_leaf(code: u8, size: u64, content: u64, payload: &[u8], p: Spot, out: &mu
         let n = size as usize;
         put32(out, to, size);
         copy(payload, from, n, out, to + 4);
-        return Spot {
+        return WritePos {
             at: at + 1,
             from: from + n,
             to: to + (4 + n),
         };
     }
-    let width = fixed_width(code);
+    let width = code_width(code);
     if 8 < width {
         copy(payload, from, width, out, to);
-        return Spot {
+        return WritePos {
             at: at + 1,
             from: from + width,
             to: to + width,
         };
     }
     put_number(out, to, width, content);
-    Spot {
+    WritePos {
         at: at + 1,
         from,
         to: to + width,
@@ -147,7 +154,7 @@ fn put_end(code: u8, out: &mut [u8], to: usize) -> usize
 
 // What a node comes to at once: a leaf of this code, whose record has this size and content, from this position on; or children.
 pub enum ToPut {
-    Leaf(u8, u64, u64, Spot),
+    Leaf(u8, u64, u64, WritePos),
     Children,
 }
 
@@ -161,7 +168,7 @@ fn leaf_at(
     records: &[u8],
     payload: &[u8],
     own: ValueRecord,
-    p: Spot,
+    p: WritePos,
     out: &mut [u8],
 ) -> ToPut
     requires { ⌜ Writable (now block) node depth (now records) (now payload) p (length (now out)) × (own ≡ valueRecordAt (now records) (p .at)) × (code ≡ nodeAt (now block) node .code) ⌝ }
@@ -186,7 +193,7 @@ fn leaf_at(
         leaf,
         below.size,
         below.content,
-        Spot {
+        WritePos {
             at,
             from: p.from,
             to,
@@ -201,9 +208,9 @@ fn put_value(
     depth: usize,
     records: &[u8],
     payload: &[u8],
-    p: Spot,
+    p: WritePos,
     out: &mut [u8],
-) -> Spot
+) -> WritePos
     requires { ⌜ Writable (now block) node depth (now records) (now payload) p (length (now out)) ⌝ }
     ensures { λ r. ⌜ Placed (now (block .entry)) node depth (now (records .entry)) (now (payload .entry)) p r (now (out .entry)) (now (out .exit)) ⌝ }
 {
@@ -233,16 +240,16 @@ fn put_children(
     depth: usize,
     records: &[u8],
     payload: &[u8],
-    p: Spot,
+    p: WritePos,
     size: u64,
     out: &mut [u8],
-) -> Spot
+) -> WritePos
     requires { ⌜ Writable (now block) node depth (now records) (now payload) p (length (now out)) × Parted (now block) node code (now records) p size ⌝ }
     ensures { λ r. ⌜ Placed (now (block .entry)) node depth (now (records .entry)) (now (payload .entry)) p r (now (out .entry)) (now (out .exit)) ⌝ }
 {
     let first = node_first(block, node);
     let own = p.at;
-    let mut q = Spot {
+    let mut q = WritePos {
         at: own + 1,
         from: p.from,
         to: p.to,
@@ -252,7 +259,7 @@ fn put_children(
         let at = q.at;
         let below = value_record_at(records, at);
         let child = child_of(code, first, i, below.tag);
-        let start = Spot {
+        let start = WritePos {
             at,
             from: q.from,
             to: put_tag(code, below.tag, out, q.to),
@@ -260,7 +267,7 @@ fn put_children(
         q = put_value(block, child, depth - 1, records, payload, start, out);
         i += 1;
     }
-    Spot {
+    WritePos {
         at: q.at,
         from: q.from,
         to: put_end(code, out, q.to),
@@ -275,7 +282,7 @@ pub fn put_row(block: &[u8], records: &[u8], payload: &[u8], out: &mut [u8], to:
     ensures out { λ _. ⌜ now (out .exit) ≡ over (now (out .entry)) to (rowBytes (now (block .entry)) (now (records .entry)) (now (payload .entry))) ⌝ }
 {
     put16(out, to, 0);
-    let p = Spot {
+    let p = WritePos {
         at: 0,
         from: 0,
         to: to + 2,

@@ -35,13 +35,13 @@ returns c =
     let e = rw (c .before .before .before .before .before .before .before .u32-at .ensures) at (c .before .before .before .before .fill-bytes .ensures) in
     stored-fills _ _ (s .args .s) _ _ _ k _ _ _ _ _ _ (e .0) (e .1 .0) (e .1 .1)
 
-fixed-width-requires : tie.Need-fixed-width-requires
-fixed-width-requires c κs = search needs
+code-width-requires : tie.Need-code-width-requires
+code-width-requires c κs = search needs
 
 fill-bytes-requires-2 : tie.Need-fill-bytes-requires-2
 fill-bytes-requires-2 c κs =
     let s = c .before .before .before .before .before .before .before .before in
-    let w = c .before .before .before .fixed-width .ensures .0 in
+    let w = c .before .before .before .code-width .ensures .0 in
     let k = wide-stored (s .args .input .now) (s .args .code) (s .args .s .at) (c .before .before .before .before .if1 .left) (rw w at (c .before .before .if2 .taken)) (s .pre .1 .is) in
     rw w (stored-room _ _ (s .args .s) _ _ _ k _ _ (s .pre .1))
 
@@ -54,7 +54,7 @@ same-length-4 c = search needs
 returns-2 : tie.Need-returns-2
 returns-2 c =
     let s = c .before .before .before .before .before .before .before .before .before .before .before .before .before in
-    let w = c .before .before .before .before .before .before .before .before .fixed-width .ensures .0 in
+    let w = c .before .before .before .before .before .before .before .before .code-width .ensures .0 in
     let k = wide-stored (s .args .input .now) (s .args .code) (s .args .s .at) (c .before .before .before .before .before .before .before .before .before .if1 .left) (rw w at (c .before .before .before .before .before .before .before .if2 .taken)) (s .pre .1 .is) in
     let e = rw w at (c .before .before .before .before .fill-bytes2 .ensures) in
     stored-fills _ _ (s .args .s) _ _ _ k _ _ _ _ _ _ (e .0) (e .1 .0) (e .1 .1)
@@ -62,21 +62,21 @@ returns-2 c =
 scalar-at-requires : tie.Need-scalar-at-requires
 scalar-at-requires c κs =
     let s = c .before .before .before .before .before .before .before in
-    let w = c .before .before .fixed-width .ensures .0 in
+    let w = c .before .before .code-width .ensures .0 in
     let k = narrow (s .args .input .now) (s .args .code) (s .args .s .at) (c .before .before .before .if1 .left) (rw w at (c .before .if2 .left)) (s .pre .1 .is) in
     (c .before .if2 .left, rw w (k .there))
 
 put-record-requires : tie.Need-put-record-requires
 put-record-requires c κs =
     let s = c .before .before .before .before .before .before .before .before in
-    let w = c .before .before .before .fixed-width .ensures .0 in
+    let w = c .before .before .before .code-width .ensures .0 in
     let k = narrow (s .args .input .now) (s .args .code) (s .args .s .at) (c .before .before .before .before .if1 .left) (rw w at (c .before .before .if2 .left)) (s .pre .1 .is) in
     omega (arith, narrow-room _ _ (s .args .s) _ _ _ k (s .pre .1))
 
 add-t26 : tie.Need-add-t26
 add-t26 c =
     let s = c .before .before .before .before .before .before .before .before .before .before .before in
-    let w = c .before .before .before .before .before .before .fixed-width .ensures .0 in
+    let w = c .before .before .before .before .before .before .code-width .ensures .0 in
     let k = narrow (s .args .input .now) (s .args .code) (s .args .s .at) (c .before .before .before .before .before .before .before .if1 .left) (rw w at (c .before .before .before .before .before .if2 .left)) (s .pre .1 .is) in
     omega (arith, k .there, w, s .good, s .fits)
 
@@ -89,7 +89,7 @@ same-length-5 c = search needs
 returns-3 : tie.Need-returns-3
 returns-3 c =
     let s = c .before .before .before .before .before .before .before .before .before .before .before in
-    let w = c .before .before .before .before .before .before .fixed-width .ensures .0 in
+    let w = c .before .before .before .before .before .before .code-width .ensures .0 in
     let k = narrow (s .args .input .now) (s .args .code) (s .args .s .at) (c .before .before .before .before .before .before .before .if1 .left) (rw w at (c .before .before .before .before .before .if2 .left)) (s .pre .1 .is) in
     narrow-fills _ _ (s .args .s) _ _ _ _ _ _ _ k w (c .before .before .before .scalar-at .ensures) (c .before .before .put-record .ensures)
 
@@ -103,7 +103,7 @@ fill-leaf-spec =
     same-length
     same-length-2
     returns
-    fixed-width-requires
+    code-width-requires
     fill-bytes-requires-2
     same-length-3
     same-length-4

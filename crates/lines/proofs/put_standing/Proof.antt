@@ -3,7 +3,7 @@
 use native.Mathlib.Omega.{arith}
 use borrow.Author.Needs.{needs}
 use Rattle.rules.specs.Names.{ascii}
-use Rattle.rules.specs.Lines.{standing}
+use Rattle.rules.specs.Lines.{stoppedAt}
 use Rattle.lines.proofs.Putting.{put-both}
 use Rattle.lines.proofs.put_standing.Statement.{statement}
 use Rattle.lines.proofs.put_standing.Tie as tie
@@ -36,7 +36,7 @@ same-length : tie.Need-same-length
 same-length c = search needs
 
 returns : tie.Need-returns
-unfolding standing ascii
+unfolding stoppedAt ascii
 returns c = (put-both _ _ _ _ _ _ _ _ (c .before .before .before .before .before .before .before .before .before .before .before .before .before .before .before .before .before .put-number .ensures .0) (put-both _ _ _ _ _ _ _ _ (c .before .before .before .before .before .before .before .before .before .before .before .before .put-number2 .ensures .0) (put-both _ _ _ _ _ _ _ _ (c .before .before .before .before .before .before .before .put-number3 .ensures .0) (c .before .before .put-text .ensures))), omega arith)
 
 pub put-standing-spec : {M : Type 1} → statement M

@@ -6,7 +6,7 @@ use native.Mathlib.Omega.{arith}
 use borrow.Author.Needs.{needs}
 use lib.ListN.{length}
 use Rattle.windows.specs.Bounds.{Laid, Standing}
-use Rattle.windows.specs.Steps.{tables, Stream}
+use Rattle.windows.specs.Steps.{formatIn, Stream}
 use Rattle.windows.proofs.Streams.{stream-first, stream-on}
 use Rattle.deliveries.proofs.Streams.{ends-short, ends-full, ends-long}
 use Rattle.deliveries.proofs.reading.run_stream.Statement.{statement}
@@ -17,7 +17,7 @@ falls : (m r g : ℕ) → (g ≡ 0 → ⊥) → r + g ≤ m → m - (r + g) < m 
 falls m r g h l = omega arith
 
 abbrev Inv-loop : tie.InvT-loop
-Inv-loop settings fd space₀ ends w ran₀ end₀ read₀ space ran end read = (w ≡ ends .registry) × ((length space ≡ length space₀) × (Standing ran (ends .registry) end (length space) read × Stream (tables space₀ ends) settings ends space end ran read))
+Inv-loop settings fd space₀ ends w ran₀ end₀ read₀ space ran end read = (w ≡ ends .registry) × ((length space ≡ length space₀) × (Standing ran (ends .registry) end (length space) read × Stream (formatIn space₀ ends) settings ends space end ran read))
 
 abbrev μ-loop : tie.MeasureT-loop
 μ-loop settings fd space₀ ends w ran₀ end₀ read₀ space ran end read = 4294967295 - read

@@ -7,7 +7,8 @@ use Rattle.rules.specs.Wire.{form}
 use Rattle.rules.specs.Block.{records, nodeAt, Closed}
 use Rattle.fill.specs.Plain.{valueRead, endRead, readAt}
 use Rattle.fill.specs.Filling.{RoomToFill}
-use Rattle.fill.proofs.Children.{children, there, Turn, Opened, opened}
+use Rattle.value_laws.proofs.Children.{children}
+use Rattle.fill.proofs.Children.{there, Turn, Opened, opened}
 use Rattle.fill.proofs.Going.{spot, Going, going-first, next-turn, next-end, child-room, fills-more, going-next, count-fits, finish}
 use Rattle.fill.proofs.fill_children.Reads as fill-children
 use Rattle.fill.proofs.+fill_children+fill_value.Lts-fill_children as lts

@@ -60,7 +60,7 @@ add-t20 : tie.Need-add-t20
 add-t20 c = search needs
 
 returns-8 : tie.Need-returns-8
-returns-8 c = leads-child _ _ _ _ _ _ (c .before .before .before .before .before .before .before .before .before .before .before .before .before .before .before .before .before .before .before .before .pre .0) _ (c .before .before .before .before .before .before .before .before .before .before .before .before .before .before .before .before .before .before .before .before .pre .1) _ _ (c .before .before .before .before .before .before .before .before .before .node-first .ensures) (c .before .before .before .before .before .before .before .before .node-children .ensures) (c .before .before .before .before .before .before .before .before .before .before .before .before .before .before .before .before .before .if1 .left) (omega (arith, c .before .before .before .before .before .before .before .before .before .before .before .before .before .before .before .before .if2 .left)) (c .before .before .before .before .before .before .before .before .before .before .before .before .before .before .before .if3 .left) _ (c .before .before .before .before .before .before .before .before .before .before .before .before .before .read-tag .ensures) _ _ (c .before .before .before .before .before .before .before .before .before .before .before .t .given .1) (c .before .before .before .before .before .before .before .if4 .left) _ (c .before .before .before .before .before .before .node-code .ensures) (omega (arith, c .before .before .before .before .before .if5 .left)) _ (c .before .before .before .before .charge .ensures) _ (c .before .before .paid .given .1)
+returns-8 c = leads-child _ _ _ _ _ _ (c .before .before .before .before .before .before .before .before .before .before .before .before .before .before .before .before .before .before .before .before .pre .0) _ (c .before .before .before .before .before .before .before .before .before .before .before .before .before .before .before .before .before .before .before .before .pre .1) _ _ (c .before .before .before .before .before .before .before .before .before .node-first .ensures) (c .before .before .before .before .before .before .before .before .node-children .ensures) (c .before .before .before .before .before .before .before .before .before .before .before .before .before .before .before .before .before .if1 .left) (omega (arith, c .before .before .before .before .before .before .before .before .before .before .before .before .before .before .before .before .if2 .left)) (λ z. omega (arith, z, c .before .before .before .before .before .before .before .before .before .before .before .before .before .before .before .if3 .left)) _ (c .before .before .before .before .before .before .before .before .before .before .before .before .before .read-tag .ensures) _ _ (c .before .before .before .before .before .before .before .before .before .before .before .t .given .1) (c .before .before .before .before .before .before .before .if4 .left) _ (c .before .before .before .before .before .before .node-code .ensures) (omega (arith, c .before .before .before .before .before .if5 .left)) _ (c .before .before .before .before .charge .ensures) _ (c .before .before .paid .given .1)
 
 pub leaf-at-spec : {M : Type 1} → statement M
 leaf-at-spec =

@@ -1,6 +1,6 @@
 use borrow.Author.Tests.{le-leb, lt-leb}
 use Rattle.rules.specs.Choice.{pick}
-use Rattle.read.specs.Skim.{_>>=_, reading, skimCharge, having, passed, stored, skimBytes, skimBlob}
+use Rattle.read.specs.Skim.{_>>=_, reading, skimCharge, having, bytesPast, stored, skimBytes, skimBlob}
 use Rattle.read.proofs.Steps.{number-past}
 use borrow.Author.Needs.{needs}
 use Rattle.read.proofs.walk.skip_blob.Statement.{statement}
@@ -45,11 +45,11 @@ skipped-refused-by-charge-requires : tie.Need-skipped-refused-by-charge-requires
 skipped-refused-by-charge-requires c κs = search needs
 
 returns-3 : tie.Need-returns-3
-unfolding skimBlob reading skimCharge having skimBytes passed stored pick _>>=_
+unfolding skimBlob reading skimCharge having skimBytes bytesPast stored pick _>>=_
 returns-3 c = rw (c .skipped-refused-by-charge .ensures _ (c .before .enum-told2 .given .1), ← c .before .before .before .before .before .before .before .before .before .read-length .ensures, c .before .before .before .before .before .before .before .length .given .1, ← c .before .before .before .before .before .blob-limit .ensures, le-leb _ _ (c .before .before .before .before .if1 .left), ← c .before .before .before .charge .ensures, c .before .enum-told2 .given .1)
 
 returns-4 : tie.Need-returns-4
-unfolding skimBlob reading skimCharge having skimBytes passed stored pick _>>=_
+unfolding skimBlob reading skimCharge having skimBytes bytesPast stored pick _>>=_
 returns-4 c = rw (← c .before .before .before .before .before .before .before .before .before .before .read-length .ensures, c .before .before .before .before .before .before .before .before .length .given .1, ← c .before .before .before .before .before .before .blob-limit .ensures, le-leb _ _ (c .before .before .before .before .before .if1 .left), ← c .before .before .before .before .charge .ensures, c .before .before .paid .given .1, lt-leb _ _ (c .if2 .taken))
 
 add-t14 : tie.Need-add-t14
@@ -59,7 +59,7 @@ add-t19 : tie.Need-add-t19
 add-t19 c = search needs
 
 returns-5 : tie.Need-returns-5
-unfolding skimBlob reading skimCharge having skimBytes passed stored pick _>>=_
+unfolding skimBlob reading skimCharge having skimBytes bytesPast stored pick _>>=_
 returns-5 c = rw (← c .before .before .before .before .before .before .before .before .before .before .before .read-length .ensures, c .before .before .before .before .before .before .before .before .before .length .given .1, ← c .before .before .before .before .before .before .before .blob-limit .ensures, le-leb _ _ (c .before .before .before .before .before .before .if1 .left), ← c .before .before .before .before .before .charge .ensures, c .before .before .before .paid .given .1, le-leb _ _ (c .before .if2 .left))
 
 pub skip-blob-spec : {M : Type 1} → statement M

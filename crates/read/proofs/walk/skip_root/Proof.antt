@@ -1,6 +1,7 @@
 use mathlib.Core.Path.{sym, _∙_}
 use Rattle.read.proofs.Root.{root-dear, root-paid, root-ready}
 use borrow.Author.Needs.{needs}
+use native.Mathlib.Omega.{arith}
 use Rattle.read.proofs.walk.skip_root.Statement.{statement}
 use Rattle.read.proofs.walk.skip_root.Tie as tie
 
@@ -28,7 +29,7 @@ node-code-requires c κs = search needs
 skip-children-requires : tie.Need-skip-children-requires
 skip-children-requires c κs =
     let k = c .before .before .before .before .before .before .before .before .pre in
-    (record { sound = k .sound; inside = k .root; is = c .node-code .ensures }, rw (c .node-code .ensures) (k .compound), root-ready _ _ _ _ _ (c .before .before .before .before .before .new .ensures) _ (c .before .before .before .before .charge .ensures) _ (c .before .before .paid .given .1) k)
+    (omega arith, record { sound = k .sound; inside = k .root; is = c .node-code .ensures }, rw (c .node-code .ensures) (k .compound), root-ready _ _ _ _ _ (c .before .before .before .before .before .new .ensures) _ (c .before .before .before .before .charge .ensures) _ (c .before .before .paid .given .1) k)
 
 enum-known-s : tie.Need-enum-known-s
 enum-known-s c = search needs

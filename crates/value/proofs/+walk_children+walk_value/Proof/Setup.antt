@@ -11,12 +11,12 @@ use Rattle.record.proofs.value.records_in.Reads as records-in-reads
 use Rattle.record.proofs.value.value_record_at.Reads as value-record-at-reads
 use Rattle.value.proofs.record_ok.Reads as record-ok-reads
 
--- the children step calls the node step at its own depth, and the node step the children step at one less
+-- the node step calls the children step at its own depth, and the children step the node step at one less
 abbrev pub μ-walk-children : Measures 1 walk-children-kinds.ps ℕ
-μ-walk-children κs a = 2 * a .1 .1 .0 + 1
+μ-walk-children κs a = 2 * a .1 .1 .0
 
 abbrev pub μ-walk-value : Measures 1 walk-value-kinds.ps ℕ
-μ-walk-value κs a = 2 * a .1 .1 .0
+μ-walk-value κs a = 2 * a .1 .1 .0 + 1
 
 abbrev pub walk-children-at : ℕ → In 1 walk-children-kinds.ps
 walk-children-at t = and 1 walk-children-kinds.ps (is 1 walk-children-kinds.ps μ-walk-children t) walk-children.Pre

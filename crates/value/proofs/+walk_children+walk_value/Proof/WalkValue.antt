@@ -46,14 +46,11 @@ module _ (t : ℕ) where
   pub returns-4 : lts.Need-returns-4 (walk-value-calls t) (walk-value-at t) walk-value.Post
   returns-4 c = walk-scalar _ _ _ _ _ (positive (c .before .before .before .before .before .before)) (inside (c .before .before .before .before)) _ (c .before .before .before .value-record-at .ensures) _ (c .before .before .record-ok .ensures) (not-false (c .before .before .record-ok .result) (c .before .if3 .left)) (c .if4 .taken)
 
-  pub add-walk-children : lts.Need-add-walk-children (walk-value-calls t) (walk-value-at t) walk-value.Post
-  add-walk-children c = search needs
-
-  pub sub-walk-children : lts.Need-sub-walk-children (walk-value-calls t) (walk-value-at t) walk-value.Post
-  sub-walk-children c = search needs
+  pub add-t16 : lts.Need-add-t16 (walk-value-calls t) (walk-value-at t) walk-value.Post
+  add-t16 c = search needs
 
   pub walk-children-requires : lts.Need-walk-children-requires (walk-value-calls t) (walk-value-at t) walk-value.Post
-  walk-children-requires c κs = (omega (arith, c .before .before .before .before .before .before .before .before .pre .0, c .before .before .before .before .before .before .if1 .left), c .before .before .before .before .before .before .before .before .pre .1)
+  walk-children-requires c κs = (omega (arith, c .before .before .before .before .before .before .before .before .pre .0), (omega (arith, c .before .before .before .before .before .before .if1 .left), c .before .before .before .before .before .before .before .before .pre .1))
 
   pub enum-known-s : lts.Need-enum-known-s (walk-value-calls t) (walk-value-at t) walk-value.Post
   enum-known-s c = search needs

@@ -5,8 +5,8 @@ use borrow.Author.Needs.{needs}
 use Rattle.write.proofs.judge.judge_leaf.Statement.{statement}
 use Rattle.write.proofs.judge.judge_leaf.Tie as tie
 
-fixed-width-requires : tie.Need-fixed-width-requires
-fixed-width-requires c κs = search needs
+code-width-requires : tie.Need-code-width-requires
+code-width-requires c κs = search needs
 
 add-t11 : tie.Need-add-t11
 add-t11 c = search needs
@@ -22,7 +22,7 @@ add-t16 c = search needs
 
 returns : tie.Need-returns
 unfolding leafOf pick
-returns c = rw (lt-ltb _ _ (c .before .before .if1 .taken), ← c .before .fixed-width .ensures .0, ← c .payload-of-fixed .ensures .0)
+returns c = rw (lt-ltb _ _ (c .before .before .if1 .taken), ← c .before .code-width .ensures .0, ← c .payload-of-fixed .ensures .0)
 
 blob-limit-requires : tie.Need-blob-limit-requires
 blob-limit-requires c κs = search needs
@@ -51,7 +51,7 @@ pub judge-leaf-spec : {M : Type 1} → statement M
 judge-leaf-spec =
     tie.close
     (tie.spec
-    fixed-width-requires
+    code-width-requires
     add-t11
     payload-of-fixed-requires
     add-t14

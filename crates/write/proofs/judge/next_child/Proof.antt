@@ -1,7 +1,7 @@
 use borrow.Author.Tests.{lt-ltb, le-ltb}
 use Rattle.rules.specs.Choice.{pick}
 use Rattle.read.proofs.Codes.{shape-tuple}
-use Rattle.write.specs.Judging.{taggedOf, pickedOf}
+use Rattle.write.specs.Judging.{taggedOf, chosenOf}
 use Rattle.write.proofs.Codes.{picked-tag}
 use borrow.Author.Needs.{needs}
 use Rattle.write.proofs.judge.next_child.Statement.{statement}
@@ -11,7 +11,7 @@ add-t8 : tie.Need-add-t8
 add-t8 c = search needs
 
 returns : tie.Need-returns
-unfolding pickedOf
+unfolding chosenOf
 returns c = rw (shape-tuple _ (c .if1 .taken))
 
 returns-2 : tie.Need-returns-2

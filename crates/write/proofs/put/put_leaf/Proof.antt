@@ -33,11 +33,11 @@ same-length c = search needs
 returns : tie.Need-returns
 returns c = leaf-put _ _ _ _ _ _ _ _ (blob-is _ _ _ _ _ (c .before .before .before .before .before .before .before .before .if1 .taken)) _ _ _ _ _ refl (blob-put _ _ _ _ _ _ (c .before .before .before .before .before .before .put32 .ensures) (c .before .before .copy .ensures))
 
-fixed-width-requires : tie.Need-fixed-width-requires
-fixed-width-requires c κs = search needs
+code-width-requires : tie.Need-code-width-requires
+code-width-requires c κs = search needs
 
 copy-requires-2 : tie.Need-copy-requires-2
-copy-requires-2 c κs = let k = wide-is (c .before .before .before .before .before .before .args .payload .now) (c .before .before .before .before .before .before .args .code) (c .before .before .before .before .before .before .args .size) 0 0 _ (c .before .before .before .if1 .left) (c .before .before .fixed-width .ensures .0) (c .before .if2 .taken) in (omega (arith, k .kept, c .before .before .before .before .before .before .pre), omega (arith, k .long, c .before .before .before .before .before .before .pre))
+copy-requires-2 c κs = let k = wide-is (c .before .before .before .before .before .before .args .payload .now) (c .before .before .before .before .before .before .args .code) (c .before .before .before .before .before .before .args .size) 0 0 _ (c .before .before .before .if1 .left) (c .before .before .code-width .ensures .0) (c .before .if2 .taken) in (omega (arith, k .kept, c .before .before .before .before .before .before .pre), omega (arith, k .long, c .before .before .before .before .before .before .pre))
 
 add-t25 : tie.Need-add-t25
 add-t25 c = search needs
@@ -52,10 +52,10 @@ same-length-2 : tie.Need-same-length-2
 same-length-2 c = search needs
 
 returns-2 : tie.Need-returns-2
-returns-2 c = leaf-put _ _ _ _ _ _ _ _ (wide-is _ _ _ _ _ _ (c .before .before .before .before .before .before .if1 .left) (c .before .before .before .before .before .fixed-width .ensures .0) (c .before .before .before .before .if2 .taken)) _ _ _ _ _ refl (c .before .before .copy2 .ensures)
+returns-2 c = leaf-put _ _ _ _ _ _ _ _ (wide-is _ _ _ _ _ _ (c .before .before .before .before .before .before .if1 .left) (c .before .before .before .before .before .code-width .ensures .0) (c .before .before .before .before .if2 .taken)) _ _ _ _ _ refl (c .before .before .copy2 .ensures)
 
 put-number-requires : tie.Need-put-number-requires
-put-number-requires c κs = let k = narrow-is (c .before .before .before .before .before .before .args .payload .now) (c .before .before .before .before .before .before .args .code) (c .before .before .before .before .before .before .args .size) 0 0 _ (c .before .before .before .if1 .left) (c .before .before .fixed-width .ensures .0) (c .before .if2 .left) in omega (arith, k .long, c .before .before .before .before .before .before .pre)
+put-number-requires c κs = let k = narrow-is (c .before .before .before .before .before .before .args .payload .now) (c .before .before .before .before .before .before .args .code) (c .before .before .before .before .before .before .args .size) 0 0 _ (c .before .before .before .if1 .left) (c .before .before .code-width .ensures .0) (c .before .if2 .left) in omega (arith, k .long, c .before .before .before .before .before .before .pre)
 
 add-t31 : tie.Need-add-t31
 add-t31 c = search needs
@@ -67,7 +67,7 @@ same-length-3 : tie.Need-same-length-3
 same-length-3 c = search needs
 
 returns-3 : tie.Need-returns-3
-returns-3 c = leaf-put _ _ _ _ _ _ _ _ (narrow-is _ _ _ _ _ _ (c .before .before .before .before .before .before .if1 .left) (c .before .before .before .before .before .fixed-width .ensures .0) (c .before .before .before .before .if2 .left)) _ _ _ _ _ (rw (add-zero)) (c .before .before .put-number .ensures)
+returns-3 c = leaf-put _ _ _ _ _ _ _ _ (narrow-is _ _ _ _ _ _ (c .before .before .before .before .before .before .if1 .left) (c .before .before .before .before .before .code-width .ensures .0) (c .before .before .before .before .if2 .left)) _ _ _ _ _ (rw (add-zero)) (c .before .before .put-number .ensures)
 
 pub put-leaf-spec : {M : Type 1} → statement M
 put-leaf-spec =
@@ -82,7 +82,7 @@ put-leaf-spec =
     add-t21
     same-length
     returns
-    fixed-width-requires
+    code-width-requires
     copy-requires-2
     add-t25
     add-t26

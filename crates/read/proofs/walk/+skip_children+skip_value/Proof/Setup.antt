@@ -17,12 +17,12 @@ use Rattle.record.proofs.node.node_children.Reads as node-children-reads
 use Rattle.record.proofs.node.node_code.Reads as node-code-reads
 use Rattle.record.proofs.node.node_first.Reads as node-first-reads
 
--- the children step calls the node step at its own depth, and the node step the children step at one less
+-- the node step calls the children step at its own depth, and the children step the node step at one less
 abbrev pub μ-skip-children : Measures 2 skip-children-kinds.ps ℕ
-μ-skip-children κs a = 2 * a .1 .1 .1 .0 + 1
+μ-skip-children κs a = 2 * a .1 .1 .1 .0
 
 abbrev pub μ-skip-value : Measures 2 skip-value-kinds.ps ℕ
-μ-skip-value κs a = 2 * a .1 .1 .0
+μ-skip-value κs a = 2 * a .1 .1 .0 + 1
 
 abbrev pub skip-children-at : ℕ → In 2 skip-children-kinds.ps
 skip-children-at t = and 2 skip-children-kinds.ps (is 2 skip-children-kinds.ps μ-skip-children t) skip-children.Pre

@@ -20,7 +20,7 @@ abbrev pub Inv-loop : lts.InvT-loop
 Inv-loop block code node depth input charge first count q₀ i₀ q i =
     (i ≤ count + q .at) × (Ready input charge q
     × ((enough : ℕ) × (Fuelled (shapeOf code) (length input - q .at) enough
-    × (steps input (skim block input charge depth) code first count (shapeOf code) i enough q ≡ skimNode block input (skim block input charge depth) node q₀))))
+    × (steps input (skim block input charge (depth - 1)) code first count (shapeOf code) i enough q ≡ skimNode block input (skim block input charge (depth - 1)) node q₀))))
 
 abbrev pub μ-loop : lts.MeasureT-loop
 μ-loop block code node depth input charge first count q₀ i₀ q i = count - i + (length input - q .at)
@@ -28,12 +28,12 @@ abbrev pub μ-loop : lts.MeasureT-loop
 module _ (t : ℕ) where
   -- the node's children lie in the block
   inside : (c : lts.After-node-children (skip-children-calls t) (skip-children-at t) skip-children.Post Inv-loop μ-loop) → nodeStart (c .before .node-first .result + c .node-children .result) ≤ length (c .before .before .before .before .args .block .now)
-  inside c = node-children _ _ _ _ _ (c .before .before .before .before .pre .1 .0) (c .before .node-first .ensures) (c .node-children .ensures)
+  inside c = node-children _ _ _ _ _ (c .before .before .before .before .pre .1 .1) (c .before .node-first .ensures) (c .node-children .ensures)
 
   -- what the next child tells
   child : (c : lts.After-known-told (skip-children-calls t) (skip-children-at t) skip-children.Post Inv-loop μ-loop) → let s = c .before .before .before .before .before .before .before .before .before .before .args in let l = c .before .before .before .before .before .loop in
       Moved (shapeOf (s .code)) (length (s .input .now)) (c .before .before .before .before .before .before .before .node-first .result) (c .before .before .before .before .before .before .node-children .result) (l .i) (l .q .at) (c .before .pick .given .0 .0) (c .before .pick .given .0 .1 .0)
-  child c = let l = c .before .before .before .before .before .loop .inv in picked-child _ _ _ _ _ _ (l .1 .0 .stands .within) (l .0) _ (wide-shape _ (c .before .before .before .before .before .before .before .before .before .before .pre .1 .1)) _ _ _ (c .before .before .before .next-child .ensures) (c .before .pick .given .1)
+  child c = let l = c .before .before .before .before .before .loop .inv in picked-child _ _ _ _ _ _ (l .1 .0 .stands .within) (l .0) _ (wide-shape _ (c .before .before .before .before .before .before .before .before .before .before .pre .1 .2)) _ _ _ (c .before .before .before .next-child .ensures) (c .before .pick .given .1)
 
   -- where it may start
   enters : (c : lts.After-known-told (skip-children-calls t) (skip-children-at t) skip-children.Post Inv-loop μ-loop) → let s = c .before .before .before .before .before .before .before .before .before .before .args in
@@ -58,21 +58,24 @@ module _ (t : ℕ) where
   loop-holds c =
       let s = c .before .before .before .before in
       let a = s .args in
-      (omega arith, (s .pre .1 .2, (suc (length (a .input .now) - a .p .at), (fuel-all _ _, node-start _ _ _ _ _ (s .pre .1 .0) (c .before .node-first .ensures) (c .node-children .ensures) _ _ _ (s .pre .1 .1)))))
+      (omega arith, (s .pre .1 .3, (suc (length (a .input .now) - a .p .at), (fuel-all _ _, node-start _ _ _ _ _ (s .pre .1 .1) (c .before .node-first .ensures) (c .node-children .ensures) _ _ _ (s .pre .1 .2)))))
 
   pub next-child-requires : lts.Need-next-child-requires (skip-children-calls t) (skip-children-at t) skip-children.Post Inv-loop μ-loop
   next-child-requires c κs =
       let k = inside (c .before .before) in
-      (c .before .before .before .before .before .before .pre .1 .1, node-code _ _ _ _ _ (c .before .before .before .before .before .before .pre .1 .0) (c .before .before .before .node-first .ensures) (c .before .before .node-children .ensures), omega (arith, k), c .before .loop .inv .1 .0 .stands .within)
+      (c .before .before .before .before .before .before .pre .1 .2, node-code _ _ _ _ _ (c .before .before .before .before .before .before .pre .1 .1) (c .before .before .before .node-first .ensures) (c .before .before .node-children .ensures), omega (arith, k), c .before .loop .inv .1 .0 .stands .within)
 
   pub enum-known-pick : lts.Need-enum-known-pick (skip-children-calls t) (skip-children-at t) skip-children.Post Inv-loop μ-loop
   enum-known-pick c = search needs
+
+  pub sub-skip-value : lts.Need-sub-skip-value (skip-children-calls t) (skip-children-at t) skip-children.Post Inv-loop μ-loop
+  sub-skip-value c = search needs
 
   pub skip-value-requires : lts.Need-skip-value-requires (skip-children-calls t) (skip-children-at t) skip-children.Post Inv-loop μ-loop
   skip-value-requires c κs =
       let s = c .before .before .before .before .before .before .before .before .before .before in
       let k = inside (c .before .before .before .before .before .before) in
-      (omega arith, (s .pre .1 .0 .sound, omega (arith, k, child c .high), enters c))
+      (omega (arith, s .pre .0, s .pre .1 .0), (s .pre .1 .1 .sound, omega (arith, k, child c .high), enters c))
 
   pub enum-known-s : lts.Need-enum-known-s (skip-children-calls t) (skip-children-at t) skip-children.Post Inv-loop μ-loop
   enum-known-s c = search needs

@@ -41,9 +41,6 @@ module _ (t : ℕ) where
   pub node-code-requires : lts.Need-node-code-requires (skip-value-calls t) (skip-value-at t) skip-value.Post
   node-code-requires c κs = search needs
 
-  pub sub-leaf-at : lts.Need-sub-leaf-at (skip-value-calls t) (skip-value-at t) skip-value.Post
-  sub-leaf-at c = search needs
-
   pub leaf-at-requires : lts.Need-leaf-at-requires (skip-value-calls t) (skip-value-at t) skip-value.Post
   leaf-at-requires c κs = (record { sound = c .before .before .before .before .before .before .before .before .before .before .pre .1 .0; inside = c .before .before .before .before .before .before .before .before .before .before .pre .1 .1; is = c .node-code .ensures }, ready-paid _ _ _ _ _ (c .before .before .before .before .before .before .before .before .before .before .pre .1 .2) (c .before .before .before .before .before .charge .ensures) (c .before .before .before .paid .given .1))
 
@@ -65,11 +62,8 @@ module _ (t : ℕ) where
   pub enum-told-3 : lts.Need-enum-told-3 (skip-value-calls t) (skip-value-at t) skip-value.Post
   enum-told-3 c = search needs
 
-  pub sub-skip-children : lts.Need-sub-skip-children (skip-value-calls t) (skip-value-at t) skip-value.Post
-  sub-skip-children c = search needs
-
   pub skip-children-requires : lts.Need-skip-children-requires (skip-value-calls t) (skip-value-at t) skip-value.Post
-  skip-children-requires c κs = (omega (arith, c .before .before .before .before .before .before .before .before .before .before .before .before .before .pre .0, c .before .before .before .before .before .before .before .before .before .before .if1 .left), (record { sound = c .before .before .before .before .before .before .before .before .before .before .before .before .before .pre .1 .0; inside = c .before .before .before .before .before .before .before .before .before .before .before .before .before .pre .1 .1; is = c .before .before .before .node-code .ensures }, rw (c .before .before .before .node-code .ensures) (reached-children _ _ _ _ _ _ (c .before .before .leaf-at .ensures) (c .enum-told3 .given .1)), ready-paid _ _ _ _ _ (c .before .before .before .before .before .before .before .before .before .before .before .before .before .pre .1 .2) (c .before .before .before .before .before .before .before .before .charge .ensures) (c .before .before .before .before .before .before .paid .given .1)))
+  skip-children-requires c κs = (omega (arith, c .before .before .before .before .before .before .before .before .before .before .before .before .before .pre .0), (omega (arith, c .before .before .before .before .before .before .before .before .before .before .if1 .left), record { sound = c .before .before .before .before .before .before .before .before .before .before .before .before .before .pre .1 .0; inside = c .before .before .before .before .before .before .before .before .before .before .before .before .before .pre .1 .1; is = c .before .before .before .node-code .ensures }, rw (c .before .before .before .node-code .ensures) (reached-children _ _ _ _ _ _ (c .before .before .leaf-at .ensures) (c .enum-told3 .given .1)), ready-paid _ _ _ _ _ (c .before .before .before .before .before .before .before .before .before .before .before .before .before .pre .1 .2) (c .before .before .before .before .before .before .before .before .charge .ensures) (c .before .before .before .before .before .before .paid .given .1)))
 
   pub enum-known-s-2 : lts.Need-enum-known-s-2 (skip-value-calls t) (skip-value-at t) skip-value.Post
   enum-known-s-2 c = search needs

@@ -1,8 +1,8 @@
 use borrow.Author.Tests.{not-true, not-false}
 use Rattle.read.specs.Children.{shapeOf}
-use Rattle.write.specs.Table.{endOf, standing}
-use Rattle.write.specs.Judging.{passed, judgedAt}
-use Rattle.write.proofs.Going.{closing-short, Going, known, wrong-count, begins, bounds, ends-there, there, asks, no-pick, narrow, child, no-child, goes-on, whole-inside, whole-deep}
+use Rattle.write.specs.Table.{wholeEnd, valueStandingAt}
+use Rattle.write.specs.Judging.{judgePos, judgedAt}
+use Rattle.write.proofs.Going.{closing-short, Going, known, wrong-count, begins, bounds, ends-there, there, asks, no-pick, narrow, child, no-child-fits, goes-on, whole-inside, whole-deep}
 use borrow.Author.Needs.{needs}
 use native.Mathlib.Omega.{arith}
 use Prim.Native.Nat.{ℕ, _-_}
@@ -13,8 +13,8 @@ use Rattle.write.proofs.judge.+judge_children+judge_value.Proof.Setup.{
 
 abbrev pub Inv-loop : lts.InvT-loop
 Inv-loop block node code depth max-blob-bytes records payload size first count own q₀ i₀ q i =
-    let p = passed own (q₀ .from) (q₀ .bytes) in
-    Going block max-blob-bytes node records payload (shapeOf code) (depth - 1) size (endOf (standing records payload depth own (q₀ .from))) (judgedAt block max-blob-bytes node depth records payload p) q i
+    let p = judgePos own (q₀ .from) (q₀ .bytes) in
+    Going block max-blob-bytes node records payload (shapeOf code) (depth - 1) size (wholeEnd (valueStandingAt records payload depth own (q₀ .from))) (judgedAt block max-blob-bytes node depth records payload p) q i
 
 abbrev pub μ-loop : lts.MeasureT-loop
 μ-loop block node code depth max-blob-bytes records payload size first count own q₀ i₀ q i = size - i
@@ -50,11 +50,11 @@ module _ (t : ℕ) where
   pub enum-told : lts.Need-enum-told (judge-children-calls t) (judge-children-at t) judge-children.Post Inv-loop μ-loop
   enum-told c = search needs
 
-  pub no-child-requires : lts.Need-no-child-requires (judge-children-calls t) (judge-children-at t) judge-children.Post Inv-loop μ-loop
-  no-child-requires c κs = search needs
+  pub judged-refused-by-choice-requires : lts.Need-judged-refused-by-choice-requires (judge-children-calls t) (judge-children-at t) judge-children.Post Inv-loop μ-loop
+  judged-refused-by-choice-requires c κs = search needs
 
   pub returns-2 : lts.Need-returns-2 (judge-children-calls t) (judge-children-at t) judge-children.Post Inv-loop μ-loop
-  returns-2 c = c .no-child .ensures _ (c .before .enum-told .given .1) ∙ no-pick _ _ _ _ _ _ _ (c .before .before .before .before .before .before .before .before .before .before .before .before .before .before .pre .1 .0) _ _ (c .before .before .before .before .before .before .before .before .before .before .before .before .before .before .pre .1 .1) _ _ (c .before .before .before .before .before .before .before .before .before .before .node-first .ensures) (c .before .before .before .before .before .before .before .before .before .node-children .ensures) _ (c .before .before .before .before .before .before .before .before .count-fits .ensures) (not-false (c .before .before .before .before .before .before .before .before .count-fits .result) (c .before .before .before .before .before .before .before .if1 .left)) (c .before .before .before .before .before .before .loop .inv) (c .before .before .before .before .before .loop-test .taken) _ (c .before .before .before .before .value-record-at .ensures) _ (c .before .before .before .next-child .ensures) _ (c .before .enum-told .given .1)
+  returns-2 c = c .judged-refused-by-choice .ensures _ (c .before .enum-told .given .1) ∙ no-pick _ _ _ _ _ _ _ (c .before .before .before .before .before .before .before .before .before .before .before .before .before .before .pre .1 .0) _ _ (c .before .before .before .before .before .before .before .before .before .before .before .before .before .before .pre .1 .1) _ _ (c .before .before .before .before .before .before .before .before .before .before .node-first .ensures) (c .before .before .before .before .before .before .before .before .before .node-children .ensures) _ (c .before .before .before .before .before .before .before .before .count-fits .ensures) (not-false (c .before .before .before .before .before .before .before .before .count-fits .result) (c .before .before .before .before .before .before .before .if1 .left)) (c .before .before .before .before .before .before .loop .inv) (c .before .before .before .before .before .loop-test .taken) _ (c .before .before .before .before .value-record-at .ensures) _ (c .before .before .before .next-child .ensures) _ (c .before .enum-told .given .1)
 
   pub add-t30 : lts.Need-add-t30 (judge-children-calls t) (judge-children-at t) judge-children.Post Inv-loop μ-loop
   add-t30 c = omega (arith, bounds _ _ _ _ _ _ _ (c .before .before .before .before .before .before .before .before .before .before .before .before .before .before .before .pre .1 .0) _ _ (c .before .before .before .before .before .before .before .before .before .before .before .before .before .before .before .pre .1 .1) _ _ (c .before .before .before .before .before .before .before .before .before .before .before .node-first .ensures) (c .before .before .before .before .before .before .before .before .before .before .node-children .ensures) _ (c .before .before .before .before .before .before .before .before .before .count-fits .ensures) (not-false (c .before .before .before .before .before .before .before .before .before .count-fits .result) (c .before .before .before .before .before .before .before .before .if1 .left)) (c .before .before .before .before .before .before .before .loop .inv), narrow _ _ _ _ _ _ _ (c .before .before .before .before .before .before .before .before .before .before .before .before .before .before .before .pre .1 .0) _ _ (c .before .before .before .before .before .before .before .before .before .before .before .before .before .before .before .pre .1 .1) _ _ (c .before .before .before .before .before .before .before .before .before .before .before .node-first .ensures) (c .before .before .before .before .before .before .before .before .before .before .node-children .ensures) _ (c .before .before .before .before .before .before .before .before .before .count-fits .ensures) (not-false (c .before .before .before .before .before .before .before .before .before .count-fits .result) (c .before .before .before .before .before .before .before .before .if1 .left)) (c .before .before .before .before .before .before .before .loop .inv) (c .before .before .before .before .before .before .loop-test .taken) _ (c .before .before .before .before .before .value-record-at .ensures) _ (c .before .before .before .before .next-child .ensures) _ _ (c .before .before .pick .given .1))
@@ -71,11 +71,11 @@ module _ (t : ℕ) where
   pub enum-told-2 : lts.Need-enum-told-2 (judge-children-calls t) (judge-children-at t) judge-children.Post Inv-loop μ-loop
   enum-told-2 c = search needs
 
-  pub refused-requires : lts.Need-refused-requires (judge-children-calls t) (judge-children-at t) judge-children.Post Inv-loop μ-loop
-  refused-requires c κs = search needs
+  pub judged-refused-by-child-requires : lts.Need-judged-refused-by-child-requires (judge-children-calls t) (judge-children-at t) judge-children.Post Inv-loop μ-loop
+  judged-refused-by-child-requires c κs = search needs
 
   pub returns-3 : lts.Need-returns-3 (judge-children-calls t) (judge-children-at t) judge-children.Post Inv-loop μ-loop
-  returns-3 c = c .refused .ensures _ (c .before .enum-told2 .given .1) ∙ no-child _ _ _ _ _ _ _ (c .before .before .before .before .before .before .before .before .before .before .before .before .before .before .before .before .before .before .before .pre .1 .0) _ _ (c .before .before .before .before .before .before .before .before .before .before .before .before .before .before .before .before .before .before .before .pre .1 .1) _ _ (c .before .before .before .before .before .before .before .before .before .before .before .before .before .before .before .node-first .ensures) (c .before .before .before .before .before .before .before .before .before .before .before .before .before .before .node-children .ensures) _ (c .before .before .before .before .before .before .before .before .before .before .before .before .before .count-fits .ensures) (not-false (c .before .before .before .before .before .before .before .before .before .before .before .before .before .count-fits .result) (c .before .before .before .before .before .before .before .before .before .before .before .before .if1 .left)) (c .before .before .before .before .before .before .before .before .before .before .before .loop .inv) (c .before .before .before .before .before .before .before .before .before .before .loop-test .taken) _ (c .before .before .before .before .before .before .before .before .before .value-record-at .ensures) _ (c .before .before .before .before .before .before .before .before .next-child .ensures) _ _ (c .before .before .before .before .before .before .pick .given .1) _ (c .before .before .before .judge-value .ensures) _ (c .before .enum-told2 .given .1)
+  returns-3 c = c .judged-refused-by-child .ensures _ (c .before .enum-told2 .given .1) ∙ no-child-fits _ _ _ _ _ _ _ (c .before .before .before .before .before .before .before .before .before .before .before .before .before .before .before .before .before .before .before .pre .1 .0) _ _ (c .before .before .before .before .before .before .before .before .before .before .before .before .before .before .before .before .before .before .before .pre .1 .1) _ _ (c .before .before .before .before .before .before .before .before .before .before .before .before .before .before .before .node-first .ensures) (c .before .before .before .before .before .before .before .before .before .before .before .before .before .before .node-children .ensures) _ (c .before .before .before .before .before .before .before .before .before .before .before .before .before .count-fits .ensures) (not-false (c .before .before .before .before .before .before .before .before .before .before .before .before .before .count-fits .result) (c .before .before .before .before .before .before .before .before .before .before .before .before .if1 .left)) (c .before .before .before .before .before .before .before .before .before .before .before .loop .inv) (c .before .before .before .before .before .before .before .before .before .before .loop-test .taken) _ (c .before .before .before .before .before .before .before .before .before .value-record-at .ensures) _ (c .before .before .before .before .before .before .before .before .next-child .ensures) _ _ (c .before .before .before .before .before .before .pick .given .1) _ (c .before .before .before .judge-value .ensures) _ (c .before .enum-told2 .given .1)
 
   pub add-i : lts.Need-add-i (judge-children-calls t) (judge-children-at t) judge-children.Post Inv-loop μ-loop
   add-i c = omega (arith, c .before .before .before .before .before .before .before .before .before .before .loop-test .taken, c .before .before .before .before .before .before .before .before .before .before .before .before .before .before .before .before .before .before .before .fits)

@@ -16,8 +16,8 @@ use Rattle.write.proofs.judge.count_fits.Reads as count-fits-reads
 use Rattle.write.proofs.judge.judge_leaf.Reads as judge-leaf-reads
 use Rattle.write.proofs.judge.kind_of.Reads as kind-of-reads
 use Rattle.write.proofs.judge.next_child.Reads as next-child-reads
-use Rattle.write.proofs.judge.no_child.Reads as no-child-reads
-use Rattle.write.proofs.judge.refused.Reads as refused-reads
+use Rattle.write.proofs.judge.judged_refused_by_choice.Reads as judged-refused-by-choice-reads
+use Rattle.write.proofs.judge.judged_refused_by_child.Reads as judged-refused-by-child-reads
 
 abbrev pub μ-judge-children : Measures 3 judge-children-kinds.ps ℕ
 μ-judge-children κs a = 2 * a .1 .1 .1 .0
@@ -38,7 +38,7 @@ abbrev pub judge-value-below : ℕ → In 3 judge-value-kinds.ps
 judge-value-below t = and 3 judge-value-kinds.ps (falls 3 judge-value-kinds.ps _<_ μ-judge-value t) judge-value.Pre
 
 abbrev pub judge-children-calls : ℕ → judge-children-lts.Claims
-judge-children-calls t = (node-first-reads.Asked, node-first-reads.Learnt, node-children-reads.Asked, node-children-reads.Learnt, count-fits-reads.Asked, count-fits-reads.Learnt, value-record-at-reads.Asked, value-record-at-reads.Learnt, next-child-reads.Asked, next-child-reads.Learnt, no-child-reads.Asked, no-child-reads.Learnt, judge-value-below t, judge-value.Post, refused-reads.Asked, refused-reads.Learnt, closing-reads.Asked, closing-reads.Learnt)
+judge-children-calls t = (node-first-reads.Asked, node-first-reads.Learnt, node-children-reads.Asked, node-children-reads.Learnt, count-fits-reads.Asked, count-fits-reads.Learnt, value-record-at-reads.Asked, value-record-at-reads.Learnt, next-child-reads.Asked, next-child-reads.Learnt, judged-refused-by-choice-reads.Asked, judged-refused-by-choice-reads.Learnt, judge-value-below t, judge-value.Post, judged-refused-by-child-reads.Asked, judged-refused-by-child-reads.Learnt, closing-reads.Asked, closing-reads.Learnt)
 
 abbrev pub judge-value-calls : ℕ → judge-value-lts.Claims
 judge-value-calls t = (value-record-at-reads.Asked, value-record-at-reads.Learnt, node-code-reads.Asked, node-code-reads.Learnt, kind-of-reads.Asked, kind-of-reads.Learnt, judge-leaf-reads.Asked, judge-leaf-reads.Learnt, judge-children-below t, judge-children.Post)

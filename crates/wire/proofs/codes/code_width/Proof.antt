@@ -1,12 +1,12 @@
 use native.Mathlib.Omega.{arith}
 use Rattle.rules.specs.Wire.{wireTypes, typeIn, typeOf, written, writtenIf, form, widthOf}
 use Rattle.wire.proofs.CodeTable.{past}
-use Rattle.wire.proofs.codes.fixed_width.Statement.{statement}
-use Rattle.wire.proofs.codes.fixed_width.Tie as tie
+use Rattle.wire.proofs.codes.code_width.Statement.{statement}
+use Rattle.wire.proofs.codes.code_width.Tie as tie
 
-pub fixed-width-spec : {M : Type 1} → statement M
+pub code-width-spec : {M : Type 1} → statement M
 unfolding wireTypes typeIn typeOf written writtenIf form widthOf
-fixed-width-spec =
+code-width-spec =
     tie.close
     (tie.spec
     (λ c. (rw (c .match .keys1), omega arith))

@@ -6,8 +6,8 @@ use Rattle.rules.specs.Reading.{room}
 use Rattle.rules.specs.Writing.{encodeOk}
 use Rattle.encode.proofs.Laws.{within-both, beyond-both}
 use borrow.Author.Needs.{needs}
-use Rattle.encode.proofs.within_bounds.Statement.{statement}
-use Rattle.encode.proofs.within_bounds.Tie as tie
+use Rattle.encode.proofs.writing_within_bounds.Statement.{statement}
+use Rattle.encode.proofs.writing_within_bounds.Tie as tie
 
 within-bounds-requires : tie.Need-within-bounds-requires
 within-bounds-requires c κs = search needs
@@ -40,8 +40,8 @@ returns-7 : tie.Need-returns-7
 unfolding encodeOk _and_ room
 returns-7 c = rw (← c .before .before .before .before .before .before .within-bounds .ensures, not-false (c .before .before .before .before .before .before .within-bounds .result) (c .before .before .before .before .before .if1 .left), le-leb _ _ (c .before .before .before .before .if2 .left), le-leb _ _ (c .before .before .before .if3 .left), le-leb _ _ (c .before .before .if4 .left), le-leb _ _ (c .before .if5 .left)) (within-both _ _ _ (c .if6 .left))
 
-pub within-bounds-spec : {M : Type 1} → statement M
-within-bounds-spec =
+pub writing-within-bounds-spec : {M : Type 1} → statement M
+writing-within-bounds-spec =
     tie.close
     (tie.spec
     within-bounds-requires
