@@ -29,7 +29,7 @@ use Rattle.write.proofs.Putting.{Filling, reads-whole, right-kind, is-s
 use Rattle.write.proofs.Stored.{parted-node, leaf-room, leaf-placed}
 
 -- a variant has one child
-one-child : (v : Value) → Fits v → valueKind v ≡ 15 → sizeOf v ≡ 1
+pub one-child : (v : Value) → Fits v → valueKind v ≡ 15 → sizeOf v ≡ 1
 unfolding valueKind sizeOf Fits
 one-child nothing f e = absurd (omega (arith, e))
 one-child (boolean x) f e = absurd (omega (arith, e))

@@ -9,5 +9,6 @@ pub mod Root
 pub mod Putting
 pub mod Stored
 pub mod Leads
+pub mod Once
 pub mod Unlimited
 pub mod Rows
