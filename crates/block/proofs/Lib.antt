@@ -2,4 +2,5 @@ pub mod Turns
 pub mod Columns
 pub mod Parts
 pub mod Depth
+pub mod Level
 pub mod Stands

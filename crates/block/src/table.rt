@@ -10,6 +10,7 @@ use super::form::block_ok;
 use super::form::depth_of;
 use super::form::span_ok;
 use super::validation::check_root;
+use super::validation::level_rule;
 use super::validation::validate;
 use record::node::NODE_SIZE;
 use rules::Checked;
@@ -48,11 +49,21 @@ pub fn block_depth_ok(table: &[u8], first: u64, count: u64) -> bool
     depth_of(block_of(table, first, count)) <= 64
 }
 
+// The rules 4 and 5. A block of few records, which is never too deep, passes where each record passes, in whatever order they are asked:
+// the walk in preorder is made only where one does not, to say which comes first.
 pub fn block_rule(table: &[u8], first: u64, count: u64) -> Checked
     requires { ⌜ SoundBlock (now table) first count ⌝ }
     ensures { λ r. ⌜ r ≡ blockRule (now (table .entry)) first count ⌝ }
 {
-    validate(block_of(table, first, count), first, 64, 0)
+    let s = block_of(table, first, count);
+    if 64 < count {
+        return validate(s, first, 64, 0);
+    }
+    let level = level_rule(s, first);
+    let Checked::Accepted = level else {
+        return validate(s, first, 64, 0);
+    };
+    Checked::Accepted
 }
 
 pub fn block_root(table: &[u8], first: u64, count: u64, purpose: Purpose) -> Checked

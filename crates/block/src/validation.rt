@@ -4,7 +4,9 @@ ghost use Prim.Native.Nat.{_+_, _^_, _≤_, _<_};
 ghost use lib.ListN.{length};
 ghost use Rattle.rules.specs.Wire.{form, maximum};
 ghost use Rattle.rules.specs.Block.{nodeSize, NodeIn, records, Closed};
-ghost use Rattle.rules.specs.SchemaRules.{nodeRule, schemaRule, notTuple, rootRule, nameRule, tableRule};
+ghost use Rattle.rules.specs.Refusals.{inOrder};
+ghost use Rattle.rules.specs.SchemaRules.{nodeRule, ruleAt, schemaRule, notTuple, rootRule, nameRule, tableRule};
+use record::node::NODE_SIZE;
 use record::node::node_at;
 use rules::Checked;
 use rules::Children;
@@ -49,6 +51,23 @@ fn node_rule(place: u64, n: Node) -> Checked
         Children::Any => Checked::Accepted,
         Children::Unknown => Checked::Refused(Refusal::BAD_SCHEMA_TABLE),
     }
+}
+
+// The first refusal in level order: one loop over the records, where preorder takes a call for each.
+pub fn level_rule(s: &[u8], base: u64) -> Checked
+    requires { ⌜ base + records (now s) < 2 ^ 64 ⌝ }
+    ensures { λ r. ⌜ r ≡ inOrder (ruleAt (now (s .entry)) base) 0 (records (now (s .entry))) ⌝ }
+{
+    let m = (s.len() / NODE_SIZE) as u64;
+    let mut i = 0;
+    while i < m {
+        let own = node_rule(base + i, node_at(s, i));
+        let Checked::Accepted = own else {
+            return own;
+        };
+        i += 1;
+    }
+    Checked::Accepted
 }
 
 // The first refusal in preorder: a node before its children, its children in order. `base` is the block's first record in

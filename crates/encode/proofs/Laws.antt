@@ -5,12 +5,13 @@ use mathlib.Core.Path.{_≡_, refl, sym, _∙_}
 use mathlib.Core.Bool.{Bool, true, false}
 use mathlib.Core.List.{List}
 use native.Mathlib.Omega.{arith}
-use borrow.Author.Tests.{leb-true, leb-false, le-leb, lt-leb}
+use borrow.Author.Tests.{leb-true, leb-false, le-leb, lt-leb, eqb-true}
 use lib.Dec.{leb}
 use lib.ListN.{length}
 use Rattle.rules.specs.Choice.{pick, _and_}
 use Rattle.rules.specs.Refusals.{_then_, Setting, BadValueTable}
-use Rattle.rules.specs.Block.{records, block}
+use Rattle.rules.specs.Block.{records, block, nodeAt}
+use Rattle.rules.specs.SchemaRules.{rootRule, tableRule}
 use Rattle.rules.specs.Format.{oneBlock, encoderRules}
 use Rattle.rules.specs.Value.{Value}
 use Rattle.rules.specs.ValueTable.{Parsed, Whole, Broken, tableValue}
@@ -46,6 +47,13 @@ beyond-both p n m h = lt-leb p (min n m) (omega arith)
 accepted-formed : (table names : List ℕ) (first n : ℕ) → encoderRules table names first n ≡ Accepted → FormedBlock table names first n
 unfolding encoderRules oneBlock
 accepted-formed table names first n e = form-accepts table names first n .0 (and-both _ _ (pick-accepted _ _ _ e .0) .1)
+
+-- and its root is a tuple
+accepted-tuple : (table names : List ℕ) (first n : ℕ) → encoderRules table names first n ≡ Accepted → nodeAt (block table first n) 0 .code ≡ 19
+unfolding encoderRules oneBlock tableRule rootRule
+accepted-tuple table names first n e =
+    let rules = pick-accepted _ _ _ (pick-accepted _ _ _ e .1) .1 in
+    eqb-true _ _ (pick-accepted _ _ _ (then-both _ _ (then-both _ _ rules .1) .0) .0)
 
 -- an accepted value table is whole
 accepted-whole : (p : Parsed Value) → formChecked p ≡ Accepted → IsWhole p
@@ -108,6 +116,7 @@ module _ (s : Settings) (table names : List ℕ) (first n : ℕ) (recs pay out :
           record {
             sound = formed-sound (block table first n) (length names) (formed .formed);
             root = omega (arith, formed .formed .order .size);
+            tuple = accepted-tuple table names first n (accepted .0);
             whole = whole;
             short = omega arith;
             small = omega arith;

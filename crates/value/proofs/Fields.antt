@@ -3,12 +3,10 @@
 use Prim.Native.Nat.{ℕ, _+_, _-_, _^_, _≤_, _<_}
 use mathlib.Core.Path.{_≡_, refl, sym}
 use mathlib.Core.Bool.{Bool, true, false}
-use mathlib.Core.List.{[], _∷_}
 use mathlib.Core.Logic.{⊎-elim}
 use native.Mathlib.Omega.{arith}
 use borrow.Author.Tests.{eqb-true, ltb-true, leb-true, lt-ltb, le-ltb, ne-eqb}
 use lib.Dec.{ltb, leb, eqb}
-use lib.ListN.{getD}
 use Rattle.rules.specs.Choice.{pick, _and_, all}
 use Rattle.rules.specs.Wire.{Form, empty, truth, fixed, raw, sized, variant-form, repeated-form, tuple-form, unknown, form, widthOf, wireTypes, typeIn, typeOf, written, writtenIf}
 use Rattle.rules.specs.declared.table_record.ValueRecord.{ValueRecord}
@@ -17,11 +15,6 @@ use Rattle.rules.proofs.Codes.{every-form}
 use Rattle.wire.proofs.CodeTable.{two}
 use Rattle.rules.specs.Query.{scalarAlone}
 use Rattle.value.specs.Records.{storedOk, hasPayload, scalarOk, recordOk}
-
--- the first number that w bytes do not hold
-pub past-is : (w : ℕ) → w ≤ 7 → getD (1 ∷ 256 ∷ 65536 ∷ 16777216 ∷ 4294967296 ∷ 1099511627776 ∷ 281474976710656 ∷ 72057594037927936 ∷ []) w 0 ≡ 256 ^ w
-unfolding all _and_
-past-is w h = eqb-true _ _ (all-each (λ i. eqb (getD (1 ∷ 256 ∷ 65536 ∷ 16777216 ∷ 4294967296 ∷ 1099511627776 ∷ 281474976710656 ∷ 72057594037927936 ∷ []) i 0) (256 ^ i)) 8 w refl (omega arith))
 
 -- ---- scalars
 

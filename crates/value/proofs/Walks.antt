@@ -5,14 +5,14 @@ use mathlib.Core.Path.{_≡_, refl, sym, _∙_}
 use mathlib.Core.Bool.{Bool, true, false}
 use mathlib.Core.List.{List}
 use native.Mathlib.Omega.{arith}
-use borrow.Author.Tests.{lt-ltb, le-ltb, ltb-true}
+use borrow.Author.Tests.{lt-ltb, le-ltb, ltb-true, eq-eqb, eqb-true}
 use lib.Dec.{ltb}
 use lib.ListN.{length}
 use Rattle.rules.specs.Choice.{pick, _and_}
 use Rattle.rules.specs.ValueRecord.{valueRecordsIn, valueRecordAt}
 use Rattle.rules.specs.declared.table_record.ValueRecord.{ValueRecord}
 use Rattle.rules.proofs.Tests.{and-both, either}
-use Rattle.value.specs.Records.{recordOk}
+use Rattle.value.specs.Records.{parentOk, recordOk}
 use Rattle.value.specs.Walk.{_>>=_, past, nextRecord, walkChildren, walkOn, walkTable}
 use Rattle.value.specs.declared.TablePos.{TablePos}
 use Rattle.value.specs.declared.Walked.{Walked}
@@ -42,7 +42,27 @@ pub children-on : (child : TablePos → Walked) (n : ℕ) (p q : TablePos) (w : 
 unfolding _>>=_
 children-on child n p q w h e b = rw (children-more child n p h, ← e, b)
 
+-- one child is what it comes to
+pub children-one : (child : TablePos → Walked) (p : TablePos) → walkChildren child 1 p ≡ child p
+children-one child p = rw (children-more child 1 p (omega arith)) (by (child p))
+  where
+    by : (w : Walked) → w >>= (λ q. walkChildren child (1 - 1) q) ≡ w
+    by (At q) = unfold _>>=_ in children-none child (1 - 1) q (omega arith)
+    by Broken = unfold _>>=_ in refl
+
 -- ---- the node step
+
+-- a variant has one child
+variant-size : (r : ValueRecord) (tagged : Bool) (from store : ℕ) → r .kind ≡ 15 → recordOk r tagged from store ≡ true → r .size ≡ 1
+unfolding recordOk parentOk pick
+variant-size r tagged from store k e =
+    let a = and-both _ _ e .1 in
+    let f : parentOk (r .kind) (r .size) (r .content) ≡ true = rw (le-ltb (r .kind) 15 (omega (arith, k))) at a in
+    eqb-true _ _ (rw (eq-eqb (r .kind) 15 k) at (and-both _ _ (and-both _ _ f .1) .1))
+
+-- no scalar is found
+pub broken-not : {A : Type 0} (q : TablePos) → Broken ≡ At q → A
+broken-not q e = let z : _≡_ {A = ℕ} 0 1 = cc in absurd (omega arith)
 
 module _ (table : List ℕ) (store d : ℕ) (tagged : Bool) (p : TablePos) where
   pub walk-none : d ≤ 0 → Broken ≡ walkTable table store d tagged p
@@ -88,6 +108,10 @@ module _ (table : List ℕ) (store d : ℕ) (tagged : Bool) (p : TablePos) where
       pub walk-parent : b ≡ true → 15 ≤ r .kind → (w : Walked) → w ≡ walkChildren (walkTable table store (d - 1) (ltb (r .kind) 17)) (r .size) (nextRecord p) → w ≡ walkTable table store d tagged p
       unfolding walkOn pick
       walk-parent f k w g = rw (walk-on f, le-ltb (r .kind) 15 k) g
+
+      -- a variant with a scalar below it
+      pub walk-variant : b ≡ true → r .kind ≡ 15 → (w : Walked) (q : TablePos) → w ≡ walkTable table store (d - 1) true (nextRecord p) → w ≡ At q → At q ≡ walkTable table store d tagged p
+      walk-variant f k w q g i = walk-parent f (omega (arith, k)) (At q) (rw (variant-size r tagged (p .from) store k (sym c ∙ f), lt-ltb (r .kind) 17 (omega (arith, k)), children-one (walkTable table store (d - 1) true) (nextRecord p)) (sym i ∙ g))
 
 -- ---- the walk stays in the store
 

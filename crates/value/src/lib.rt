@@ -33,27 +33,23 @@ pub enum Walked {
 
 // ---- one record
 
-// What the first number is that so many bytes do not hold.
-const PAST: [u64; 8] = [
-    1,
-    256,
-    65536,
-    16777216,
-    4294967296,
-    1099511627776,
-    281474976710656,
-    72057594037927936,
-];
-
-// Whether so many bytes hold a number: the bytes past a scalar's width are zeros.
+// Whether so many bytes hold a number: the bytes past a scalar's width are zeros. An arm for every width, from which the compiler makes
+// a jump; a table of the bounds would be written anew at each call.
 fn fits(x: u64, width: usize) -> bool
     requires { ⌜ width ≤ 8 ⌝ }
     ensures { λ b. ⌜ b ≡ ltb x (256 ^ width) ⌝ }
 {
-    if 7 < width {
-        return true;
+    match width {
+        0 => x < 1,
+        1 => x < 256,
+        2 => x < 65536,
+        3 => x < 16777216,
+        4 => x < 4294967296,
+        5 => x < 1099511627776,
+        6 => x < 281474976710656,
+        7 => x < 72057594037927936,
+        _ => true,
     }
-    x < PAST[width]
 }
 
 // Only a parent that chose the node by a tag leaves one in its record.
@@ -175,7 +171,34 @@ fn record_ok(r: ValueRecord, tagged: bool, from: usize, store: usize) -> bool
 
 // ---- a value
 
-// The node step. What has no children has its payload's length in the field for the size, or 0.
+// A scalar's record and its payload; or Broken, which says no more than that none is found there.
+fn walk_scalar(records: &[u8], store: usize, depth: usize, tagged: bool, p: TablePos) -> Walked
+    requires { ⌜ p .from ≤ store ⌝ }
+    ensures { λ r. ⌜ ((q : TablePos) → r ≡ Walked.At q → r ≡ walkTable (now (records .entry)) store depth tagged p) ⌝ }
+{
+    if depth == 0 {
+        return Walked::Broken;
+    }
+    let at = p.at;
+    let from = p.from;
+    if records_in(records.len() as u64) <= at as u64 {
+        return Walked::Broken;
+    }
+    let r = value_record_at(records, at);
+    if 14 < r.kind {
+        return Walked::Broken;
+    }
+    if !record_ok(r, tagged, from, store) {
+        return Walked::Broken;
+    }
+    Walked::At(TablePos {
+        at: at + 1,
+        from: from + r.size as usize,
+    })
+}
+
+// The node step. What has no children has its payload's length in the field for the size, or 0. A variant with a scalar below it, as an
+// optional column is, takes no children step.
 fn walk_value(records: &[u8], store: usize, depth: usize, tagged: bool, p: TablePos) -> Walked
     requires { ⌜ p .from ≤ store ⌝ }
     ensures { λ r. ⌜ r ≡ walkTable (now (records .entry)) store depth tagged p ⌝ }
@@ -201,7 +224,15 @@ fn walk_value(records: &[u8], store: usize, depth: usize, tagged: bool, p: Table
         });
     }
     let below = TablePos { at: at + 1, from };
-    let s = walk_children(records, store, depth, kind < 17, size, below);
+    if kind == 15 {
+        let leaf = walk_scalar(records, store, depth - 1, true, below);
+        if let Walked::At(q) = leaf {
+            return Walked::At(q);
+        }
+    }
+    // What a call lends has to lie in memory: copied here, so that a scalar is spared that.
+    let table = records;
+    let s = walk_children(table, store, depth, kind < 17, size, below);
     let Walked::At(q) = s else {
         return s;
     };
@@ -244,7 +275,8 @@ fn no_table() -> Checked
     })
 }
 
-// The form alone, the sizes left to a caller that has more to test before it.
+// The form alone, the sizes left to a caller that has more to test before it. The one tree is entered by the children step: so the node
+// step has one caller, is compiled into it, and a scalar costs no call.
 pub fn table_form(records: &[u8], payload: &[u8]) -> Checked
     ensures { λ r. ⌜ r ≡ tableForm (now (records .entry)) (now (payload .entry)) ⌝ }
 {
@@ -253,7 +285,7 @@ pub fn table_form(records: &[u8], payload: &[u8]) -> Checked
     if !whole_records(bytes) {
         return no_table();
     }
-    let s = walk_value(records, store, 64, false, TablePos { at: 0, from: 0 });
+    let s = walk_children(records, store, 65, false, 1, TablePos { at: 0, from: 0 });
     let Walked::At(end) = s else {
         return no_table();
     };

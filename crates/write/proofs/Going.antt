@@ -168,7 +168,7 @@ module _ (sch : List ℕ) (blob i : ℕ) (table store : List ℕ) where
       is-compound : 15 ≤ valueKind (wholeValue (valueStandingAt table store depth (p .at) (p .from)))
       is-compound = omega (arith, compound-kind code (o .compound) (rw (o .is) (k .sound .codes i (k .inside))), o .kind, kind-told table store (omega (arith, k .short)) whole-reads)
 
-      is-size : size ≡ sizeOf (wholeValue (valueStandingAt table store depth (p .at) (p .from)))
+      pub is-size : size ≡ sizeOf (wholeValue (valueStandingAt table store depth (p .at) (p .from)))
       is-size = o .count ∙ count-told table store (omega (arith, k .short)) whole-reads is-compound
 
       is-written : (count : ℕ) → count ≡ nodeAt sch i .children → write sch (only blob) (wholeValue (valueStandingAt table store depth (p .at) (p .from))) i (p .at)

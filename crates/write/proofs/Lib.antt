@@ -8,5 +8,7 @@ pub mod Leaves
 pub mod Root
 pub mod Putting
 pub mod Stored
+pub mod Leads
+pub mod Once
 pub mod Unlimited
 pub mod Rows

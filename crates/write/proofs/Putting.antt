@@ -219,7 +219,7 @@ module _ (sch : List ℕ) (i depth : ℕ) (table store : List ℕ) (p : WritePos
     is-compound : 15 ≤ valueKind (wholeValue (valueStandingAt table store depth (p .at) (p .from)))
     is-compound = rw (right-kind, ← (o .is)) (compound-kind code (o .compound) code-in)
 
-    is-size : size ≡ sizeOf (wholeValue (valueStandingAt table store depth (p .at) (p .from)))
+    pub is-size : size ≡ sizeOf (wholeValue (valueStandingAt table store depth (p .at) (p .from)))
     is-size = o .count ∙ count-told table store short reads-whole is-compound
 
     tested : (countOk (shapeOf code) size (nodeAt sch i .children) ≡ true) × (kids sch unlimited i (shapeOf code) (children (wholeValue (valueStandingAt table store depth (p .at) (p .from)))) 0 (p .at + 1) ≡ Put (putOf (written sch i depth table store (p .at) (p .from))))

@@ -116,7 +116,7 @@ module _ (sch table store : List ℕ) (s : Settings) (k : RowJudgeable sch table
 
           pub row-writable : RowWritable sch table store at (length out)
           unfolding IsPut
-          row-writable = record { sound = k .sound; root = k .root; whole = k .whole; short = k .short; accepted = rw free tt; fits = omega (arith, ap length bytes-are, leb-true (at + p .bytes) (min (length out) 4294967295) (there .0), ap (λ (u : JudgePos). u .bytes) (put .ends)) }
+          row-writable = record { sound = k .sound; root = k .root; tuple = k .tuple; whole = k .whole; short = k .short; accepted = rw free tt; fits = omega (arith, ap length bytes-are, leb-true (at + p .bytes) (min (length out) 4294967295) (there .0), ap (λ (u : JudgePos). u .bytes) (put .ends)) }
 
           pub row-left : (out′ : List ℕ) → out′ ≡ over out at (rowBytes sch table store) → out′ ≡ placedRow sch (limits s) table store out at .output
           row-left out′ q = q ∙ ap (over out at) bytes-are ∙ sym (there .1)

@@ -96,10 +96,11 @@ judgedAt sch blob i depth table store p =
 
 -- ---- a row
 
--- a sound block, and a value table whose form was accepted
+-- a sound block whose root is a tuple, and a value table whose form was accepted
 pub record RowJudgeable (sch table store : List ℕ) : Type 0 where
   pub sound : SoundNodes sch
   pub root : HasNode sch 0
+  pub tuple : nodeAt sch 0 .code ≡ 19
   pub whole : IsWhole (tableValue table store)
   pub short : length table < 2 ^ 32
   pub small : length store < 2 ^ 32

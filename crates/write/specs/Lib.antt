@@ -1,4 +1,5 @@
 pub mod Table
 pub mod Judging
 pub mod Putting
+pub mod Leads
 pub mod Row

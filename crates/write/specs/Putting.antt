@@ -100,10 +100,11 @@ pub record Placed (sch : List ℕ) (i depth : ℕ) (table store : List ℕ) (p q
 unfoldable pub rowBytes : List ℕ → List ℕ → List ℕ → List ℕ
 rowBytes sch table store = putOf (writeRow sch unlimited (wholeValue (tableValue table store)))
 
--- a sound block, a value table whose form and whose row were accepted, and room for the row
+-- a sound block whose root is a tuple, a value table whose form and whose row were accepted, and room for the row
 pub record RowWritable (sch table store : List ℕ) (at room : ℕ) : Type 0 where
   pub sound : SoundNodes sch
   pub root : HasNode sch 0
+  pub tuple : nodeAt sch 0 .code ≡ 19
   pub whole : IsWhole (tableValue table store)
   pub short : length table < 2 ^ 32
   pub accepted : IsPut (writeRow sch unlimited (wholeValue (tableValue table store)))

@@ -167,6 +167,58 @@ fn closing(code: u8) -> u64
     tag_width(code) as u64
 }
 
+// What a node with children comes to at once: what it takes, or nothing yet.
+pub enum AtOnce {
+    Fits(JudgePos),
+    Later,
+}
+
+// A variant with a leaf below it that fits is judged here: so an optional column takes no children step, as in the walks that read.
+// Whatever else there is, and every refusal, is left to that step.
+fn judge_at_once(
+    block: &[u8],
+    node: usize,
+    code: u8,
+    depth: usize,
+    max_blob_bytes: u64,
+    records: &[u8],
+    payload: &[u8],
+    p: JudgePos,
+    size: u64,
+) -> AtOnce
+    requires { ⌜ Judgeable (now block) node depth (now records) (now payload) p × Opened (now block) node code (now records) p size ⌝ }
+    ensures { λ r. ⌜ ((q : JudgePos) → r ≡ AtOnce.Fits q → Judged.Fits q ≡ judgedAt (now (block .entry)) «max_blob_bytes» node depth (now (records .entry)) (now (payload .entry)) p) ⌝ }
+{
+    if 16 < code {
+        return AtOnce::Later;
+    }
+    let first = node_first(block, node);
+    let count = node_children(block, node);
+    let at = p.at + 1;
+    let below = value_record_at(records, at);
+    let pick = next_child(code, first, count, 0, below.tag, at);
+    let Chosen::Child(child, width) = pick else {
+        return AtOnce::Later;
+    };
+    let leaf = node_code(block, child);
+    if 14 < leaf {
+        return AtOnce::Later;
+    }
+    if below.kind != leaf {
+        return AtOnce::Later;
+    }
+    let start = JudgePos {
+        at,
+        from: p.from,
+        bytes: p.bytes + width,
+    };
+    let j = judge_leaf(leaf, below.size, max_blob_bytes, start);
+    let Judged::Fits(q) = j else {
+        return AtOnce::Later;
+    };
+    AtOnce::Fits(q)
+}
+
 // The node step. The kind is judged before all else.
 fn judge_value(
     block: &[u8],
@@ -201,7 +253,7 @@ fn judge_value(
         };
         return Judged::Fits(q);
     }
-    let j = judge_children(
+    let now = judge_at_once(
         block,
         node,
         code,
@@ -210,6 +262,25 @@ fn judge_value(
         records,
         payload,
         p,
+        size,
+    );
+    if let AtOnce::Fits(q) = now {
+        return Judged::Fits(q);
+    }
+    // What a call lends has to lie in memory: copied here, so that a leaf is spared that.
+    let nodes = block;
+    let table = records;
+    let store = payload;
+    let start = p;
+    let j = judge_children(
+        nodes,
+        node,
+        code,
+        depth,
+        max_blob_bytes,
+        table,
+        store,
+        start,
         size,
     );
     let Judged::Fits(q) = j else {
@@ -286,7 +357,8 @@ fn judge_children(
     })
 }
 
-// A row: its table's tag, and the value of the whole table at the root.
+// A row: its table's tag, and the value of the whole table at the root. The root is no leaf, and the row enters by the children step: so
+// the node step has one caller, is compiled into it, and a leaf costs no call.
 pub fn judge_row(block: &[u8], settings: Settings, records: &[u8], payload: &[u8]) -> Judged
     requires { ⌜ RowJudgeable (now block) (now records) (now payload) ⌝ }
     ensures { λ r. ⌜ r ≡ judgedRow (now (block .entry)) (limits settings) (now (records .entry)) (now (payload .entry)) ⌝ }
@@ -296,7 +368,29 @@ pub fn judge_row(block: &[u8], settings: Settings, records: &[u8], payload: &[u8
         from: 0,
         bytes: 2,
     };
-    let j = judge_value(block, 0, 64, settings.max_blob_bytes, records, payload, p);
+    let own = value_record_at(records, 0);
+    let kind = own.kind;
+    let code = node_code(block, 0);
+    if kind != kind_of(code) {
+        return Judged::Refused(Refusal {
+            why: Why::ValueDoesNotMatchSchema {
+                wire_type: code,
+                kind,
+            },
+            place: 0,
+        });
+    }
+    let j = judge_children(
+        block,
+        0,
+        code,
+        64,
+        settings.max_blob_bytes,
+        records,
+        payload,
+        p,
+        own.size,
+    );
     let Judged::Fits(q) = j else {
         return j;
     };

@@ -4,12 +4,16 @@ ghost use mathlib.Core.Path.{_≡_};
 ghost use Prim.Native.Nat.{_+_, _^_, _≤_, _<_};
 ghost use lib.ListN.{length};
 ghost use Rattle.rules.specs.Bytes.{le, over};
+ghost use Rattle.rules.specs.Block.{nodeAt};
+ghost use Rattle.rules.specs.ValueRecord.{valueRecordAt};
 ghost use Rattle.read.specs.Children.{shapeOf};
+ghost use Rattle.write.specs.Leads.{LeadsToPut};
 ghost use Rattle.write.specs.Putting.{tagBytes, closing, childOf, leafKept, leafSize, leafBytes, Writable, Parted, Placed, RowWritable, rowBytes};
 use payload::copy;
 use record::node::node_code;
 use record::node::node_first;
 use record::value::value_record_at;
+use rules::ValueRecord;
 use wire::codes::code_width;
 use wire::codes::tag_width;
 use wire::store::put16;
@@ -45,6 +49,10 @@ fn put_number(out: &mut [u8], at: usize, width: usize, x: u64)
     ensures { λ _. ⌜ now (out .exit) ≡ over (now (out .entry)) at (le width x) ⌝ }
 {
     match width {
+        0 => {}
+        1 => {
+            out[at] = (x % 256) as u8;
+        }
         2 => put16(out, at, x),
         4 => put32(out, at, x),
         8 => put64(out, at, x),
@@ -144,6 +152,55 @@ fn put_end(code: u8, out: &mut [u8], to: usize) -> usize
     to + 2
 }
 
+// What a node comes to at once: a leaf of this code, whose record has this size and content, from this position on; or children.
+pub enum ToPut {
+    Leaf(u8, u64, u64, WritePos),
+    Children,
+}
+
+// A node is a leaf itself, or a variant with a leaf below it, whose tag is put here: so an optional column takes no children step, as in
+// the walks that read.
+fn leaf_at(
+    block: &[u8],
+    node: usize,
+    code: u8,
+    depth: usize,
+    records: &[u8],
+    payload: &[u8],
+    own: ValueRecord,
+    p: WritePos,
+    out: &mut [u8],
+) -> ToPut
+    requires { ⌜ Writable (now block) node depth (now records) (now payload) p (length (now out)) × (own ≡ valueRecordAt (now records) (p .at)) × (code ≡ nodeAt (now block) node .code) ⌝ }
+    ensures { λ r. ⌜ LeadsToPut (now (block .entry)) node depth (now (records .entry)) (now (payload .entry)) p (now (out .entry)) (now (out .exit)) r ⌝ }
+{
+    if code < 15 {
+        return ToPut::Leaf(code, own.size, own.content, p);
+    }
+    if 16 < code {
+        return ToPut::Children;
+    }
+    let at = p.at + 1;
+    let below = value_record_at(records, at);
+    let tag = below.tag;
+    let child = child_of(code, node_first(block, node), 0, tag);
+    let leaf = node_code(block, child);
+    if 14 < leaf {
+        return ToPut::Children;
+    }
+    let to = put_tag(code, tag, out, p.to);
+    ToPut::Leaf(
+        leaf,
+        below.size,
+        below.content,
+        WritePos {
+            at,
+            from: p.from,
+            to,
+        },
+    )
+}
+
 // A value and all below it, at a node of its kind.
 fn put_value(
     block: &[u8],
@@ -157,13 +214,22 @@ fn put_value(
     requires { ⌜ Writable (now block) node depth (now records) (now payload) p (length (now out)) ⌝ }
     ensures { λ r. ⌜ Placed (now (block .entry)) node depth (now (records .entry)) (now (payload .entry)) p r (now (out .entry)) (now (out .exit)) ⌝ }
 {
-    let at = p.at;
-    let own = value_record_at(records, at);
+    let own = value_record_at(records, p.at);
     let code = node_code(block, node);
-    if code < 15 {
-        return put_leaf(code, own.size, own.content, payload, p, out);
+    let reached = leaf_at(block, node, code, depth, records, payload, own, p, out);
+    match reached {
+        ToPut::Leaf(below, size, content, from) => {
+            put_leaf(below, size, content, payload, from, out)
+        }
+        ToPut::Children => {
+            // What a call lends has to lie in memory: copied here, so that a leaf is spared that.
+            let nodes = block;
+            let table = records;
+            let store = payload;
+            let start = p;
+            put_children(nodes, node, code, depth, table, store, start, own.size, out)
+        }
     }
-    put_children(block, node, code, depth, records, payload, p, own.size, out)
 }
 
 // The children of a node, one after another, each after its tag.
@@ -208,7 +274,8 @@ fn put_children(
     }
 }
 
-// A row: table tag 0 and the root's value, from place `to` of the output on; and the place after it.
+// A row: table tag 0 and the root's value, from place `to` of the output on; and the place after it. The root is no leaf, and the row
+// enters by the children step: so the node step has one caller, is compiled into it, and a leaf costs no call.
 pub fn put_row(block: &[u8], records: &[u8], payload: &[u8], out: &mut [u8], to: usize) -> usize
     requires { ⌜ RowWritable (now block) (now records) (now payload) to (length (now out)) ⌝ }
     ensures next { λ r. ⌜ r ≡ to + length (rowBytes (now (block .entry)) (now (records .entry)) (now (payload .entry))) ⌝ }
@@ -220,6 +287,8 @@ pub fn put_row(block: &[u8], records: &[u8], payload: &[u8], out: &mut [u8], to:
         from: 0,
         to: to + 2,
     };
-    let q = put_value(block, 0, 64, records, payload, p, out);
+    let own = value_record_at(records, 0);
+    let code = node_code(block, 0);
+    let q = put_children(block, 0, code, 64, records, payload, p, own.size, out);
     q.to
 }

@@ -2,22 +2,26 @@ use Prim.Native.Nat.{_^_}
 use mathlib.Core.Path.{_≡_}
 use native.Mathlib.Omega.{arith}
 use borrow.Author.Tests.{lt-ltb}
-use borrow.Author.Needs.{needs}
-use Rattle.value.proofs.Fields.{past-is}
+use Rattle.wire.proofs.CodeTable.{past}
 use Rattle.value.proofs.fits.Statement.{statement}
 use Rattle.value.proofs.fits.Tie as tie
 
-returns : tie.Need-returns
-returns c = let e : c .before .args .width ≡ 8 = omega (arith, c .before .pre, c .if1 .taken) in rw (e, lt-ltb (c .before .args .x) (256 ^ 8) (omega (arith, c .before .fits .x)))
-
-mul-result : tie.Need-mul-result
-mul-result c = search needs
-
-array-read-result : tie.Need-array-read-result
-array-read-result c = search needs
-
-returns-2 : tie.Need-returns-2
-returns-2 c = rw (past-is _ (c .if1 .left))
+-- eight bytes hold every number
+returns-9 : tie.Need-returns-9
+returns-9 c =
+    let e : c .before .args .width ≡ 8 = omega (arith, c .before .pre, past 0 8 (c .before .args .width) (omega arith) (c .match .rest)) in
+    rw (e, lt-ltb (c .before .args .x) (256 ^ 8) (omega (arith, c .before .fits .x)))
 
 pub fits-spec : {M : Type 1} → statement M
-fits-spec = tie.close (tie.spec returns mul-result array-read-result returns-2)
+fits-spec =
+    tie.close
+    (tie.spec
+    (λ c. rw (c .match .keys1))
+    (λ c. rw (c .match .keys2))
+    (λ c. rw (c .match .keys3))
+    (λ c. rw (c .match .keys4))
+    (λ c. rw (c .match .keys5))
+    (λ c. rw (c .match .keys6))
+    (λ c. rw (c .match .keys7))
+    (λ c. rw (c .match .keys8))
+    returns-9)

@@ -10,6 +10,7 @@ use Rattle.value.proofs.+walk_children+walk_value.Lts-walk_value as wal
 use Rattle.record.proofs.value.records_in.Reads as records-in-reads
 use Rattle.record.proofs.value.value_record_at.Reads as value-record-at-reads
 use Rattle.value.proofs.record_ok.Reads as record-ok-reads
+use Rattle.value.proofs.walk_scalar.Reads as walk-scalar-reads
 
 -- the node step calls the children step at its own depth, and the children step the node step at one less
 abbrev pub μ-walk-children : Measures 1 walk-children-kinds.ps ℕ
@@ -34,4 +35,4 @@ abbrev pub walk-children-calls : ℕ → walk-children-lts.Claims
 walk-children-calls t = (walk-value-below t, walk-value.Post)
 
 abbrev pub walk-value-calls : ℕ → walk-value-lts.Claims
-walk-value-calls t = (records-in-reads.Asked, records-in-reads.Learnt, value-record-at-reads.Asked, value-record-at-reads.Learnt, record-ok-reads.Asked, record-ok-reads.Learnt, walk-children-below t, walk-children.Post)
+walk-value-calls t = (records-in-reads.Asked, records-in-reads.Learnt, value-record-at-reads.Asked, value-record-at-reads.Learnt, record-ok-reads.Asked, record-ok-reads.Learnt, walk-scalar-reads.Asked, walk-scalar-reads.Learnt, walk-children-below t, walk-children.Post)

@@ -36,17 +36,29 @@ module _ (t : ℕ) where
   pub returns-3 : lts.Need-returns-3 (judge-value-calls t) (judge-value-at t) judge-value.Post
   returns-3 c = sym (c .before .j .given .1) ∙ c .before .before .before .judge-leaf .ensures ∙ leaf-answer _ _ _ _ _ _ _ (c .before .before .before .before .before .before .before .before .before .before .before .before .pre .1) _ (c .before .before .before .before .before .before .before .before .value-record-at .ensures) _ (c .before .before .before .before .before .before .before .node-code .ensures) _ (c .before .before .before .before .before .before .kind-of .ensures) (c .before .before .before .before .before .if1 .left) (c .before .before .before .before .if2 .taken)
 
-  pub judge-children-requires : lts.Need-judge-children-requires (judge-value-calls t) (judge-value-at t) judge-value.Post
-  judge-children-requires c κs = (omega (arith, c .before .before .before .before .before .before .before .before .pre .0), (c .before .before .before .before .before .before .before .before .pre .1, opened _ 0 _ _ _ _ _ (c .before .before .before .before .before .before .before .before .pre .1) _ (c .before .before .before .before .value-record-at .ensures) _ (c .before .before .before .node-code .ensures) _ (c .before .before .kind-of .ensures) (c .before .if1 .left) (c .if2 .left)))
+  pub judge-at-once-requires : lts.Need-judge-at-once-requires (judge-value-calls t) (judge-value-at t) judge-value.Post
+  judge-at-once-requires c κs = (c .before .before .before .before .before .before .before .before .pre .1, opened _ 0 _ _ _ _ _ (c .before .before .before .before .before .before .before .before .pre .1) _ (c .before .before .before .before .value-record-at .ensures) _ (c .before .before .before .node-code .ensures) _ (c .before .before .kind-of .ensures) (c .before .if1 .left) (c .if2 .left))
 
-  pub enum-known-j-2 : lts.Need-enum-known-j-2 (judge-value-calls t) (judge-value-at t) judge-value.Post
-  enum-known-j-2 c = search needs
+  pub enum-known-now : lts.Need-enum-known-now (judge-value-calls t) (judge-value-at t) judge-value.Post
+  enum-known-now c = search needs
+
+  pub returns-4 : lts.Need-returns-4 (judge-value-calls t) (judge-value-at t) judge-value.Post
+  returns-4 c = c .before .before .before .judge-at-once .ensures _ (c .before .now .given .1)
 
   pub enum-told-2 : lts.Need-enum-told-2 (judge-value-calls t) (judge-value-at t) judge-value.Post
   enum-told-2 c = search needs
 
-  pub returns-4 : lts.Need-returns-4 (judge-value-calls t) (judge-value-at t) judge-value.Post
-  returns-4 c = c .before .before .judge-children .ensures
+  pub judge-children-requires : lts.Need-judge-children-requires (judge-value-calls t) (judge-value-at t) judge-value.Post
+  judge-children-requires c κs = (omega (arith, c .before .before .before .before .before .before .before .before .before .before .before .pre .0), (c .before .before .before .before .before .before .before .before .before .before .before .pre .1, opened _ 0 _ _ _ _ _ (c .before .before .before .before .before .before .before .before .before .before .before .pre .1) _ (c .before .before .before .before .before .before .before .value-record-at .ensures) _ (c .before .before .before .before .before .before .node-code .ensures) _ (c .before .before .before .before .before .kind-of .ensures) (c .before .before .before .before .if1 .left) (c .before .before .before .if2 .left)))
+
+  pub enum-known-j-2 : lts.Need-enum-known-j-2 (judge-value-calls t) (judge-value-at t) judge-value.Post
+  enum-known-j-2 c = search needs
+
+  pub enum-told-3 : lts.Need-enum-told-3 (judge-value-calls t) (judge-value-at t) judge-value.Post
+  enum-told-3 c = search needs
 
   pub returns-5 : lts.Need-returns-5 (judge-value-calls t) (judge-value-at t) judge-value.Post
-  returns-5 c = sym (c .before .j2 .given .1) ∙ c .before .before .before .judge-children .ensures
+  returns-5 c = c .before .before .judge-children .ensures
+
+  pub returns-6 : lts.Need-returns-6 (judge-value-calls t) (judge-value-at t) judge-value.Post
+  returns-6 c = sym (c .before .j2 .given .1) ∙ c .before .before .before .judge-children .ensures

@@ -13,6 +13,7 @@ use Rattle.record.proofs.node.node_first.Reads as node-first-reads
 use Rattle.record.proofs.value.value_record_at.Reads as value-record-at-reads
 use Rattle.write.proofs.judge.closing.Reads as closing-reads
 use Rattle.write.proofs.judge.count_fits.Reads as count-fits-reads
+use Rattle.write.proofs.judge.judge_at_once.Reads as judge-at-once-reads
 use Rattle.write.proofs.judge.judge_leaf.Reads as judge-leaf-reads
 use Rattle.write.proofs.judge.kind_of.Reads as kind-of-reads
 use Rattle.write.proofs.judge.next_child.Reads as next-child-reads
@@ -41,4 +42,4 @@ abbrev pub judge-children-calls : ℕ → judge-children-lts.Claims
 judge-children-calls t = (node-first-reads.Asked, node-first-reads.Learnt, node-children-reads.Asked, node-children-reads.Learnt, count-fits-reads.Asked, count-fits-reads.Learnt, value-record-at-reads.Asked, value-record-at-reads.Learnt, next-child-reads.Asked, next-child-reads.Learnt, judged-refused-by-choice-reads.Asked, judged-refused-by-choice-reads.Learnt, judge-value-below t, judge-value.Post, judged-refused-by-child-reads.Asked, judged-refused-by-child-reads.Learnt, closing-reads.Asked, closing-reads.Learnt)
 
 abbrev pub judge-value-calls : ℕ → judge-value-lts.Claims
-judge-value-calls t = (value-record-at-reads.Asked, value-record-at-reads.Learnt, node-code-reads.Asked, node-code-reads.Learnt, kind-of-reads.Asked, kind-of-reads.Learnt, judge-leaf-reads.Asked, judge-leaf-reads.Learnt, judge-children-below t, judge-children.Post)
+judge-value-calls t = (value-record-at-reads.Asked, value-record-at-reads.Learnt, node-code-reads.Asked, node-code-reads.Learnt, kind-of-reads.Asked, kind-of-reads.Learnt, judge-leaf-reads.Asked, judge-leaf-reads.Learnt, judge-at-once-reads.Asked, judge-at-once-reads.Learnt, judge-children-below t, judge-children.Post)

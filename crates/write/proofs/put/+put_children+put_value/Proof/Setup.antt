@@ -11,6 +11,7 @@ use Rattle.record.proofs.node.node_code.Reads as node-code-reads
 use Rattle.record.proofs.node.node_first.Reads as node-first-reads
 use Rattle.record.proofs.value.value_record_at.Reads as value-record-at-reads
 use Rattle.write.proofs.put.child_of.Reads as child-of-reads
+use Rattle.write.proofs.put.leaf_at.Reads as leaf-at-reads
 use Rattle.write.proofs.put.put_end.Reads as put-end-reads
 use Rattle.write.proofs.put.put_leaf.Reads as put-leaf-reads
 use Rattle.write.proofs.put.put_tag.Reads as put-tag-reads
@@ -37,4 +38,4 @@ abbrev pub put-children-calls : ℕ → put-children-lts.Claims
 put-children-calls t = (node-first-reads.Asked, node-first-reads.Learnt, value-record-at-reads.Asked, value-record-at-reads.Learnt, child-of-reads.Asked, child-of-reads.Learnt, put-tag-reads.Asked, put-tag-reads.Learnt, put-value-below t, put-value.Post, put-end-reads.Asked, put-end-reads.Learnt)
 
 abbrev pub put-value-calls : ℕ → put-value-lts.Claims
-put-value-calls t = (value-record-at-reads.Asked, value-record-at-reads.Learnt, node-code-reads.Asked, node-code-reads.Learnt, put-leaf-reads.Asked, put-leaf-reads.Learnt, put-children-below t, put-children.Post)
+put-value-calls t = (value-record-at-reads.Asked, value-record-at-reads.Learnt, node-code-reads.Asked, node-code-reads.Learnt, leaf-at-reads.Asked, leaf-at-reads.Learnt, put-leaf-reads.Asked, put-leaf-reads.Learnt, put-children-below t, put-children.Post)
