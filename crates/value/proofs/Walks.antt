@@ -12,7 +12,8 @@ use Rattle.rules.specs.Choice.{pick, _and_}
 use Rattle.rules.specs.ValueRecord.{valueRecordsIn, valueRecordAt}
 use Rattle.rules.specs.declared.table_record.ValueRecord.{ValueRecord}
 use Rattle.rules.proofs.Tests.{and-both, either}
-use Rattle.value.specs.Records.{parentOk, recordOk}
+use Rattle.rules.specs.Query.{parentAlone}
+use Rattle.value.specs.Records.{recordOk}
 use Rattle.value.specs.Walk.{_>>=_, past, nextRecord, walkChildren, walkOn, walkTable}
 use Rattle.value.specs.declared.TablePos.{TablePos}
 use Rattle.value.specs.declared.Walked.{Walked}
@@ -54,10 +55,10 @@ children-one child p = rw (children-more child 1 p (omega arith)) (by (child p))
 
 -- a variant has one child
 variant-size : (r : ValueRecord) (tagged : Bool) (from store : ℕ) → r .kind ≡ 15 → recordOk r tagged from store ≡ true → r .size ≡ 1
-unfolding recordOk parentOk pick
+unfolding recordOk parentAlone pick
 variant-size r tagged from store k e =
     let a = and-both _ _ e .1 in
-    let f : parentOk (r .kind) (r .size) (r .content) ≡ true = rw (le-ltb (r .kind) 15 (omega (arith, k))) at a in
+    let f : parentAlone (r .kind) (r .size) (r .content) ≡ true = rw (le-ltb (r .kind) 15 (omega (arith, k))) at a in
     eqb-true _ _ (rw (eq-eqb (r .kind) 15 k) at (and-both _ _ (and-both _ _ f .1) .1))
 
 -- no scalar is found
