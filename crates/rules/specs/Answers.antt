@@ -58,16 +58,16 @@ checkedSaid (Checked.Refused r) = said r
 
 -- ---- what a host is told of one record: its values are numbers of either sign
 
-pub record Told : Type 0 where
+pub record HostSaid : Type 0 where
   pub number : ℕ
   pub place : ℕ
   pub values : List ℤ
 
-unfoldable pub toldRefusal : Refusal → Told
-toldRefusal r = record { number = refusalNumber r; place = r .place; values = map pos (lineOf (r .why) .carries) }
+unfoldable pub hostRefused : Refusal → HostSaid
+hostRefused r = record { number = refusalNumber r; place = r .place; values = map pos (lineOf (r .why) .carries) }
 
-unfoldable pub told : List ℤ → Told
-told values = record { number = 0; place = 0; values = values }
+unfoldable pub hostSaid : List ℤ → HostSaid
+hostSaid values = record { number = 0; place = 0; values = values }
 
 -- a boolean is 0 or 1, a double its bits, a payload its start and length
 unfoldable pub scalarValues : Scalar → List ℤ
@@ -81,11 +81,11 @@ scalarValues (Scalar.Payload start length) = pos start ∷ pos length ∷ []
 scalarValues (Scalar.Children count) = pos count ∷ []
 
 -- the value query
-unfoldable pub queriedTold : Queried → Told
-queriedTold (Queried.Value x) = told (scalarValues x)
-queriedTold (Queried.Refused r) = toldRefusal r
+unfoldable pub queriedSaid : Queried → HostSaid
+queriedSaid (Queried.Value x) = hostSaid (scalarValues x)
+queriedSaid (Queried.Refused r) = hostRefused r
 
 -- a getter of the row view
-unfoldable pub viewedTold : Viewed → Told
-viewedTold (Viewed.Number n) = told (pos n ∷ [])
-viewedTold (Viewed.Refused r) = toldRefusal r
+unfoldable pub viewedSaid : Viewed → HostSaid
+viewedSaid (Viewed.Number n) = hostSaid (pos n ∷ [])
+viewedSaid (Viewed.Refused r) = hostRefused r
