@@ -2,14 +2,20 @@
 -- number is 0, and what is returned stands where a refusal's values stand.
 -- Assumes nothing: these are definitions.
 use Prim.Native.Nat.{ℕ}
-use mathlib.Core.List.{List, [], _∷_}
+use mathlib.Core.List.{List, [], _∷_, map}
+use lib.IntN.{ℤ, pos}
+use lib.Ieee.{binary64, toBits}
 use Rattle.rules.specs.Refusals.{lineOf, refusalNumber}
+use Rattle.rules.specs.ValueTable.{bit}
 use Rattle.rules.specs.declared.refusal.Refusal.{Refusal}
 use Rattle.rules.specs.declared.answer.Checked.{Checked}
 use Rattle.rules.specs.declared.answer.Extent.{Extent}
 use Rattle.rules.specs.declared.answer.Read.{Read}
 use Rattle.rules.specs.declared.answer.Stop.{Stop}
 use Rattle.rules.specs.declared.answer.Written.{Written}
+use Rattle.rules.specs.declared.query.Scalar.{Scalar}
+use Rattle.rules.specs.declared.query.Queried.{Queried}
+use Rattle.rules.specs.declared.query.Viewed.{Viewed}
 
 -- number, place, and then what is carried or returned
 pub record Said : Type 0 where
@@ -49,3 +55,37 @@ writtenSaid (Written.Refused r) = said r
 unfoldable pub checkedSaid : Checked → Said
 checkedSaid Checked.Accepted = noneSaid
 checkedSaid (Checked.Refused r) = said r
+
+-- ---- what a host is told of one record: its values are numbers of either sign
+
+pub record HostSaid : Type 0 where
+  pub number : ℕ
+  pub place : ℕ
+  pub values : List ℤ
+
+unfoldable pub hostRefused : Refusal → HostSaid
+hostRefused r = record { number = refusalNumber r; place = r .place; values = map pos (lineOf (r .why) .carries) }
+
+unfoldable pub hostSaid : List ℤ → HostSaid
+hostSaid values = record { number = 0; place = 0; values = values }
+
+-- a boolean is 0 or 1, a double its bits, a payload its start and length
+unfoldable pub scalarValues : Scalar → List ℤ
+scalarValues Scalar.Nothing = []
+scalarValues (Scalar.Truth x) = pos (bit x) ∷ []
+scalarValues (Scalar.Signed z) = z ∷ []
+scalarValues (Scalar.Unsigned x) = pos x ∷ []
+scalarValues (Scalar.Double x) = pos (toBits binary64 x) ∷ []
+scalarValues (Scalar.NotANumber bits) = pos bits ∷ []
+scalarValues (Scalar.Payload start length) = pos start ∷ pos length ∷ []
+scalarValues (Scalar.Children count) = pos count ∷ []
+
+-- the value query
+unfoldable pub queriedSaid : Queried → HostSaid
+queriedSaid (Queried.Value x) = hostSaid (scalarValues x)
+queriedSaid (Queried.Refused r) = hostRefused r
+
+-- a getter of the row view
+unfoldable pub viewedSaid : Viewed → HostSaid
+viewedSaid (Viewed.Number n) = hostSaid (pos n ∷ [])
+viewedSaid (Viewed.Refused r) = hostRefused r

@@ -11,41 +11,41 @@ use Rattle.rules.specs.declared.query.Scalar.{Scalar}
 use Rattle.rules.specs.declared.query.Scalar.the-variants.{Nothing, Truth, Payload, Children}
 
 -- a node: its value, the tag by which its parent chose it, how many payload bytes are before its own, and its depth, the root's being 1
-pub record Placed : Type 0 where
+pub record ValueNode : Type 0 where
   pub value : Value
   pub tag : ℕ
   pub before : ℕ
   pub depth : ℕ
 
-abbrev pub placed : Value → ℕ → ℕ → ℕ → Placed
-placed v tag p depth = record { value = v; tag = tag; before = p; depth = depth }
+abbrev pub valueNode : Value → ℕ → ℕ → ℕ → ValueNode
+valueNode v tag p depth = record { value = v; tag = tag; before = p; depth = depth }
 
 -- the nodes below one, that are so deep
 unfoldable mutual
-  pub nodesBelow : Value → ℕ → ℕ → List Placed
+  pub nodesBelow : Value → ℕ → ℕ → List ValueNode
   nodesBelow nothing p d = []
   nodesBelow (boolean x) p d = []
   nodesBelow (number k x) p d = []
   nodesBelow (wide k x) p d = []
   nodesBelow (blob k x) p d = []
-  nodesBelow (variant t v) p d = placed v t p d ∷ nodesBelow v p (suc d)
+  nodesBelow (variant t v) p d = valueNode v t p d ∷ nodesBelow v p (suc d)
   nodesBelow (repeated is) p d = nodesBelowI is p d
   nodesBelow (tuple vs) p d = nodesBelowV vs p d
 
-  pub nodesBelowI : Items → ℕ → ℕ → List Placed
+  pub nodesBelowI : Items → ℕ → ℕ → List ValueNode
   nodesBelowI done p d = []
-  nodesBelowI (item t v is) p d = placed v t p d ∷ (nodesBelow v p (suc d) ++ nodesBelowI is (p + payloadOf v) d)
+  nodesBelowI (item t v is) p d = valueNode v t p d ∷ (nodesBelow v p (suc d) ++ nodesBelowI is (p + payloadOf v) d)
 
-  pub nodesBelowV : Values → ℕ → ℕ → List Placed
+  pub nodesBelowV : Values → ℕ → ℕ → List ValueNode
   nodesBelowV none p d = []
-  nodesBelowV (more v vs) p d = placed v 0 p d ∷ (nodesBelow v p (suc d) ++ nodesBelowV vs (p + payloadOf v) d)
+  nodesBelowV (more v vs) p d = valueNode v 0 p d ∷ (nodesBelow v p (suc d) ++ nodesBelowV vs (p + payloadOf v) d)
 
 -- the nodes of a value
-unfoldable pub nodes : Value → List Placed
-nodes v = placed v 0 0 1 ∷ nodesBelow v 0 2
+unfoldable pub preorder : Value → List ValueNode
+preorder v = valueNode v 0 0 1 ∷ nodesBelow v 0 2
 
 -- node i is this one
-unfoldable pub NodeIs : List Placed → ℕ → Placed → Type 0
+unfoldable pub NodeIs : List ValueNode → ℕ → ValueNode → Type 0
 NodeIs [] i n = ⊥
 NodeIs (m ∷ ms) zero n = m ≡ n
 NodeIs (m ∷ ms) (suc i) n = NodeIs ms i n
@@ -89,12 +89,12 @@ FirstChild (tuple none) u = ⊥
 FirstChild (tuple (more v vs)) u = v ≡ u
 
 -- how many children a value has
-unfoldable pub childrenOf : Value → ℕ
-childrenOf nothing = 0
-childrenOf (boolean x) = 0
-childrenOf (number k x) = 0
-childrenOf (wide k x) = 0
-childrenOf (blob k x) = 0
-childrenOf (variant t v) = 1
-childrenOf (repeated is) = items is
-childrenOf (tuple vs) = values vs
+unfoldable pub valueChildren : Value → ℕ
+valueChildren nothing = 0
+valueChildren (boolean x) = 0
+valueChildren (number k x) = 0
+valueChildren (wide k x) = 0
+valueChildren (blob k x) = 0
+valueChildren (variant t v) = 1
+valueChildren (repeated is) = items is
+valueChildren (tuple vs) = values vs

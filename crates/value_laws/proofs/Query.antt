@@ -16,7 +16,7 @@ use Rattle.rules.specs.ValueTable.{bit, payloadBytes, valueKind, sizeOf, conten
 use Rattle.rules.specs.Refusals.{Setting}
 use Rattle.rules.specs.Query.{scalarAlone, parentAlone, recordAlone, recordThere, recordGood, recordSeen, numberSaid, scalarSaid, recordSaid, queriedOf, queryRule}
 use Rattle.rules.specs.View.{childCount, viewedOf, kindRule, tagRule, childCountRule}
-use Rattle.rules.specs.Preorder.{Placed, nodes, NodeIs, valueSaid, childrenOf}
+use Rattle.rules.specs.Preorder.{ValueNode, preorder, NodeIs, valueSaid, valueChildren}
 use Rattle.rules.specs.declared.table_record.ValueRecord.{ValueRecord}
 use Rattle.rules.specs.declared.query.Seen.{Seen}
 use Rattle.rules.specs.declared.query.Seen.the-variants as seen
@@ -58,8 +58,8 @@ head-says (repeated is) tag p f = refl
 head-says (tuple vs) tag p f = refl
 
 -- and how many children it has
-pub head-children : (v : Value) (tag p : ℕ) → Fits v → childCount (headOf v tag p) ≡ childrenOf v
-unfolding childCount childrenOf headOf valueKind sizeOf Fits pick
+pub head-children : (v : Value) (tag p : ℕ) → Fits v → childCount (headOf v tag p) ≡ valueChildren v
+unfolding childCount valueChildren headOf valueKind sizeOf Fits pick
 head-children nothing tag p f = refl
 head-children (boolean x) tag p f = refl
 head-children (number k x) tag p f = rw (lt-ltb k 15 (fixed-code k (f .0) (f .1 .0) .0))
@@ -71,10 +71,10 @@ head-children (tuple vs) tag p f = refl
 
 -- ---- a node whose records stand
 
-module _ (table : List ℕ) (most : ℕ) (short : length table ≤ 4294967295) (small : most ≤ 4294967295) (i : ℕ) (n : Placed) (g : Grown table most i n) where
-  stood : RecordIs table i (headOf (n .value) (n .tag) (n .before))
+module _ (table : List ℕ) (most : ℕ) (short : length table ≤ 4294967295) (small : most ≤ 4294967295) (i : ℕ) (n : ValueNode) (g : Grown table most i n) where
+  head-stands : RecordIs table i (headOf (n .value) (n .tag) (n .before))
   unfolding Shows heads
-  stood = g .rows .0
+  head-stands = g .rows .0
 
   -- its count or length and its data fit their fields
   size-fits : (v : Value) → Shows table (i + 1) (below v (n .before)) → n .before + payloadOf v ≤ most → Fits v → sizeOf v < 256 ^ 4
@@ -102,10 +102,10 @@ module _ (table : List ℕ) (most : ℕ) (short : length table ≤ 4294967295) (
   -- so its record reads as its head
   pub reads-head : valueRecordAt table i ≡ headOf (n .value) (n .tag) (n .before)
   unfolding headOf Shows heads
-  reads-head = fields-are table i (headOf (n .value) (n .tag) (n .before)) stood (g .tag-fits) (size-fits (n .value) (g .rows .1) (g .ends) (g .fits)) (content-fits (n .value) (g .ends) (g .fits))
+  reads-head = fields-are table i (headOf (n .value) (n .tag) (n .before)) head-stands (g .tag-fits) (size-fits (n .value) (g .rows .1) (g .ends) (g .fits)) (content-fits (n .value) (g .ends) (g .fits))
 
   pub stands-in-table : i < valueRecordsIn (length table)
-  stands-in-table = omega (arith, record-in table i (headOf (n .value) (n .tag) (n .before)) stood)
+  stands-in-table = omega (arith, record-in table i (headOf (n .value) (n .tag) (n .before)) head-stands)
 
 -- ---- the table of a value
 
@@ -122,15 +122,15 @@ module _ (v : Value) (table store : List ℕ) (is : TableOf v table store) (shor
   table-count = omega (arith, rows-shown .1, length-heads v 0 0)
 
   -- node i of the value has its records from record i on
-  pub node-grown : (i : ℕ) (n : Placed) → NodeIs (nodes v) i n → Grown table (length store) i n
-  unfolding nodes Shows heads
+  pub node-grown : (i : ℕ) (n : ValueNode) → NodeIs (preorder v) i n → Grown table (length store) i n
+  unfolding preorder Shows heads
   node-grown i n h =
       let e : length store ≡ payloadOf v = ap length (is .payload) ∙ length-pays v in
       let z : 0 + i ≡ i = omega arith in
       rw z at (at-node table (length store) v 0 0 1 0 (record { rows = rows-shown .0; fits = is .fits; tag-fits = omega arith; ends = omega (arith, e) })
       (below-grown table (length store) v 0 2 1 (rows-shown .0 .1) (is .fits) (omega (arith, e))) i n h)
 
-  module _ (i : ℕ) (n : Placed) (h : NodeIs (nodes v) i n) where
+  module _ (i : ℕ) (n : ValueNode) (h : NodeIs (preorder v) i n) where
     -- it is seen
     pub node-seen : recordSeen table i ≡ seen.Record (headOf (n .value) (n .tag) (n .before))
     unfolding recordThere recordGood recordSeen pick _and_
@@ -158,13 +158,13 @@ module _ (v : Value) (table store : List ℕ) (is : TableOf v table store) (shor
     unfolding tagRule viewedOf headOf
     tag-says = rw node-seen
 
-    pub children-say : childCountRule table i ≡ viewed.Number (childrenOf (n .value))
+    pub children-say : childCountRule table i ≡ viewed.Number (valueChildren (n .value))
     unfolding childCountRule viewedOf
     children-say = rw (node-seen, head-children (n .value) (n .tag) (n .before) (node-grown i n h .fits))
 
   -- There is a node for each number below the number of nodes, so that none of these is refused.
-  pub query-answers : (i : ℕ) → i < recordsOf v → (n : Placed) × (NodeIs (nodes v) i n × (queryRule table i ≡ queried.Value (valueSaid (n .value) (n .before))))
-  query-answers i l = let m = some-node (nodes v) i (omega (arith, length-all v)) in (m .0, (m .1, query-says i (m .0) (m .1)))
+  pub query-answers : (i : ℕ) → i < recordsOf v → (n : ValueNode) × (NodeIs (preorder v) i n × (queryRule table i ≡ queried.Value (valueSaid (n .value) (n .before))))
+  query-answers i l = let m = some-node (preorder v) i (omega (arith, length-all v)) in (m .0, (m .1, query-says i (m .0) (m .1)))
 
   -- From there on the record is not there.
   pub query-past : (i : ℕ) → recordsOf v ≤ i → queryRule table i ≡ queried.Refused Setting

@@ -14,7 +14,7 @@ use Rattle.rules.specs.ValueRecord.{valueRecordsIn, wholeValueRecords, valueRec
 use Rattle.rules.specs.ValueTable.{valueKind, sizeOf, headOf, below, belowI, belowV, heads, TableOf}
 use Rattle.rules.specs.Query.{recordAlone, recordThere, recordGood, recordSeen}
 use Rattle.rules.specs.View.{childCount, pastTrees, recordsFrom, afterSeen, afterRule, ifThere, hasField, fieldRule}
-use Rattle.rules.specs.Preorder.{Placed, placed, nodes, NodeIs, FieldIs, nodesBefore, childrenOf}
+use Rattle.rules.specs.Preorder.{ValueNode, valueNode, preorder, NodeIs, FieldIs, nodesBefore, valueChildren}
 use Rattle.rules.specs.declared.query.Viewed.{Viewed}
 use Rattle.rules.specs.declared.query.Viewed.the-variants.{Number, Refused}
 use Rattle.value_laws.proofs.Records.{Shows, shows-left, shows-right, shows-end}
@@ -28,26 +28,26 @@ use Rattle.value_laws.proofs.Subtrees.{field-node, before-next}
 
 module _ (table : List ℕ) (most : ℕ) (short : length table ≤ 4294967295) (small : most ≤ 4294967295) where
   -- past a node's own record, with its children left
-  past-head : (left trees i : ℕ) (n : Placed) → Grown table most i n → pastTrees table (suc left) (suc trees) i ≡ pastTrees table left (trees + childrenOf (n .value)) (i + 1)
+  past-head : (left trees i : ℕ) (n : ValueNode) → Grown table most i n → pastTrees table (suc left) (suc trees) i ≡ pastTrees table left (trees + valueChildren (n .value)) (i + 1)
   past-head left trees i n g =
       let e = reads-head table most short small i n g in
       rw (← (head-children (n .value) (n .tag) (n .before) (g .fits)), ← e) (past-record table left trees i (rw e (head-alone (n .value) (n .tag) (n .before) (g .fits))))
 
   -- past the records below a node, which are its children's trees
   abbrev Passes : Value → ℕ → ℕ → Type 0
-  Passes v p i = (left trees : ℕ) → pastTrees table (left + length (below v p)) (trees + childrenOf v) i ≡ pastTrees table left trees (i + length (below v p))
+  Passes v p i = (left trees : ℕ) → pastTrees table (left + length (below v p)) (trees + valueChildren v) i ≡ pastTrees table left trees (i + length (below v p))
 
   -- past a tree
-  past-tree : (v : Value) (tag p d i : ℕ) → Grown table most i (placed v tag p d) → Passes v p (i + 1) → (left trees : ℕ) → pastTrees table (left + recordsOf v) (suc trees) i ≡ pastTrees table left trees (i + recordsOf v)
+  past-tree : (v : Value) (tag p d i : ℕ) → Grown table most i (valueNode v tag p d) → Passes v p (i + 1) → (left trees : ℕ) → pastTrees table (left + recordsOf v) (suc trees) i ≡ pastTrees table left trees (i + recordsOf v)
   unfolding heads
   past-tree v tag p d i g rec left trees =
       let l : suc (length (below v p)) ≡ recordsOf v = length-heads v tag p in
       let a : left + recordsOf v ≡ suc (left + length (below v p)) = omega (arith, l) in
       let b : (i + 1) + length (below v p) ≡ i + recordsOf v = omega (arith, l) in
-      rw a (past-head (left + length (below v p)) trees i (placed v tag p d) g ∙ rec left trees ∙ rw b)
+      rw a (past-head (left + length (below v p)) trees i (valueNode v tag p d) g ∙ rec left trees ∙ rw b)
 
   -- past a tree and the trees after it
-  past-more : (v : Value) (tag p d i l n : ℕ) → Grown table most i (placed v tag p d) → Passes v p (i + 1) →
+  past-more : (v : Value) (tag p d i l n : ℕ) → Grown table most i (valueNode v tag p d) → Passes v p (i + 1) →
       ((left trees : ℕ) → pastTrees table (left + l) (trees + n) (i + recordsOf v) ≡ pastTrees table left trees ((i + recordsOf v) + l)) →
       (left trees : ℕ) → pastTrees table (left + (recordsOf v + l)) (trees + suc n) i ≡ pastTrees table left trees (i + (recordsOf v + l))
   past-more v tag p d i l n g rec after left trees =
@@ -60,10 +60,10 @@ module _ (table : List ℕ) (most : ℕ) (short : length table ≤ 4294967295) (
   here left trees i = rw (add-zero left, add-zero trees, add-zero i)
 
   mutual
-    unfolding Shows below heads Fits payloadOf tally childrenOf items values
+    unfolding Shows below heads Fits payloadOf tally valueChildren items values
 
     past-below : (v : Value) (p i : ℕ) → Shows table i (below v p) → Fits v → p + payloadOf v ≤ most → (left trees : ℕ) →
-        pastTrees table (left + length (below v p)) (trees + childrenOf v) i ≡ pastTrees table left trees (i + length (below v p))
+        pastTrees table (left + length (below v p)) (trees + valueChildren v) i ≡ pastTrees table left trees (i + length (below v p))
     past-below nothing p i s f l left trees = here left trees i
     past-below (boolean x) p i s f l left trees = here left trees i
     past-below (number k x) p i s f l left trees = here left trees i
@@ -100,7 +100,7 @@ module _ (table : List ℕ) (most : ℕ) (short : length table ≤ 4294967295) (
         (λ x y. past-belowV vs (p + payloadOf v) (i + recordsOf v) b (f .1) (omega arith) x y) left trees)
 
   -- past a node's whole tree
-  pub past-node : (i : ℕ) (n : Placed) → Grown table most i n → (left trees : ℕ) → pastTrees table (left + recordsOf (n .value)) (suc trees) i ≡ pastTrees table left trees (i + recordsOf (n .value))
+  pub past-node : (i : ℕ) (n : ValueNode) → Grown table most i n → (left trees : ℕ) → pastTrees table (left + recordsOf (n .value)) (suc trees) i ≡ pastTrees table left trees (i + recordsOf (n .value))
   unfolding Shows heads
   past-node i n g = past-tree (n .value) (n .tag) (n .before) (n .depth) i g (past-below (n .value) (n .before) (i + 1) (g .rows .1) (g .fits) (g .ends))
 
@@ -116,7 +116,7 @@ module _ (table : List ℕ) (most : ℕ) (short : length table ≤ 4294967295) (
       let b : Shows table (i + recordsOf v) (belowV vs (p + payloadOf v)) = rw (length-heads v 0 p) at (shows-right table i (heads v 0 p) (belowV vs (p + payloadOf v)) s) in
       let e : left + (recordsOf v + nodesBefore vs k) ≡ (left + nodesBefore vs k) + recordsOf v = omega arith in
       let c : (i + recordsOf v) + nodesBefore vs k ≡ i + (recordsOf v + nodesBefore vs k) = omega arith in
-      rw e (past-node i (placed v 0 p 0) (record { rows = a; fits = f .0; tag-fits = omega arith; ends = omega arith }) (left + nodesBefore vs k) k
+      rw e (past-node i (valueNode v 0 p 0) (record { rows = a; fits = f .0; tag-fits = omega arith; ends = omega arith }) (left + nodesBefore vs k) k
       ∙ past-fields vs k (p + payloadOf v) (i + recordsOf v) b (f .1) (omega arith) (omega arith) left ∙ rw c)
 
 -- a field begins before the last node below its tuple
@@ -149,7 +149,7 @@ same-number a b e = ap told e
 -- ---- the table of a value
 
 module _ (v : Value) (table store : List ℕ) (is : TableOf v table store) (short : length table ≤ 4294967295) (small : length store ≤ 4294967295) where
-  module _ (i : ℕ) (n : Placed) (h : NodeIs (nodes v) i n) where
+  module _ (i : ℕ) (n : ValueNode) (h : NodeIs (preorder v) i n) where
     grown : Grown table (length store) i n
     grown = node-grown v table store is short small i n h
 
@@ -193,11 +193,11 @@ module _ (v : Value) (table store : List ℕ) (is : TableOf v table store) (shor
           )
 
       -- There stands node k of the tuple,
-      pub field-is : (u : Value) → FieldIs vs k u → (m : ℕ) × ((c : Placed) × ((fieldRule table i k ≡ Number m) × (NodeIs (nodes v) m c × (c .value ≡ u))))
+      pub field-is : (u : Value) → FieldIs vs k u → (m : ℕ) × ((c : ValueNode) × ((fieldRule table i k ≡ Number m) × (NodeIs (preorder v) m c × (c .value ≡ u))))
       field-is u f = let c = field-node v i n vs k u h t f in ((i + 1) + nodesBefore vs k, (c .0, (field-says (field-counts vs k u f), c .1)))
 
   -- and the next field is behind it.
-  pub next-field : (i : ℕ) (n : Placed) (h : NodeIs (nodes v) i n) (vs : Values) → n .value ≡ tuple vs → (k m : ℕ) → suc k < values vs → fieldRule table i k ≡ Number m → fieldRule table i (suc k) ≡ afterRule table m
+  pub next-field : (i : ℕ) (n : ValueNode) (h : NodeIs (preorder v) i n) (vs : Values) → n .value ≡ tuple vs → (k m : ℕ) → suc k < values vs → fieldRule table i k ≡ Number m → fieldRule table i (suc k) ≡ afterRule table m
   next-field i n h vs t k m l e =
       let q = some-field vs k (omega arith) in
       let c = field-node v i n vs k (q .0) h t (q .1) in
