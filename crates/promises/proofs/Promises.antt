@@ -1,7 +1,7 @@
 -- The page of promises. Each statement is about the written rules (crates/rules/specs) and nothing else, and is proved by a citation.
 -- A call inherits it by a contract that says: its answer is what the rule says.
 -- Assumes nothing.
-use Prim.Native.Nat.{ℕ, _+_, _≤_, _<_}
+use Prim.Native.Nat.{ℕ, _+_, _≤_, _<_, suc}
 use mathlib.Core.Path.{_≡_}
 use mathlib.Core.Bool.{Bool}
 use mathlib.Core.List.{List, _++_, map}
@@ -14,9 +14,9 @@ use Rattle.rules.specs.Block.{records, blockTree, Denotes, Formed, blockOk, Ord
 use Rattle.rules.specs.SchemaRules.{schemaRule, ruleAt, firstOf, preorder}
 use Rattle.rules.specs.Format.{Format, tables, tableSchema, formatRule, formatRules, schemaAnswer, encoderRule}
 use Rattle.rules.specs.Good.{GoodSchema, GoodTable, GoodFormat, TableSchema}
-use Rattle.rules.specs.Value.{Value}
+use Rattle.rules.specs.Value.{Value, tuple, Values, values, recordsOf}
 use Rattle.rules.specs.ValueRecord.{valueRecordStart}
-use Rattle.rules.specs.ValueTable.{TableOf, Whole, tableEnd, tableValue}
+use Rattle.rules.specs.ValueTable.{TableOf, Whole, tableEnd, tableValue, valueKind}
 use Rattle.rules.specs.Grammar.{Row, TableRow}
 use Rattle.rules.specs.Walk.{Limits, Pos, Got, Refused}
 use Rattle.rules.specs.Reading.{limits, rowAt, schemaOf, Accepts, skipRule, room, recordRoom, roomTest, untouched, decodeRule, NoRow, LeavesRow, runRule, Iterated, byteCount, ranOf}
@@ -57,6 +57,15 @@ use Rattle.promises.proofs.Apart.{refusals-apart, reads-apart, stops-ap
 use Rattle.promises.proofs.Tables.{table-encodes, decoded-row, decoded-none}
 use Rattle.promises.proofs.RoundTrip.{encoded-when, encoded-as, refused-leaves, refused-in-order, skips-back, reads-back}
 use Rattle.promises.proofs.Again as again
+use Rattle.rules.specs.Refusals.{Setting}
+use Rattle.rules.specs.Query.{queryRule}
+use Rattle.rules.specs.View.{kindRule, tagRule, childCountRule, afterRule, fieldRule}
+use Rattle.rules.specs.Preorder.{ValueNode, valuePreorder, NodeIs, valueSaid, valueChildren, FieldIs, FirstChild}
+use Rattle.rules.specs.declared.query.Queried.the-variants as queried
+use Rattle.rules.specs.declared.query.Viewed.the-variants.{Number}
+use Rattle.value_laws.proofs.Query as query
+use Rattle.value_laws.proofs.View as view
+use Rattle.value_laws.proofs.Subtrees as subtrees
 
 -- ---- the document's own examples: its table of rows, computed on the rules of the whole calls
 pub the-documents-rows : map outcome lines ≡ outcomes
@@ -259,3 +268,39 @@ module _ (f : Format) (s : Settings) (inp : List ℕ) (at : ℕ) (rs ps : List �
 pub skip-is-decode : (at : ℕ) (rs ps : List ℕ) (f : Format) (s : Settings) (inp : List ℕ) →
     decodeRule f s inp at rs ps .answer ≡ roomTest at rs ps (skipRule f s inp at)
 skip-is-decode = decode-tested
+
+-- ---- the host's side: in the table of a value, record i is node i in preorder
+
+module _ (v : Value) (table store : List ℕ) (is : TableOf v table store) (short : length table ≤ 4294967295) (small : length store ≤ 4294967295) where
+  -- The query answers what the node is, for each number below the number of nodes; from there on it answers 1.
+  pub query-of-node : (i : ℕ) → i < recordsOf v → (n : ValueNode) × (NodeIs (valuePreorder v) i n × (queryRule table i ≡ queried.Value (valueSaid (n .value) (n .before))))
+  query-of-node = query.query-answers v table store is short small
+
+  pub query-of-none : (i : ℕ) → recordsOf v ≤ i → queryRule table i ≡ queried.Refused Setting
+  query-of-none = query.query-past v table store is short small
+
+  module _ (i : ℕ) (n : ValueNode) (at : NodeIs (valuePreorder v) i n) where
+    -- So do the getters of the row view,
+    pub view-kind : kindRule table i ≡ Number (valueKind (n .value))
+    view-kind = query.kind-says v table store is short small i n at
+
+    pub view-tag : tagRule table i ≡ Number (n .tag)
+    view-tag = query.tag-says v table store is short small i n at
+
+    pub view-child-count : childCountRule table i ≡ Number (valueChildren (n .value))
+    view-child-count = query.children-say v table store is short small i n at
+
+    -- and its steps: behind the node's tree, and to field k, which is node k of the tuple.
+    pub view-after : afterRule table i ≡ Number (i + recordsOf (n .value))
+    view-after = view.after-says v table store is short small i n at
+
+    pub view-field : (vs : Values) → n .value ≡ tuple vs → (k : ℕ) (u : Value) → FieldIs vs k u →
+        (m : ℕ) × ((c : ValueNode) × ((fieldRule table i k ≡ Number m) × (NodeIs (valuePreorder v) m c × (c .value ≡ u))))
+    view-field vs t k = view.field-is v table store is short small i n at vs t k
+
+    -- The first child is the next record, and field k + 1 is behind field k.
+    pub view-first-child : (u : Value) → FirstChild (n .value) u → (c : ValueNode) × (NodeIs (valuePreorder v) (i + 1) c × (c .value ≡ u))
+    view-first-child u = subtrees.first-child v i n u at
+
+    pub view-next-field : (vs : Values) → n .value ≡ tuple vs → (k m : ℕ) → suc k < values vs → fieldRule table i k ≡ Number m → fieldRule table i (suc k) ≡ afterRule table m
+    view-next-field = view.next-field v table store is short small i n at

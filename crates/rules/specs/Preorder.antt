@@ -41,8 +41,8 @@ unfoldable mutual
   nodesBelowV (more v vs) p d = valueNode v 0 p d ∷ (nodesBelow v p (suc d) ++ nodesBelowV vs (p + payloadOf v) d)
 
 -- the nodes of a value
-unfoldable pub preorder : Value → List ValueNode
-preorder v = valueNode v 0 0 1 ∷ nodesBelow v 0 2
+unfoldable pub valuePreorder : Value → List ValueNode
+valuePreorder v = valueNode v 0 0 1 ∷ nodesBelow v 0 2
 
 -- node i is this one
 unfoldable pub NodeIs : List ValueNode → ℕ → ValueNode → Type 0

@@ -9,7 +9,7 @@ use native.Mathlib.Nat.{add-zero}
 use lib.ListN.{length, length-append}
 use Rattle.rules.specs.Value.{Value, nothing, boolean, number, wide, blob, variant, repeated, tuple, Items, done, item, Values, none, more, Fits, FitsI, FitsV, tally, tallyI, tallyV, recordsOf, payloadOf}
 use Rattle.rules.specs.ValueTable.{headOf, below, belowI, belowV, heads}
-use Rattle.rules.specs.Preorder.{ValueNode, valueNode, nodesBelow, nodesBelowI, nodesBelowV, preorder, NodeIs}
+use Rattle.rules.specs.Preorder.{ValueNode, valueNode, nodesBelow, nodesBelowI, nodesBelowV, valuePreorder, NodeIs}
 use Rattle.value_laws.proofs.Records.{Shows, shows-left, shows-right}
 use Rattle.value_laws.proofs.Sizes.{length-heads}
 
@@ -78,8 +78,8 @@ mutual
 pub length-valueNode : (v : Value) (tag p d : ℕ) → length (valueNode v tag p d ∷ nodesBelow v p (suc d)) ≡ recordsOf v
 length-valueNode v tag p d = omega (arith, length-nodes v p (suc d))
 
-pub length-all : (v : Value) → length (preorder v) ≡ recordsOf v
-unfolding preorder
+pub length-all : (v : Value) → length (valuePreorder v) ≡ recordsOf v
+unfolding valuePreorder
 length-all v = length-valueNode v 0 0 1
 
 -- ---- a node's records stand where it counts

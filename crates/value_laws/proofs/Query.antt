@@ -16,7 +16,7 @@ use Rattle.rules.specs.ValueTable.{bit, payloadBytes, valueKind, sizeOf, conten
 use Rattle.rules.specs.Refusals.{Setting}
 use Rattle.rules.specs.Query.{scalarAlone, parentAlone, recordAlone, recordThere, recordGood, recordSeen, numberSaid, scalarSaid, recordSaid, queriedOf, queryRule}
 use Rattle.rules.specs.View.{childCount, viewedOf, kindRule, tagRule, childCountRule}
-use Rattle.rules.specs.Preorder.{ValueNode, preorder, NodeIs, valueSaid, valueChildren}
+use Rattle.rules.specs.Preorder.{ValueNode, valuePreorder, NodeIs, valueSaid, valueChildren}
 use Rattle.rules.specs.declared.table_record.ValueRecord.{ValueRecord}
 use Rattle.rules.specs.declared.query.Seen.{Seen}
 use Rattle.rules.specs.declared.query.Seen.the-variants as seen
@@ -122,15 +122,15 @@ module _ (v : Value) (table store : List ℕ) (is : TableOf v table store) (shor
   table-count = omega (arith, rows-shown .1, length-heads v 0 0)
 
   -- node i of the value has its records from record i on
-  pub node-grown : (i : ℕ) (n : ValueNode) → NodeIs (preorder v) i n → Grown table (length store) i n
-  unfolding preorder Shows heads
+  pub node-grown : (i : ℕ) (n : ValueNode) → NodeIs (valuePreorder v) i n → Grown table (length store) i n
+  unfolding valuePreorder Shows heads
   node-grown i n h =
       let e : length store ≡ payloadOf v = ap length (is .payload) ∙ length-pays v in
       let z : 0 + i ≡ i = omega arith in
       rw z at (at-node table (length store) v 0 0 1 0 (record { rows = rows-shown .0; fits = is .fits; tag-fits = omega arith; ends = omega (arith, e) })
       (below-grown table (length store) v 0 2 1 (rows-shown .0 .1) (is .fits) (omega (arith, e))) i n h)
 
-  module _ (i : ℕ) (n : ValueNode) (h : NodeIs (preorder v) i n) where
+  module _ (i : ℕ) (n : ValueNode) (h : NodeIs (valuePreorder v) i n) where
     -- it is seen
     pub node-seen : recordSeen table i ≡ seen.Record (headOf (n .value) (n .tag) (n .before))
     unfolding recordThere recordGood recordSeen pick _and_
@@ -163,8 +163,8 @@ module _ (v : Value) (table store : List ℕ) (is : TableOf v table store) (shor
     children-say = rw (node-seen, head-children (n .value) (n .tag) (n .before) (node-grown i n h .fits))
 
   -- There is a node for each number below the number of nodes, so that none of these is refused.
-  pub query-answers : (i : ℕ) → i < recordsOf v → (n : ValueNode) × (NodeIs (preorder v) i n × (queryRule table i ≡ queried.Value (valueSaid (n .value) (n .before))))
-  query-answers i l = let m = some-node (preorder v) i (omega (arith, length-all v)) in (m .0, (m .1, query-says i (m .0) (m .1)))
+  pub query-answers : (i : ℕ) → i < recordsOf v → (n : ValueNode) × (NodeIs (valuePreorder v) i n × (queryRule table i ≡ queried.Value (valueSaid (n .value) (n .before))))
+  query-answers i l = let m = some-node (valuePreorder v) i (omega (arith, length-all v)) in (m .0, (m .1, query-says i (m .0) (m .1)))
 
   -- From there on the record is not there.
   pub query-past : (i : ℕ) → recordsOf v ≤ i → queryRule table i ≡ queried.Refused Setting

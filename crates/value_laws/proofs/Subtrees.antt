@@ -7,7 +7,7 @@ use mathlib.Core.Logic.{⊎-elim}
 use native.Mathlib.Omega.{arith}
 use lib.ListN.{length}
 use Rattle.rules.specs.Value.{Value, nothing, boolean, number, wide, blob, variant, repeated, tuple, Items, done, item, Values, none, more, recordsOf, payloadOf}
-use Rattle.rules.specs.Preorder.{ValueNode, valueNode, nodesBelow, nodesBelowI, nodesBelowV, preorder, NodeIs, FieldIs, nodesBefore, FirstChild}
+use Rattle.rules.specs.Preorder.{ValueNode, valueNode, nodesBelow, nodesBelowI, nodesBelowV, valuePreorder, NodeIs, FieldIs, nodesBefore, FirstChild}
 use Rattle.value_laws.proofs.Nodes.{node-split, node-left, node-right, no-node, length-valueNode}
 
 -- the nodes below a node
@@ -57,8 +57,8 @@ mutual
   belowV-follow none p d = none-follow
   belowV-follow (more v vs) p d = both-follow (valueNode v 0 p d ∷ nodesBelow v p (suc d)) (nodesBelowV vs (p + payloadOf v) d) (tree-follows v 0 p d (below-follow v p (suc d))) (belowV-follow vs (p + payloadOf v) d)
 
-pub nodes-follow : (v : Value) → Follows (preorder v)
-unfolding preorder
+pub nodes-follow : (v : Value) → Follows (valuePreorder v)
+unfolding valuePreorder
 nodes-follow v = tree-follows v 0 0 1 (below-follow v 0 2)
 
 -- ---- children
@@ -88,15 +88,15 @@ field-below (more v vs) (suc k) u p d h =
     (a .0, (rw (length-valueNode v 0 p d) at l, a .1 .1))
 
 -- The first child of node i is node i + 1.
-pub first-child : (v : Value) (i : ℕ) (n : ValueNode) (u : Value) → NodeIs (preorder v) i n → FirstChild (n .value) u → (c : ValueNode) × (NodeIs (preorder v) (i + 1) c × (c .value ≡ u))
+pub first-child : (v : Value) (i : ℕ) (n : ValueNode) (u : Value) → NodeIs (valuePreorder v) i n → FirstChild (n .value) u → (c : ValueNode) × (NodeIs (valuePreorder v) (i + 1) c × (c .value ≡ u))
 first-child v i n u h f =
     let a = first-below (n .value) u (n .before) (suc (n .depth)) f in
     let e : suc (i + 0) ≡ i + 1 = omega arith in
     (a .0, (rw e at (nodes-follow v i n h 0 (a .0) (a .1 .0)), a .1 .1))
 
 -- Field k of node i, a tuple, is the node that is past node i and the nodes of the fields before it.
-pub field-node : (v : Value) (i : ℕ) (n : ValueNode) (vs : Values) (k : ℕ) (u : Value) → NodeIs (preorder v) i n → n .value ≡ tuple vs → FieldIs vs k u →
-    (c : ValueNode) × (NodeIs (preorder v) ((i + 1) + nodesBefore vs k) c × (c .value ≡ u))
+pub field-node : (v : Value) (i : ℕ) (n : ValueNode) (vs : Values) (k : ℕ) (u : Value) → NodeIs (valuePreorder v) i n → n .value ≡ tuple vs → FieldIs vs k u →
+    (c : ValueNode) × (NodeIs (valuePreorder v) ((i + 1) + nodesBefore vs k) c × (c .value ≡ u))
 unfolding nodesBelow
 field-node v i n vs k u h t f =
     let a = field-below vs k u (n .before) (suc (n .depth)) f in

@@ -14,7 +14,7 @@ use Rattle.rules.specs.ValueRecord.{valueRecordsIn, wholeValueRecords, valueRec
 use Rattle.rules.specs.ValueTable.{valueKind, sizeOf, headOf, below, belowI, belowV, heads, TableOf}
 use Rattle.rules.specs.Query.{recordAlone, recordThere, recordGood, recordSeen}
 use Rattle.rules.specs.View.{childCount, pastTrees, recordsFrom, afterSeen, afterRule, ifThere, hasField, fieldRule}
-use Rattle.rules.specs.Preorder.{ValueNode, valueNode, preorder, NodeIs, FieldIs, nodesBefore, valueChildren}
+use Rattle.rules.specs.Preorder.{ValueNode, valueNode, valuePreorder, NodeIs, FieldIs, nodesBefore, valueChildren}
 use Rattle.rules.specs.declared.query.Viewed.{Viewed}
 use Rattle.rules.specs.declared.query.Viewed.the-variants.{Number, Refused}
 use Rattle.value_laws.proofs.Records.{Shows, shows-left, shows-right, shows-end}
@@ -149,7 +149,7 @@ same-number a b e = ap told e
 -- ---- the table of a value
 
 module _ (v : Value) (table store : List ℕ) (is : TableOf v table store) (short : length table ≤ 4294967295) (small : length store ≤ 4294967295) where
-  module _ (i : ℕ) (n : ValueNode) (h : NodeIs (preorder v) i n) where
+  module _ (i : ℕ) (n : ValueNode) (h : NodeIs (valuePreorder v) i n) where
     grown : Grown table (length store) i n
     grown = node-grown v table store is short small i n h
 
@@ -193,11 +193,11 @@ module _ (v : Value) (table store : List ℕ) (is : TableOf v table store) (shor
           )
 
       -- There stands node k of the tuple,
-      pub field-is : (u : Value) → FieldIs vs k u → (m : ℕ) × ((c : ValueNode) × ((fieldRule table i k ≡ Number m) × (NodeIs (preorder v) m c × (c .value ≡ u))))
+      pub field-is : (u : Value) → FieldIs vs k u → (m : ℕ) × ((c : ValueNode) × ((fieldRule table i k ≡ Number m) × (NodeIs (valuePreorder v) m c × (c .value ≡ u))))
       field-is u f = let c = field-node v i n vs k u h t f in ((i + 1) + nodesBefore vs k, (c .0, (field-says (field-counts vs k u f), c .1)))
 
   -- and the next field is behind it.
-  pub next-field : (i : ℕ) (n : ValueNode) (h : NodeIs (preorder v) i n) (vs : Values) → n .value ≡ tuple vs → (k m : ℕ) → suc k < values vs → fieldRule table i k ≡ Number m → fieldRule table i (suc k) ≡ afterRule table m
+  pub next-field : (i : ℕ) (n : ValueNode) (h : NodeIs (valuePreorder v) i n) (vs : Values) → n .value ≡ tuple vs → (k m : ℕ) → suc k < values vs → fieldRule table i k ≡ Number m → fieldRule table i (suc k) ≡ afterRule table m
   next-field i n h vs t k m l e =
       let q = some-field vs k (omega arith) in
       let c = field-node v i n vs k (q .0) h t (q .1) in
