@@ -1,27 +1,27 @@
 //! The answer slice, taken apart: eleven little-endian numbers.
 
 use crate::sys::ANSWER_SIZE;
-use crate::Refusal;
+use crate::{Extent, Refusal};
 
 /// What the first number says.
-pub const ROW: u64 = 0;
-pub const END: u64 = 1;
+const ROW: u64 = 0;
+const END: u64 = 1;
 
 /// The numbers that an accepted call has something to say by; the rest are a refusal's.
-pub struct Report {
-    pub what: u64,
-    pub refusal: Option<Refusal>,
-    pub rows: u64,
-    pub bytes: u64,
-    pub table: u64,
-    pub records: u64,
-    pub payload: u64,
+pub(crate) struct Report {
+    what: u64,
+    pub(crate) refusal: Option<Refusal>,
+    pub(crate) rows: u64,
+    pub(crate) bytes: u64,
+    pub(crate) table: u64,
+    records: u64,
+    payload: u64,
 }
 
 impl Report {
     /// Makes a call into an answer slice of its own and reads what it wrote.
     #[inline]
-    pub fn of(call: impl FnOnce(&mut [u8]) -> u32) -> Self {
+    pub(crate) fn of(call: impl FnOnce(&mut [u8]) -> u32) -> Self {
         let mut answer = [0; ANSWER_SIZE];
         let returned = call(&mut answer);
         let number = |index: usize| {
@@ -30,7 +30,7 @@ impl Report {
         debug_assert_eq!(u64::from(returned), number(1), "the number is told twice");
         let refusal = match number(1) {
             0 => None,
-            refused => Some(known(refused, number(2), [number(3), number(4), number(5)])),
+            refused => Some(Refusal::from_numbers(refused, number(2), [number(3), number(4), number(5)])),
         };
         Self {
             what: number(0),
@@ -42,11 +42,23 @@ impl Report {
             payload: number(10),
         }
     }
-}
 
-/// Apart from the calls, so that these are small enough to be compiled into their callers.
-#[cold]
-fn known(number: u64, place: u64, carried: [u64; 3]) -> Refusal {
-    Refusal::from_numbers(number, place, carried)
-        .expect("the library answers with the refusals of its document")
+    /// Of a call that only accepts or refuses.
+    #[inline]
+    pub(crate) fn accepted(&self) -> Result<(), Refusal> {
+        self.refusal.map_or(Ok(()), Err)
+    }
+
+    /// Of a call that finds a row, an end or a refusal.
+    #[inline]
+    pub(crate) fn extent(&self) -> Result<Option<Extent>, Refusal> {
+        match (self.refusal, self.what, u16::try_from(self.table), usize::try_from(self.bytes)) {
+            (Some(refusal), ..) => Err(refusal),
+            (None, ROW, Ok(table), Ok(bytes)) => {
+                Ok(Some(Extent { table, bytes, records: self.records, payload: self.payload }))
+            }
+            (None, END, ..) => Ok(None),
+            (None, what, ..) => Err(Refusal::from_numbers(0, what, [self.table, self.bytes, 0])),
+        }
+    }
 }

@@ -4,12 +4,7 @@
 //! millions of inputs for that reason among others. Their contracts ask nothing of a caller but that
 //! each pointer leads to as many bytes as its length says, which a slice guarantees.
 
-use crate::{Format, Settings};
-#[cfg(feature = "encode")]
-use crate::{SchemaBlock, ValueTable};
-
-#[cfg(feature = "double")]
-extern crate double as _;
+use crate::{Format, SchemaBlock, Settings, ValueTable};
 
 /// A shorter answer slice is left as it is, and so are all others; the call returns 1.
 pub const ANSWER_SIZE: usize = 88;
@@ -61,7 +56,6 @@ reading_calls! {
     "skiff1_run_window" fn skiff_run_window(rows: u64, bytes: u64);
 }
 
-#[cfg(feature = "encode")]
 extern "C" {
     #[link_name = "skiff1_encode"]
     fn skiff_encode(
@@ -98,8 +92,11 @@ extern "C" {
 /// The three settings as numbers, unchecked: the library checks them.
 #[derive(Debug, Clone, Copy, PartialEq, Eq)]
 pub struct Numbers {
+    /// What each value of a row costs.
     pub node_charge: u64,
+    /// How long a blob may be.
     pub max_blob_bytes: u64,
+    /// How much a row may cost.
     pub max_row_bytes: u64,
 }
 
@@ -186,7 +183,6 @@ pub fn run_window(
 }
 
 /// `skiff_encode`: the refusal's number, 0 where the row was written.
-#[cfg(feature = "encode")]
 #[inline]
 pub fn encode(
     numbers: Numbers,
@@ -223,7 +219,6 @@ pub fn encode(
 }
 
 /// `skiff_check_value_table`: the refusal's number, 0 where it is a table.
-#[cfg(feature = "encode")]
 #[inline]
 pub fn check_value_table(value: &ValueTable, answer: &mut [u8]) -> u32 {
     // SAFETY: as in `encode`; only the answer slice is written.

@@ -7,25 +7,45 @@ use std::fmt;
 #[derive(Debug, Clone, Copy, PartialEq, Eq, PartialOrd, Ord, Hash)]
 #[repr(u8)]
 pub enum WireType {
+    /// No bytes.
     Nothing,
+    /// One byte; every one but 0 is true.
     Boolean,
+    /// One byte, signed.
     Int8,
+    /// Two bytes, signed.
     Int16,
+    /// Four bytes, signed.
     Int32,
+    /// Eight bytes, signed.
     Int64,
+    /// Sixteen bytes, signed.
     Int128,
+    /// Thirty-two bytes, signed.
     Int256,
+    /// One byte.
     Uint8,
+    /// Two bytes.
     Uint16,
+    /// Four bytes.
     Uint32,
+    /// Eight bytes.
     Uint64,
+    /// Eight bytes of a floating-point number.
     Double,
+    /// A length of four bytes, and so many bytes.
     String32,
+    /// A length of four bytes, and so many bytes of YSON.
     Yson32,
+    /// A tag of one byte, and the child that it chooses.
     Variant8,
+    /// A tag of two bytes, and the child that it chooses.
     Variant16,
+    /// Tags of one byte, each with its child, until tag 255.
     RepeatedVariant8,
+    /// Tags of two bytes, each with its child, until tag 65,535.
     RepeatedVariant16,
+    /// One child after another.
     Tuple,
 }
 
@@ -54,6 +74,7 @@ impl WireType {
         (WireType::Tuple, "tuple"),
     ];
 
+    /// Its wire code, 0 to 19.
     pub const fn code(self) -> u8 {
         self as u8
     }

@@ -1,0 +1,121 @@
+//! The flat tables of a format, looked into: for names and for paths, never for an answer. Only tables that
+//! the library has accepted are worth looking into; in others something may not be found.
+
+use crate::{Format, SchemaBlock, WireType};
+
+const RECORD_BYTES: usize = crate::sys::SCHEMA_RECORD_BYTES;
+
+/// A little-endian number of a record.
+fn number(record: &[u8], at: usize, bytes: usize) -> usize {
+    record[at..at + bytes].iter().rev().fold(0, |number, byte| number << 8 | usize::from(*byte))
+}
+
+fn record(table: &[u8], index: usize) -> Option<&[u8]> {
+    let start = index.checked_mul(RECORD_BYTES)?;
+    table.get(start..start + RECORD_BYTES)
+}
+
+fn span(store: &[u8], start: usize, length: usize) -> Option<&[u8]> {
+    store.get(start..start.checked_add(length)?)
+}
+
+/// One schema record.
+#[derive(Debug, Clone, Copy)]
+pub(crate) struct Node<'a> {
+    pub(crate) wire_type: WireType,
+    pub(crate) name: Option<&'a [u8]>,
+    first_child: usize,
+    pub(crate) children: usize,
+}
+
+impl Node<'_> {
+    /// The number in the block of the child of this index.
+    pub(crate) fn child(&self, index: usize) -> Option<usize> {
+        (index < self.children).then(|| self.first_child + index)
+    }
+}
+
+impl<'a> SchemaBlock<'a> {
+    /// The node of this number in the block.
+    pub(crate) fn node(&self, index: usize) -> Option<Node<'a>> {
+        let record = record(self.records, usize::try_from(self.first).ok()?.checked_add(index)?)?;
+        let name = match record[1] {
+            0 => None,
+            _ => Some(span(self.names, number(record, 4, 4), number(record, 2, 2))?),
+        };
+        let wire_type = WireType::from_code(u64::from(record[0]))?;
+        Some(Node { wire_type, name, first_child: number(record, 8, 4), children: number(record, 12, 4) })
+    }
+
+    /// The names of the columns, in order.
+    pub fn columns(&self) -> Columns<'a> {
+        Columns { block: *self, root: self.node(0), next: 0 }
+    }
+
+    /// Which column has this name: the first, where several do.
+    pub fn column(&self, name: impl AsRef<[u8]>) -> Option<usize> {
+        self.columns().position(|column| column == name.as_ref())
+    }
+
+    /// The schema as a tree: what [`crate::Schema::tables`] lays out. None where the block is not in form.
+    pub fn schema(&self) -> Option<crate::Schema> {
+        self.tree(0, 64)
+    }
+
+    fn tree(&self, index: usize, levels: usize) -> Option<crate::Schema> {
+        let node = self.node(index)?;
+        let below = levels.checked_sub(1)?;
+        // A block has as many records as nodes, so a count that passes its end is none.
+        let children = (0..node.children)
+            .map(|child| self.tree(node.child(child).filter(|child| *child > index)?, below))
+            .collect::<Option<Vec<_>>>()?;
+        Some(crate::Schema { wire_type: node.wire_type, name: node.name.map(<[u8]>::to_vec), children })
+    }
+}
+
+/// The names of a table's columns that are left, in order.
+#[derive(Debug, Clone)]
+pub struct Columns<'a> {
+    block: SchemaBlock<'a>,
+    root: Option<Node<'a>>,
+    next: usize,
+}
+
+impl<'a> Iterator for Columns<'a> {
+    type Item = &'a [u8];
+
+    fn next(&mut self) -> Option<Self::Item> {
+        let child = self.root?.child(self.next)?;
+        self.next += 1;
+        self.block.node(child)?.name
+    }
+}
+
+impl<'a> Format<'a> {
+    /// How many tables there are.
+    pub fn tables(&self) -> usize {
+        self.references.len() / RECORD_BYTES
+    }
+
+    /// The schema of a table, inline or from the registry. None where there is no such table.
+    pub fn table_schema(&self, table: u16) -> Option<SchemaBlock<'a>> {
+        let reference = record(self.references, usize::from(table))?;
+        let (one, two) = (number(reference, 4, 4), number(reference, 8, 4));
+        match reference[0] {
+            0 => Some(self.block(one, two)),
+            _ => self.registered(span(self.names, one, two)?),
+        }
+    }
+
+    fn registered(&self, name: &[u8]) -> Option<SchemaBlock<'a>> {
+        let entry = self
+            .registry
+            .chunks_exact(RECORD_BYTES)
+            .find(|entry| span(self.names, number(entry, 0, 4), number(entry, 4, 4)) == Some(name))?;
+        Some(self.block(number(entry, 8, 4), number(entry, 12, 4)))
+    }
+
+    fn block(&self, first: usize, count: usize) -> SchemaBlock<'a> {
+        SchemaBlock { records: self.records, names: self.names, first: first as u64, count: count as u64 }
+    }
+}
