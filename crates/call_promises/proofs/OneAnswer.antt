@@ -34,6 +34,9 @@ use Rattle.skiff.proofs.reading.skiff1_decode as skiff1-decode
 use Rattle.skiff.proofs.window.skiff1_run_window as skiff1-run-window
 use Rattle.skiff.proofs.writing.skiff1_encode as skiff1-encode
 use Rattle.skiff.proofs.writing.skiff1_check_value_table as skiff1-check-value-table
+use Rattle.skiff.proofs.checking.skiff1_check_format as skiff1-check-format
+use Rattle.skiff.proofs.checking.skiff1_check_encoder_schema as skiff1-check-encoder-schema
+use Rattle.skiff.proofs.checking.skiff1_parse as skiff1-parse
 
 -- one result
 abbrev pub OneAnswer : {n : ℕ} (ps : List (PK n)) (r : RK n) → Out n ps r → Type 0
@@ -126,3 +129,12 @@ skiff1-encode-one-answer κs a x y s t p q = (ap (λ g. g .number) (p ∙ sym q)
 
 pub skiff1-check-value-table-one-answer : OneOutcome skiff1-check-value-table.Kinds.ps skiff1-check-value-table.Kinds.r (λ κs (records, (payload, (answer, _))). answer .now ∷ []) skiff1-check-value-table.Reads.Post
 skiff1-check-value-table-one-answer κs a x y s t p q = (ap (λ g. g .number) (p ∙ sym q), ap (λ g. g .answer ∷ []) (p ∙ sym q))
+
+pub skiff1-check-format-one-answer : OneOutcome skiff1-check-format.Kinds.ps skiff1-check-format.Kinds.r (λ κs (table, (names, (references, (registry, (answer, _))))). answer .now ∷ []) skiff1-check-format.Reads.Post
+skiff1-check-format-one-answer κs a x y s t p q = (ap (λ g. g .number) (p ∙ sym q), ap (λ g. g .answer ∷ []) (p ∙ sym q))
+
+pub skiff1-check-encoder-schema-one-answer : OneOutcome skiff1-check-encoder-schema.Kinds.ps skiff1-check-encoder-schema.Kinds.r (λ κs (table, (names, (first, (count, (answer, _))))). answer .now ∷ []) skiff1-check-encoder-schema.Reads.Post
+skiff1-check-encoder-schema-one-answer κs a x y s t p q = (ap (λ g. g .number) (p ∙ sym q), ap (λ g. g .answer ∷ []) (p ∙ sym q))
+
+pub skiff1-parse-one-answer : OneOutcome skiff1-parse.Kinds.ps skiff1-parse.Kinds.r (λ κs (name, (answer, _)). answer .now ∷ []) skiff1-parse.Reads.Post
+skiff1-parse-one-answer κs a x y s t p q = (ap (λ g. g .number) (p ∙ sym q), ap (λ g. g .answer ∷ []) (p ∙ sym q))

@@ -46,6 +46,7 @@ use Rattle.schema.proofs.format.table_schema as table-schema
 use Rattle.read.proofs.budget.RowBudget.new as budget-new
 use Rattle.read.proofs.budget.RowBudget.charge as charge
 use Rattle.read.proofs.budget.blob_limit as blob-limit
+use Rattle.charge.proofs.lower as lower
 use Rattle.read.proofs.fields.read_tag as read-tag
 use Rattle.read.proofs.fields.read_table as read-table
 use Rattle.read.proofs.fields.read_length as read-length
@@ -64,6 +65,7 @@ use Rattle.skiff.proofs.answer.answer_of_read as answer-of-read
 use Rattle.skiff.proofs.answer.answer_of_ran as answer-of-ran
 use Rattle.skiff.proofs.answer.answer_of_written as answer-of-written
 use Rattle.skiff.proofs.answer.answer_of_checked as answer-of-checked
+use Rattle.skiff.proofs.answer.answer_of_known as answer-of-known
 use Rattle.skiff.proofs.answer.give as give
 use Rattle.wire.proofs.store.put16 as put16
 use Rattle.wire.proofs.store.put32 as put32
@@ -208,6 +210,9 @@ budget-new-one-answer κs a x y s t p q = p ∙ sym q
 pub charge-one-answer : OneAnswer charge.Kinds.ps charge.Kinds.r charge.Reads.Post
 charge-one-answer κs a x y s t p q = p ∙ sym q
 
+pub lower-one-answer : OneAnswer lower.Kinds.ps lower.Kinds.r lower.Reads.Post
+lower-one-answer κs a x y s t p q = p ∙ sym q
+
 pub blob-limit-one-answer : OneAnswer blob-limit.Kinds.ps blob-limit.Kinds.r blob-limit.Reads.Post
 blob-limit-one-answer κs a x y s t p q = p ∙ sym q
 
@@ -273,6 +278,9 @@ answer-of-written-one-answer κs a x y s t p q = p ∙ sym q
 
 pub answer-of-checked-one-answer : OneAnswer answer-of-checked.Kinds.ps answer-of-checked.Kinds.r answer-of-checked.Reads.Post
 answer-of-checked-one-answer κs a x y s t p q = p ∙ sym q
+
+pub answer-of-known-one-answer : OneAnswer answer-of-known.Kinds.ps answer-of-known.Kinds.r answer-of-known.Reads.Post
+answer-of-known-one-answer κs a x y s t p q = p ∙ sym q
 
 -- ---- steps that write
 pub put16-one-answer : OneOutcome put16.Kinds.ps put16.Kinds.r (λ κs (s, _). s .now ∷ []) put16.Reads.Post

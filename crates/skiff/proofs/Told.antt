@@ -1,11 +1,15 @@
--- An answer in numbers, by what was read, written or checked, or why a run stopped.
+-- An answer in numbers, by what was read, written, checked or known, or why a run stopped.
 -- Assumes nothing.
 use Prim.Native.Nat.{ℕ}
 use mathlib.Core.Path.{_≡_}
 use Rattle.rules.specs.Choice.{pick}
 use Rattle.rules.specs.Refusals.{reportOf}
+use Rattle.rules.specs.Wire.{codeOf}
 use Rattle.rules.specs.Windows.{goesOn}
 use Rattle.rules.specs.declared.refusal.Report.{Report}
+use Rattle.rules.specs.declared.wire_type.WireType.{WireType}
+use Rattle.rules.specs.declared.wire_type.Known.{Known}
+use Rattle.rules.specs.declared.wire_type.Known.the-variants as known
 use Rattle.rules.specs.declared.answer.Extent.{Extent}
 use Rattle.rules.specs.declared.refusal.Refusal.{Refusal}
 use Rattle.rules.specs.declared.answer.Read.{Read}
@@ -17,11 +21,16 @@ use Rattle.rules.specs.declared.answer.Checked.the-variants as checked
 use Rattle.rules.specs.declared.answer.Stop.{Stop}
 use Rattle.rules.specs.declared.answer.Stop.the-variants as stop
 use Rattle.skiff.specs.declared.answer.AnswerNumbers.{AnswerNumbers}
-use Rattle.skiff.specs.Answers.{noRefusal, extentOfBytes, answerOfRead, answerOfWritten, answerOfChecked, answerOfRan, whatOf, whyOf, answerOfWindow}
+use Rattle.skiff.specs.Answers.{noRefusal, extentOfBytes, answerOfRead, answerOfWritten, answerOfChecked, answerOfKnown, answerOfRan, whatOf, whyOf, answerOfWindow}
 
 pub told-row : (w : Report) (x : Read) (e : Extent) → x ≡ read.Row e → w ≡ noRefusal → record { what = 0; why = w; rows = 1; row = e } ≡ answerOfRead x
 unfolding answerOfRead
 told-row w x e p q = rw (p, q)
+
+pub known-wire : (w : Report) (x : Known) (t : WireType) (code : ℕ) → x ≡ known.Wire t → w ≡ noRefusal → code ≡ codeOf t →
+    record { what = 0; why = w; rows = 0; row = record { table = code; bytes = 0; records = 0; payload = 0 } } ≡ answerOfKnown x
+unfolding answerOfKnown
+known-wire w x t code p q c = rw (p, q, c)
 
 module _ (a : AnswerNumbers) where
   pub written-row : (x : Written) (e : Extent) → x ≡ written.Row e → a ≡ answerOfRead (read.Row e) → a ≡ answerOfWritten x
@@ -48,6 +57,10 @@ module _ (w : Report) (n : Extent) where
   pub checked-accepted : (x : Checked) → x ≡ checked.Accepted → w ≡ noRefusal → n ≡ extentOfBytes 0 → record { what = 0; why = w; rows = 0; row = n } ≡ answerOfChecked x
   unfolding answerOfChecked
   checked-accepted x p q m = rw (p, q, m)
+
+  pub known-none : (x : Known) → x ≡ known.Unknown → w ≡ noRefusal → n ≡ extentOfBytes 0 → record { what = 3; why = w; rows = 0; row = n } ≡ answerOfKnown x
+  unfolding answerOfKnown
+  known-none x p q m = rw (p, q, m)
 
   pub ran-end : (x : Stop) (rows bytes : ℕ) → x ≡ stop.End → w ≡ noRefusal → n ≡ extentOfBytes bytes → record { what = 1; why = w; rows = rows; row = n } ≡ answerOfRan (record { rows = rows; bytes = bytes; stop = x })
   unfolding answerOfRan whatOf whyOf

@@ -5,8 +5,11 @@ use mathlib.Core.List.{List, [], _∷_, _++_}
 use Rattle.rules.specs.Choice.{pick}
 use Rattle.rules.specs.Bytes.{le}
 use Rattle.rules.specs.Refusals.{reportOf}
+use Rattle.rules.specs.Wire.{codeOf}
 use Rattle.rules.specs.Windows.{goesOn}
 use Rattle.rules.specs.declared.refusal.Report.{Report}
+use Rattle.rules.specs.declared.wire_type.Known.{Known}
+use Rattle.rules.specs.declared.wire_type.Known.the-variants as known
 use Rattle.rules.specs.declared.answer.Extent.{Extent}
 use Rattle.rules.specs.declared.answer.Read.{Read}
 use Rattle.rules.specs.declared.answer.Read.the-variants.{Row, End, Refused}
@@ -56,6 +59,11 @@ answerOfWritten (written.Refused r) = answerOfRead (Refused r)
 unfoldable pub answerOfChecked : Checked → AnswerNumbers
 answerOfChecked checked.Accepted = record { what = 0; why = noRefusal; rows = 0; row = extentOfBytes 0 }
 answerOfChecked (checked.Refused r) = answerOfRead (Refused r)
+
+-- a wire type is told by its code, in the table's place; where there is none, what is 3, and all else 0
+unfoldable pub answerOfKnown : Known → AnswerNumbers
+answerOfKnown (known.Wire t) = record { what = 0; why = noRefusal; rows = 0; row = record { table = codeOf t; bytes = 0; records = 0; payload = 0 } }
+answerOfKnown known.Unknown = record { what = 3; why = noRefusal; rows = 0; row = extentOfBytes 0 }
 
 unfoldable pub whatOf : Stop → ℕ
 whatOf stop.End = 1

@@ -6,14 +6,15 @@ use lib.ListN.{length}
 use lib.Dec.{leb}
 use Rattle.rules.specs.Choice.{pick}
 use Rattle.rules.specs.Bytes.{over}
-use Rattle.rules.specs.Format.{Format}
+use Rattle.rules.specs.Names.{parsed}
+use Rattle.rules.specs.Format.{Format, formatRule, encoderRule}
 use Rattle.rules.specs.Reading.{skipRule, runRule, ranOf, Decoded, decodeRule}
 use Rattle.rules.specs.Writing.{Encoded, encodeRule}
 use Rattle.rules.specs.ValueCheck.{valueTableRule}
 use Rattle.rules.specs.Windows.{runAfter}
 use Rattle.rules.specs.declared.settings.Settings.{Settings}
 use Rattle.skiff.specs.declared.answer.AnswerNumbers.{AnswerNumbers}
-use Rattle.skiff.specs.Answers.{answerLayout, answerOfRead, answerOfRan, answerOfWindow, answerOfWritten, answerOfChecked}
+use Rattle.skiff.specs.Answers.{answerLayout, answerOfRead, answerOfRan, answerOfWindow, answerOfWritten, answerOfChecked, answerOfKnown}
 
 abbrev pub settingsOf : ℕ → ℕ → ℕ → Settings
 settingsOf charge blob row = record { «node_charge» = charge; «max_blob_bytes» = blob; «max_row_bytes» = row }
@@ -36,6 +37,16 @@ runGiven f s inp slice = given slice (answerOfRan (ranOf (runRule f s inp)))
 -- a window that begins where so many rows, of so many bytes, end
 unfoldable pub runWindowGiven : Format → Settings → List ℕ → ℕ → ℕ → List ℕ → Given
 runWindowGiven f s window rows bytes slice = given slice (answerOfWindow (runAfter f s rows bytes window))
+
+unfoldable pub checkFormatGiven : Format → List ℕ → Given
+checkFormatGiven f slice = given slice (answerOfChecked (formatRule f))
+
+-- a block of so many records of the table, from its first one on
+unfoldable pub checkEncoderSchemaGiven : List ℕ → List ℕ → ℕ → ℕ → List ℕ → Given
+checkEncoderSchemaGiven table names first n slice = given slice (answerOfChecked (encoderRule table names first n))
+
+unfoldable pub parseGiven : List ℕ → List ℕ → Given
+parseGiven name slice = given slice (answerOfKnown (parsed name))
 
 unfoldable pub checkValueTableGiven : List ℕ → List ℕ → List ℕ → Given
 checkValueTableGiven rs ps slice = given slice (answerOfChecked (valueTableRule rs ps))

@@ -4,19 +4,21 @@ ghost use Prim.Native.Nat.{_+_, _≤_};
 ghost use mathlib.Core.List.{_∷_, []};
 ghost use lib.ListN.{length};
 ghost use Rattle.rules.specs.Bytes.{over};
-ghost use Rattle.skiff.specs.Answers.{words, answerLayout, noRefusal, extentOfBytes, answerOfRead, answerOfRan, answerOfWritten, answerOfChecked};
+ghost use Rattle.skiff.specs.Answers.{words, answerLayout, noRefusal, extentOfBytes, answerOfRead, answerOfRan, answerOfWritten, answerOfChecked, answerOfKnown};
 use rules::Checked;
 use rules::Extent;
+use rules::Known;
 use rules::Read;
 use rules::Report;
 use rules::Stop;
 use rules::Written;
+use wire::code_of;
 use wire::store::put64;
 
 // The bytes of an answer.
 pub const ANSWER: usize = 88;
 
-// An answer in numbers: 0 a row or what is accepted, 1 an end, 2 a refusal; why it is refused; the rows, and what they or the one row take.
+// An answer in numbers: 0 a row or what is accepted, 1 an end, 2 a refusal, 3 no wire type; why it is refused; the rows, and what they or the one row take.
 pub struct AnswerNumbers {
     pub what: u64,
     pub why: Report,
@@ -97,6 +99,31 @@ pub fn answer_of_checked(answer: Checked) -> AnswerNumbers
             row: extent_of_bytes(0),
         },
         Checked::Refused(refusal) => answer_of_read(Read::Refused(refusal)),
+    }
+}
+
+// A wire type in numbers: its code in the table's place, or 3 where there is none.
+pub fn answer_of_known(known: Known) -> AnswerNumbers
+    ensures { λ r. ⌜ r ≡ answerOfKnown known ⌝ }
+{
+    match known {
+        Known::Wire(t) => AnswerNumbers {
+            what: 0,
+            why: no_refusal(),
+            rows: 0,
+            row: Extent {
+                table: code_of(t) as u64,
+                bytes: 0,
+                records: 0,
+                payload: 0,
+            },
+        },
+        Known::Unknown => AnswerNumbers {
+            what: 3,
+            why: no_refusal(),
+            rows: 0,
+            row: extent_of_bytes(0),
+        },
     }
 }
 

@@ -1,5 +1,6 @@
 // The C functions. An answer goes to a slice that is kept for answers, in one layout for all of them: include/skiff.h.
 pub mod answer;
+pub mod checking;
 pub mod reading;
 pub mod window;
 pub mod writing;
