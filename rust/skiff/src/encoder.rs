@@ -54,12 +54,7 @@ impl ValueTable<'_> {
 impl SchemaBlock<'_> {
     /// Whether rows can be written by it: in form, by the rules, a tuple whose columns have names.
     pub fn check(&self) -> Result<(), Refusal> {
-        let nothing = ValueTable { records: &[], payload: &[] };
-        // No record is no value, and that is judged after the schema.
-        match self.put(&Settings::default(), &nothing, &mut [], 0) {
-            Err(Refusal::BadValueTable) => Ok(()),
-            other => other.map(drop),
-        }
+        Report::of(|answer| sys::check_encoder_schema(self, answer)).accepted()
     }
 
     /// Writes a row at `position` of `output`. Refused, it has written nothing; where there is too little

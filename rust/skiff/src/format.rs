@@ -95,7 +95,7 @@ impl<'a> Format<'a> {
     /// # Ok::<(), Box<dyn std::error::Error>>(())
     /// ```
     pub fn check(&self) -> Result<(), Refusal> {
-        self.run(&Settings::default(), &[]).to_end().map(drop)
+        Report::of(|answer| sys::check_format(self, answer)).accepted()
     }
 
     /// Passes the row at `position` of `input`; none where that is the input's end. Any position is taken

@@ -131,25 +131,20 @@ impl Walk<'_> {
         if self.charge(self.node_charge) {
             return Some(Found::Here);
         }
-        match node.wire_type {
-            WireType::Nothing => Some(Found::Later),
-            WireType::Boolean | WireType::Int8 | WireType::Uint8 => self.fixed(1),
-            WireType::Int16 | WireType::Uint16 => self.fixed(2),
-            WireType::Int32 | WireType::Uint32 => self.fixed(4),
-            WireType::Int64 | WireType::Uint64 | WireType::Double => self.fixed(8),
-            WireType::Int128 => self.fixed(16),
-            WireType::Int256 => self.fixed(32),
-            WireType::String32 | WireType::Yson32 => self.blob(),
-            WireType::Variant8 => self.variant(node, 1),
-            WireType::Variant16 => self.variant(node, 2),
-            WireType::RepeatedVariant8 => self.repeated(node, 1),
-            WireType::RepeatedVariant16 => self.repeated(node, 2),
-            WireType::Tuple => self.tuple(node),
+        match (node.wire_type, node.wire_type.fixed_width()) {
+            (_, Some(width)) => self.fixed(width),
+            (WireType::Variant8, _) => self.variant(node, 1),
+            (WireType::Variant16, _) => self.variant(node, 2),
+            (WireType::RepeatedVariant8, _) => self.repeated(node, 1),
+            (WireType::RepeatedVariant16, _) => self.repeated(node, 2),
+            (WireType::Tuple, _) => self.tuple(node),
+            _ => self.blob(),
         }
     }
 
     fn fixed(&mut self, width: usize) -> Option<Found> {
-        if self.is_place() {
+        // What has no bytes can't be cut.
+        if width > 0 && self.is_place() {
             return Some(Found::Here);
         }
         self.at = self.at.checked_add(width)?;

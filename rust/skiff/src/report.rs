@@ -49,6 +49,11 @@ impl Report {
         self.refusal.map_or(Ok(()), Err)
     }
 
+    /// Of a call that finds a wire type, whose code then stands in the table's place, or none.
+    pub(crate) fn wire_code(&self) -> Option<u64> {
+        (self.refusal.is_none() && self.what == ROW).then_some(self.table)
+    }
+
     /// Of a call that finds a row, an end or a refusal.
     #[inline]
     pub(crate) fn extent(&self) -> Result<Option<Extent>, Refusal> {

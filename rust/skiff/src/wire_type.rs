@@ -2,6 +2,9 @@
 
 use std::fmt;
 
+use crate::report::Report;
+use crate::sys;
+
 /// How one schema node is written on the wire. The order is that of the wire codes 0 to 19, which is
 /// how a type stands in a schema record and in a refusal.
 #[derive(Debug, Clone, Copy, PartialEq, Eq, PartialOrd, Ord, Hash)]
@@ -84,6 +87,32 @@ impl WireType {
         Self::ALL.get(usize::try_from(code).ok()?).map(|(wire_type, _)| *wire_type)
     }
 
+    /// The type of a name, byte for byte: nothing is trimmed, and no case is folded.
+    ///
+    /// ```
+    /// use skiff::WireType;
+    ///
+    /// assert_eq!(WireType::parse("repeated_variant8"), Some(WireType::RepeatedVariant8));
+    /// assert_eq!(WireType::parse("Int8"), None);
+    /// ```
+    pub fn parse(name: impl AsRef<[u8]>) -> Option<Self> {
+        Self::from_code(Report::of(|answer| sys::parse(name.as_ref(), answer)).wire_code()?)
+    }
+
+    /// How many bytes each value of it has, where that is the same for all; a nothing has none.
+    pub const fn fixed_width(self) -> Option<usize> {
+        Some(match self {
+            Self::Nothing => 0,
+            Self::Boolean | Self::Int8 | Self::Uint8 => 1,
+            Self::Int16 | Self::Uint16 => 2,
+            Self::Int32 | Self::Uint32 => 4,
+            Self::Int64 | Self::Uint64 | Self::Double => 8,
+            Self::Int128 => 16,
+            Self::Int256 => 32,
+            _ => return None,
+        })
+    }
+
     /// The name that schemas and messages use.
     pub fn name(self) -> &'static str {
         Self::ALL[usize::from(self.code())].1
@@ -93,5 +122,46 @@ impl WireType {
 impl fmt::Display for WireType {
     fn fmt(&self, formatter: &mut fmt::Formatter<'_>) -> fmt::Result {
         formatter.write_str(self.name())
+    }
+}
+
+#[cfg(test)]
+mod tests {
+    use super::*;
+    use crate::{FormatBuilder, Schema, Settings};
+
+    /// The names here are those that the library knows, each as its own code.
+    #[test]
+    fn a_type_is_parsed_by_its_name_alone() {
+        for (code, (wire_type, name)) in (0..).zip(WireType::ALL) {
+            assert_eq!(u64::from(wire_type.code()), code);
+            assert_eq!(WireType::from_code(code), Some(wire_type));
+            assert_eq!((wire_type.name(), wire_type.to_string().as_str()), (name, name));
+            assert_eq!(WireType::parse(name), Some(wire_type));
+            for other in [format!("{name} "), name.to_uppercase(), format!("{name}_")] {
+                assert_eq!(WireType::parse(&other), None);
+            }
+        }
+        assert_eq!(WireType::parse(""), None);
+        assert_eq!(WireType::parse([0xFF, 0xFE]), None);
+        assert_eq!(WireType::from_code(20), None);
+    }
+
+    /// A width here is that of the row that the library reads.
+    #[test]
+    fn a_width_is_the_librarys() {
+        for (wire_type, _) in WireType::ALL {
+            let column = Schema::leaf(wire_type).named("c");
+            let tables = FormatBuilder::new().table(Schema::tuple([column])).build().expect("short names");
+            let bytes = |filling| {
+                let stream = [&[0, 0], &[filling; 64][..]].concat();
+                tables.format().skip_row(&Settings::default(), &stream, 0).ok().flatten()
+            };
+            let same = [0, 1, 255].map(|filling| bytes(filling).map(|row| row.bytes - 2));
+            let width = wire_type.fixed_width();
+            // A tuple without children has no bytes either, but others have some.
+            let is_fixed = same[0].is_some() && same[0] == same[1] && same[1] == same[2];
+            assert_eq!(width, same[0].filter(|_| is_fixed && wire_type != WireType::Tuple), "{wire_type}");
+        }
     }
 }
