@@ -4,7 +4,6 @@
 //!
 //! Nothing that is said of the library may rest on a run over this.
 
-mod checking;
 mod decoding;
 mod encoding;
 mod fault;
@@ -12,7 +11,6 @@ mod fault;
 use std::slice;
 
 use plain::encoding::Given;
-use plain::format::{validate_encoder, validate_format};
 use plain::reading::{run, skip};
 use plain::report::{what, Report};
 use plain::settings::{Settings, MOST};
@@ -175,61 +173,4 @@ pub unsafe extern "C" fn skiff_check_value_table(
     let records = slice::from_raw_parts(value_records, value_records_len);
     let payload = slice::from_raw_parts(payload, payload_len);
     encoding::check_answer(records, payload, slice::from_raw_parts_mut(answer, answer_len))
-}
-
-/// # Safety
-/// Each pointer leads to as many bytes as the length after it says.
-#[export_name = "skiff1_check_format"]
-pub unsafe extern "C" fn skiff_check_format(
-    records: *const u8,
-    records_len: usize,
-    names: *const u8,
-    names_len: usize,
-    references: *const u8,
-    references_len: usize,
-    registry: *const u8,
-    registry_len: usize,
-    answer: *mut u8,
-    answer_len: usize,
-) -> u32 {
-    let tables = FormatTables {
-        records: slice::from_raw_parts(records, records_len),
-        names: slice::from_raw_parts(names, names_len),
-        references: slice::from_raw_parts(references, references_len),
-        registry: slice::from_raw_parts(registry, registry_len),
-    };
-    let lengths = [records_len, names_len, references_len, registry_len];
-    checking::answer(&lengths, || validate_format(&tables), slice::from_raw_parts_mut(answer, answer_len))
-}
-
-/// # Safety
-/// Each pointer leads to as many bytes as the length after it says.
-#[export_name = "skiff1_check_encoder_schema"]
-pub unsafe extern "C" fn skiff_check_encoder_schema(
-    records: *const u8,
-    records_len: usize,
-    names: *const u8,
-    names_len: usize,
-    first: u64,
-    count: u64,
-    answer: *mut u8,
-    answer_len: usize,
-) -> u32 {
-    let records = slice::from_raw_parts(records, records_len);
-    let names = slice::from_raw_parts(names, names_len);
-    let check = || validate_encoder(records, names, Block { first, count });
-    checking::answer(&[records_len, names_len], check, slice::from_raw_parts_mut(answer, answer_len))
-}
-
-/// # Safety
-/// Each pointer leads to as many bytes as the length after it says.
-#[export_name = "skiff1_parse"]
-pub unsafe extern "C" fn skiff_parse(
-    name: *const u8,
-    name_len: usize,
-    answer: *mut u8,
-    answer_len: usize,
-) -> u32 {
-    let name = slice::from_raw_parts(name, name_len);
-    checking::parse_answer(name, slice::from_raw_parts_mut(answer, answer_len))
 }

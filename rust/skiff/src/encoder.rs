@@ -54,7 +54,8 @@ impl ValueTable<'_> {
 impl SchemaBlock<'_> {
     /// Whether rows can be written by it: in form, by the rules, a tuple whose columns have names.
     pub fn check(&self) -> Result<(), Refusal> {
-        Report::of(|answer| sys::check_encoder_schema(self, answer)).accepted()
+        let Self { records, names, first, count } = *self;
+        Report::of(|answer| sys::check_encoder_schema(records, names, first, count, answer)).accepted()
     }
 
     /// Writes a row at `position` of `output`. Refused, it has written nothing; where there is too little

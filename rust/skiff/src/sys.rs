@@ -87,32 +87,6 @@ extern "C" {
         answer: *mut u8,
         answer_len: usize,
     ) -> u32;
-    #[link_name = "skiff1_check_format"]
-    fn skiff_check_format(
-        records: *const u8,
-        records_len: usize,
-        names: *const u8,
-        names_len: usize,
-        references: *const u8,
-        references_len: usize,
-        registry: *const u8,
-        registry_len: usize,
-        answer: *mut u8,
-        answer_len: usize,
-    ) -> u32;
-    #[link_name = "skiff1_check_encoder_schema"]
-    fn skiff_check_encoder_schema(
-        records: *const u8,
-        records_len: usize,
-        names: *const u8,
-        names_len: usize,
-        first: u64,
-        count: u64,
-        answer: *mut u8,
-        answer_len: usize,
-    ) -> u32;
-    #[link_name = "skiff1_parse"]
-    fn skiff_parse(name: *const u8, name_len: usize, answer: *mut u8, answer_len: usize) -> u32;
 }
 
 /// The three settings as numbers, unchecked: the library checks them.
@@ -258,46 +232,4 @@ pub fn check_value_table(value: &ValueTable, answer: &mut [u8]) -> u32 {
             answer.len(),
         )
     }
-}
-
-/// `skiff_check_format`: the refusal's number, 0 where it is a format.
-pub fn check_format(format: &Format, answer: &mut [u8]) -> u32 {
-    // SAFETY: as in `encode`; only the answer slice is written.
-    unsafe {
-        skiff_check_format(
-            format.records.as_ptr(),
-            format.records.len(),
-            format.names.as_ptr(),
-            format.names.len(),
-            format.references.as_ptr(),
-            format.references.len(),
-            format.registry.as_ptr(),
-            format.registry.len(),
-            answer.as_mut_ptr(),
-            answer.len(),
-        )
-    }
-}
-
-/// `skiff_check_encoder_schema`: the refusal's number, 0 where rows can be written by the block.
-pub fn check_encoder_schema(block: &SchemaBlock, answer: &mut [u8]) -> u32 {
-    // SAFETY: as in `encode`; only the answer slice is written.
-    unsafe {
-        skiff_check_encoder_schema(
-            block.records.as_ptr(),
-            block.records.len(),
-            block.names.as_ptr(),
-            block.names.len(),
-            block.first,
-            block.count,
-            answer.as_mut_ptr(),
-            answer.len(),
-        )
-    }
-}
-
-/// `skiff_parse`: the answer has the wire code in a table's place, or says that there is no such type.
-pub fn parse(name: &[u8], answer: &mut [u8]) -> u32 {
-    // SAFETY: as in `encode`; only the answer slice is written.
-    unsafe { skiff_parse(name.as_ptr(), name.len(), answer.as_mut_ptr(), answer.len()) }
 }
