@@ -1,14 +1,16 @@
 /*
- * skiff.h: rows of Skiff streams, skipped, counted, decoded and written by a proved library.
+ * skiff.h: rows of Skiff streams, skipped, counted, decoded and written, and their formats checked, by a
+ * proved library.
  *
  * Link target/staticlib/libskiff.a, which `rt staticlib skiff` writes; it is for x86-64 and needs no
  * other library. The functions keep nothing between calls, allocate nothing and write to nothing but
  * the answer slice and, in skiff_decode, the two slices for a row, in skiff_encode the output, so any number
  * of threads may call them.
  *
- * A slice is a pointer and a length. The pointer leads to so many bytes and may not be null, not even
- * where the length is 0 and it is not followed; the length is below 2^63. A slice that is written
- * overlaps none of the others.
+ * A slice is a pointer and a length. The pointer leads to so many bytes; where the length is 0 it is not
+ * followed and may be null. The length is below 2^63. A slice that is written overlaps none of the others.
+ *
+ * It is C99 and C++17. skiff_calls.h, which it includes at its end, ties these functions to the symbols.
  */
 #ifndef SKIFF_H
 #define SKIFF_H
@@ -23,18 +25,8 @@ extern "C" {
 /* The release, as CHANGELOG.md has it. */
 #define SKIFF_VERSION "0.1.0"
 
-/*
- * The version of all layouts below: records, answers, parameters. It is part of the symbols, so that a
- * program and an archive that differ in a layout do not link. `check-refusals` compares these names with
- * the library's.
- */
+/* The version of all layouts below: records, answers, parameters. */
 #define SKIFF_LAYOUT 1
-#define skiff_skip skiff1_skip
-#define skiff_decode skiff1_decode
-#define skiff_run skiff1_run
-#define skiff_run_window skiff1_run_window
-#define skiff_encode skiff1_encode
-#define skiff_check_value_table skiff1_check_value_table
 
 /* Settings. The node charge is 1 to 4,096 and each limit at most 4,294,967,295, else SKIFF_SETTING. */
 #define SKIFF_DEFAULT_NODE_CHARGE UINT64_C(48)
@@ -98,15 +90,18 @@ enum skiff_answer {
     SKIFF_ANSWER_TABLE = 8,     /* the row's table, and below how much skiff_decode makes of it, or
                                    skiff_encode was given: */
     SKIFF_ANSWER_RECORDS = 9,   /* value records, of SKIFF_VALUE_RECORD_BYTES each, */
-    SKIFF_ANSWER_PAYLOAD = 10,  /* and payload bytes; all three are 0 for a run, but for: */
-    SKIFF_ANSWER_MAY_CHANGE = 8 /* of skiff_run_window, 1 where more bytes may change the answer, else 0 */
+    SKIFF_ANSWER_PAYLOAD = 10,  /* and payload bytes; all three are 0 for a run and a check, but for: */
+    SKIFF_ANSWER_MAY_CHANGE = 8, /* of skiff_run_window, 1 where more bytes may change the answer, else 0 */
+    SKIFF_ANSWER_TYPE = 8       /* of skiff_parse, the wire type's code */
 };
 
 enum skiff_what {
-    SKIFF_WHAT_ROW = 0,    /* a row was skipped, decoded or written; or a value table is one, and
-                              then all other numbers are 0 too */
-    SKIFF_WHAT_END = 1,    /* the position is the input's length, or the run came to it */
-    SKIFF_WHAT_REFUSAL = 2 /* refused; a run then has the rows and bytes before */
+    SKIFF_WHAT_ROW = 0,     /* a row was skipped, decoded or written; or a format, a schema or a value
+                               table was accepted, and then all other numbers are 0 too; or a name is
+                               that of a wire type */
+    SKIFF_WHAT_END = 1,     /* the position is the input's length, or the run came to it */
+    SKIFF_WHAT_REFUSAL = 2, /* refused; a run then has the rows and bytes before */
+    SKIFF_WHAT_NO_TYPE = 3  /* of skiff_parse: no wire type has that name, which is no refusal */
 };
 
 /*
@@ -118,14 +113,14 @@ enum skiff_what {
  * skiff_decode answer stands whatever bytes come after the window, but for an end and SKIFF_TRUNCATED;
  * and it is the stream's own answer, with the window's start added to a place that is an offset.
  */
-uint32_t skiff_skip(uint64_t node_charge, uint64_t max_blob_bytes, uint64_t max_row_bytes,
-                    const uint8_t *records, size_t records_len,
-                    const uint8_t *names, size_t names_len,
-                    const uint8_t *references, size_t references_len,
-                    const uint8_t *registry, size_t registry_len,
-                    const uint8_t *input, size_t input_len,
-                    uint64_t position,
-                    uint8_t *answer, size_t answer_len);
+static inline uint32_t skiff_skip(uint64_t node_charge, uint64_t max_blob_bytes, uint64_t max_row_bytes,
+                                  const uint8_t *records, size_t records_len,
+                                  const uint8_t *names, size_t names_len,
+                                  const uint8_t *references, size_t references_len,
+                                  const uint8_t *registry, size_t registry_len,
+                                  const uint8_t *input, size_t input_len,
+                                  uint64_t position,
+                                  uint8_t *answer, size_t answer_len);
 
 /*
  * A value record: how a decoded row has one of its values, in 16 bytes, numbers little-endian. A row's
@@ -144,6 +139,27 @@ uint32_t skiff_skip(uint64_t node_charge, uint64_t max_blob_bytes, uint64_t max_
  * Payloads stand one after another in the order of their records, with nothing between them.
  */
 #define SKIFF_VALUE_RECORD_BYTES 16
+
+struct skiff_value_record {
+    uint8_t kind;
+    uint16_t tag;
+    uint32_t size;
+    uint64_t data;
+};
+
+/* Record n, from 0 on, of value records that have it. It only takes the bytes apart. */
+static inline struct skiff_value_record skiff_value_record_at(const uint8_t *value_records, size_t n)
+{
+    const uint8_t *bytes = value_records + n * SKIFF_VALUE_RECORD_BYTES;
+    struct skiff_value_record record = {bytes[0], 0, 0, 0};
+    int i;
+    record.tag = (uint16_t)(bytes[2] | bytes[3] << 8);
+    for (i = 3; i >= 0; i--)
+        record.size = record.size << 8 | bytes[4 + i];
+    for (i = 7; i >= 0; i--)
+        record.data = record.data << 8 | bytes[8 + i];
+    return record;
+}
 
 /* Up to SKIFF_KIND_YSON32 the wire codes. A tag's width is gone from variants and repeated ones. */
 enum skiff_kind {
@@ -173,25 +189,25 @@ enum skiff_kind {
  * too little room, SKIFF_NO_NODE_ROOM or else SKIFF_NO_PAYLOAD_ROOM carries what all of it needs, with
  * the row's offset for a place. Of each of the two slices only the first 4,294,967,295 bytes count.
  */
-uint32_t skiff_decode(uint64_t node_charge, uint64_t max_blob_bytes, uint64_t max_row_bytes,
-                      const uint8_t *records, size_t records_len,
-                      const uint8_t *names, size_t names_len,
-                      const uint8_t *references, size_t references_len,
-                      const uint8_t *registry, size_t registry_len,
-                      const uint8_t *input, size_t input_len,
-                      uint64_t position,
-                      uint8_t *value_records, size_t value_records_len,
-                      uint8_t *payload, size_t payload_len,
-                      uint8_t *answer, size_t answer_len);
+static inline uint32_t skiff_decode(uint64_t node_charge, uint64_t max_blob_bytes, uint64_t max_row_bytes,
+                                    const uint8_t *records, size_t records_len,
+                                    const uint8_t *names, size_t names_len,
+                                    const uint8_t *references, size_t references_len,
+                                    const uint8_t *registry, size_t registry_len,
+                                    const uint8_t *input, size_t input_len,
+                                    uint64_t position,
+                                    uint8_t *value_records, size_t value_records_len,
+                                    uint8_t *payload, size_t payload_len,
+                                    uint8_t *answer, size_t answer_len);
 
 /* All rows from the start of `input`, until its end or the first refusal, which is then returned. */
-uint32_t skiff_run(uint64_t node_charge, uint64_t max_blob_bytes, uint64_t max_row_bytes,
-                   const uint8_t *records, size_t records_len,
-                   const uint8_t *names, size_t names_len,
-                   const uint8_t *references, size_t references_len,
-                   const uint8_t *registry, size_t registry_len,
-                   const uint8_t *input, size_t input_len,
-                   uint8_t *answer, size_t answer_len);
+static inline uint32_t skiff_run(uint64_t node_charge, uint64_t max_blob_bytes, uint64_t max_row_bytes,
+                                 const uint8_t *records, size_t records_len,
+                                 const uint8_t *names, size_t names_len,
+                                 const uint8_t *references, size_t references_len,
+                                 const uint8_t *registry, size_t registry_len,
+                                 const uint8_t *input, size_t input_len,
+                                 uint8_t *answer, size_t answer_len);
 
 /*
  * skiff_run over a stream that comes in windows. `rows` and `bytes` are those of the rows so far, 0 and 0
@@ -205,14 +221,14 @@ uint32_t skiff_run(uint64_t node_charge, uint64_t max_blob_bytes, uint64_t max_r
  * as the stream has at most 4,294,967,295. Where `bytes` and the window's length pass that number, and where
  * there are more rows than bytes, SKIFF_SETTING is answered with 0 rows and 0 bytes.
  */
-uint32_t skiff_run_window(uint64_t node_charge, uint64_t max_blob_bytes, uint64_t max_row_bytes,
-                          const uint8_t *records, size_t records_len,
-                          const uint8_t *names, size_t names_len,
-                          const uint8_t *references, size_t references_len,
-                          const uint8_t *registry, size_t registry_len,
-                          const uint8_t *window, size_t window_len,
-                          uint64_t rows, uint64_t bytes,
-                          uint8_t *answer, size_t answer_len);
+static inline uint32_t skiff_run_window(uint64_t node_charge, uint64_t max_blob_bytes, uint64_t max_row_bytes,
+                                        const uint8_t *records, size_t records_len,
+                                        const uint8_t *names, size_t names_len,
+                                        const uint8_t *references, size_t references_len,
+                                        const uint8_t *registry, size_t registry_len,
+                                        const uint8_t *window, size_t window_len,
+                                        uint64_t rows, uint64_t bytes,
+                                        uint8_t *answer, size_t answer_len);
 
 /*
  * The row that a value table is, written at `position` of `output` under one schema: `count` records of the
@@ -222,26 +238,55 @@ uint32_t skiff_run_window(uint64_t node_charge, uint64_t max_blob_bytes, uint64_
  * value; and last SKIFF_NO_OUTPUT_ROOM, which carries the row's bytes. Of the output only the first
  * 4,294,967,295 bytes count. Nothing is charged, so node_charge and max_row_bytes need only be in bounds.
  */
-uint32_t skiff_encode(uint64_t node_charge, uint64_t max_blob_bytes, uint64_t max_row_bytes,
-                      const uint8_t *records, size_t records_len,
-                      const uint8_t *names, size_t names_len,
-                      uint64_t first, uint64_t count,
-                      const uint8_t *value_records, size_t value_records_len,
-                      const uint8_t *payload, size_t payload_len,
-                      uint8_t *output, size_t output_len,
-                      uint64_t position,
-                      uint8_t *answer, size_t answer_len);
+static inline uint32_t skiff_encode(uint64_t node_charge, uint64_t max_blob_bytes, uint64_t max_row_bytes,
+                                    const uint8_t *records, size_t records_len,
+                                    const uint8_t *names, size_t names_len,
+                                    uint64_t first, uint64_t count,
+                                    const uint8_t *value_records, size_t value_records_len,
+                                    const uint8_t *payload, size_t payload_len,
+                                    uint8_t *output, size_t output_len,
+                                    uint64_t position,
+                                    uint8_t *answer, size_t answer_len);
 
 /*
  * Whether value records and payload are exactly one value, as skiff_decode writes it: SKIFF_BAD_VALUE_TABLE
  * where they are not.
  */
-uint32_t skiff_check_value_table(const uint8_t *value_records, size_t value_records_len,
-                                 const uint8_t *payload, size_t payload_len,
-                                 uint8_t *answer, size_t answer_len);
+static inline uint32_t skiff_check_value_table(const uint8_t *value_records, size_t value_records_len,
+                                               const uint8_t *payload, size_t payload_len,
+                                               uint8_t *answer, size_t answer_len);
+
+/*
+ * Whether the four tables are a format. skiff_skip, skiff_decode, skiff_run and skiff_run_window check it
+ * by themselves at every call, and refuse it as this does, but for settings and positions, which come first.
+ */
+static inline uint32_t skiff_check_format(const uint8_t *records, size_t records_len,
+                                          const uint8_t *names, size_t names_len,
+                                          const uint8_t *references, size_t references_len,
+                                          const uint8_t *registry, size_t registry_len,
+                                          uint8_t *answer, size_t answer_len);
+
+/*
+ * Whether `count` records of the record table from record `first` on are a schema to write by. skiff_encode
+ * checks it by itself at every call.
+ */
+static inline uint32_t skiff_check_encoder_schema(const uint8_t *records, size_t records_len,
+                                                  const uint8_t *names, size_t names_len,
+                                                  uint64_t first, uint64_t count,
+                                                  uint8_t *answer, size_t answer_len);
+
+/*
+ * The wire type that has this very name, as "int8" or "repeated_variant16": its code, 0 to 19, in
+ * SKIFF_ANSWER_TYPE, or SKIFF_WHAT_NO_TYPE. Nothing is trimmed, and no name is refused, however long;
+ * so 0 is returned, but SKIFF_SETTING where the answer slice is too short.
+ */
+static inline uint32_t skiff_parse(const uint8_t *name, size_t name_len,
+                                   uint8_t *answer, size_t answer_len);
 
 #ifdef __cplusplus
 }
 #endif
+
+#include "skiff_calls.h"
 
 #endif

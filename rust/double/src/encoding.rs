@@ -103,5 +103,5 @@ pub fn check_answer(records: &[u8], payload: &[u8], answer: &mut [u8]) -> u32 {
         }
         _ => {}
     }
-    Report::of_value_table(&checked).write_to(answer)
+    Report::of_checked(&checked).write_to(answer)
 }

@@ -11,10 +11,12 @@ mod fault;
 use std::slice;
 
 use plain::encoding::Given;
+use plain::format::{validate_encoder, validate_format};
 use plain::reading::{run, skip};
 use plain::report::{what, Report};
 use plain::settings::{Settings, MOST};
 use plain::tables::{Block, FormatTables};
+use plain::wire_type::parse;
 
 /// All that a reading call is given but for its answer slice. A run's position is 0.
 #[derive(Clone, Copy)]
@@ -173,4 +175,64 @@ pub unsafe extern "C" fn skiff_check_value_table(
     let records = slice::from_raw_parts(value_records, value_records_len);
     let payload = slice::from_raw_parts(payload, payload_len);
     encoding::check_answer(records, payload, slice::from_raw_parts_mut(answer, answer_len))
+}
+
+/// No fault is planted in the checks.
+///
+/// # Safety
+/// Each pointer leads to as many bytes as the length after it says.
+#[export_name = "skiff1_check_format"]
+pub unsafe extern "C" fn skiff_check_format(
+    records: *const u8,
+    records_len: usize,
+    names: *const u8,
+    names_len: usize,
+    references: *const u8,
+    references_len: usize,
+    registry: *const u8,
+    registry_len: usize,
+    answer: *mut u8,
+    answer_len: usize,
+) -> u32 {
+    let tables = FormatTables {
+        records: slice::from_raw_parts(records, records_len),
+        names: slice::from_raw_parts(names, names_len),
+        references: slice::from_raw_parts(references, references_len),
+        registry: slice::from_raw_parts(registry, registry_len),
+    };
+    let answer = slice::from_raw_parts_mut(answer, answer_len);
+    Report::of_checked(&validate_format(&tables)).write_to(answer)
+}
+
+/// # Safety
+/// Each pointer leads to as many bytes as the length after it says.
+#[export_name = "skiff1_check_encoder_schema"]
+pub unsafe extern "C" fn skiff_check_encoder_schema(
+    records: *const u8,
+    records_len: usize,
+    names: *const u8,
+    names_len: usize,
+    first: u64,
+    count: u64,
+    answer: *mut u8,
+    answer_len: usize,
+) -> u32 {
+    let records = slice::from_raw_parts(records, records_len);
+    let names = slice::from_raw_parts(names, names_len);
+    let answer = slice::from_raw_parts_mut(answer, answer_len);
+    Report::of_checked(&validate_encoder(records, names, Block { first, count })).write_to(answer)
+}
+
+/// # Safety
+/// Each pointer leads to as many bytes as the length after it says.
+#[export_name = "skiff1_parse"]
+pub unsafe extern "C" fn skiff_parse(
+    name: *const u8,
+    name_len: usize,
+    answer: *mut u8,
+    answer_len: usize,
+) -> u32 {
+    let name = slice::from_raw_parts(name, name_len);
+    let answer = slice::from_raw_parts_mut(answer, answer_len);
+    Report::of_parsed(parse(name)).write_to(answer)
 }

@@ -11,6 +11,7 @@ pub mod what {
     pub const ROW: u64 = 0;
     pub const END: u64 = 1;
     pub const REFUSAL: u64 = 2;
+    pub const NO_TYPE: u64 = 3;
 }
 
 /// The eleven numbers by name.
@@ -54,11 +55,19 @@ impl Report {
         Self::of_skip(&encoded.map(Skipped::Row))
     }
 
-    /// An accepted value table is told by zeros alone; it is no row yet.
-    pub fn of_value_table(checked: &Checked) -> Self {
+    /// What a check accepts is told by zeros alone.
+    pub fn of_checked(checked: &Checked) -> Self {
         match checked {
             Ok(()) => Self { what: what::ROW, ..Self::default() },
             Err(refusal) => Self::of_refusal(refusal),
+        }
+    }
+
+    /// A wire type is told by its code, in the table's place.
+    pub fn of_parsed(code: Option<u64>) -> Self {
+        match code {
+            Some(table) => Self { table, ..Self::default() },
+            None => Self { what: what::NO_TYPE, ..Self::default() },
         }
     }
 

@@ -233,3 +233,78 @@ pub fn check_value_table(value: &ValueTable, answer: &mut [u8]) -> u32 {
         )
     }
 }
+
+// The checks.
+extern "C" {
+    #[link_name = "skiff1_check_format"]
+    fn skiff_check_format(
+        records: *const u8,
+        records_len: usize,
+        names: *const u8,
+        names_len: usize,
+        references: *const u8,
+        references_len: usize,
+        registry: *const u8,
+        registry_len: usize,
+        answer: *mut u8,
+        answer_len: usize,
+    ) -> u32;
+    #[link_name = "skiff1_check_encoder_schema"]
+    fn skiff_check_encoder_schema(
+        records: *const u8,
+        records_len: usize,
+        names: *const u8,
+        names_len: usize,
+        first: u64,
+        count: u64,
+        answer: *mut u8,
+        answer_len: usize,
+    ) -> u32;
+    #[link_name = "skiff1_parse"]
+    fn skiff_parse(name: *const u8, name_len: usize, answer: *mut u8, answer_len: usize) -> u32;
+}
+
+/// `skiff_check_format`: the refusal's number, 0 where it is a format.
+#[inline]
+pub fn check_format(format: &Format, answer: &mut [u8]) -> u32 {
+    // SAFETY: as in `skip`.
+    unsafe {
+        skiff_check_format(
+            format.records.as_ptr(),
+            format.records.len(),
+            format.names.as_ptr(),
+            format.names.len(),
+            format.references.as_ptr(),
+            format.references.len(),
+            format.registry.as_ptr(),
+            format.registry.len(),
+            answer.as_mut_ptr(),
+            answer.len(),
+        )
+    }
+}
+
+/// `skiff_check_encoder_schema`: the refusal's number, 0 where an encoder may write by the block.
+#[inline]
+pub fn check_encoder_schema(records: &[u8], names: &[u8], first: u64, count: u64, answer: &mut [u8]) -> u32 {
+    // SAFETY: as in `skip`.
+    unsafe {
+        skiff_check_encoder_schema(
+            records.as_ptr(),
+            records.len(),
+            names.as_ptr(),
+            names.len(),
+            first,
+            count,
+            answer.as_mut_ptr(),
+            answer.len(),
+        )
+    }
+}
+
+/// `skiff_parse`: 0, the wire type's code being in the answer; 1 where the answer slice is too short.
+#[inline]
+pub fn parse(name: &[u8], answer: &mut [u8]) -> u32 {
+    // SAFETY: as in `skip`.
+    unsafe { skiff_parse(name.as_ptr(), name.len(), answer.as_mut_ptr(), answer.len()) }
+}

@@ -140,7 +140,7 @@ pub fn verdict(
     same("encode", &encode(case, size, at_end), &expected(&report, size, output))?;
     let ValueTable { records, payload } =
         ValueTable { records: &case.value.records, payload: &case.value.payload };
-    let table_report = Report::of_value_table(&check(records, payload));
+    let table_report = Report::of_checked(&check(records, payload));
     same("check of a value table", &check_table(case, size, at_end), &expected(&table_report, size, &[]))?;
     if number % 16 == 0 {
         let size = SHORT_SIZES[number as usize / 16 % SHORT_SIZES.len()];
