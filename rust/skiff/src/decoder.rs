@@ -230,7 +230,7 @@ impl<'f, S: Source> Decoder<'f, S> {
     }
 
     /// The next row; none at the end of the stream.
-    pub fn next_row(&mut self) -> Result<Option<Row<'_>>, Error> {
+    pub fn next_row(&mut self) -> Result<Option<Row<'_, 'f>>, Error> {
         let extent = self.next(|decoder| {
             let Self { format, settings, at, records, payload, .. } = decoder;
             format.decode(settings, decoder.source.window().0, *at, records, payload)
@@ -342,8 +342,7 @@ impl<'f, S: Source> Iterator for Rows<'_, 'f, S> {
         if self.done {
             return None;
         }
-        let format = self.decoder.format;
-        let next = self.decoder.next_row().map(|row| row.map(|row| OwnedRow::of(&row, format))).transpose();
+        let next = self.decoder.next_row().map(|row| row.map(|row| row.to_owned_row())).transpose();
         self.done = !matches!(next, Some(Ok(_)));
         next
     }

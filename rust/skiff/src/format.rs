@@ -154,10 +154,7 @@ impl<'a> Format<'a> {
         position: usize,
         records: &'r mut [u8],
         payload: &'r mut [u8],
-    ) -> Result<Option<Row<'r>>, Refusal>
-    where
-        'a: 'r,
-    {
+    ) -> Result<Option<Row<'r, 'a>>, Refusal> {
         let extent = self.decode(settings, input, position, records, payload)?;
         Ok(extent.map(|extent| Row::new(extent, *self, records, payload)))
     }

@@ -1,9 +1,13 @@
 //! The flat tables of a format, looked into: for names and for paths, never for an answer. Only tables that
 //! the library has accepted are worth looking into; in others something may not be found.
 
-use crate::{Format, SchemaBlock, WireType};
+use std::collections::VecDeque;
 
-const RECORD_BYTES: usize = crate::sys::SCHEMA_RECORD_BYTES;
+use crate::sys::SCHEMA_RECORD_BYTES as RECORD_BYTES;
+use crate::{Format, Schema, SchemaBlock, WireType};
+
+/// The levels of the deepest schema.
+const MOST_LEVELS: usize = 64;
 
 /// A little-endian number of a record.
 fn number(record: &[u8], at: usize, bytes: usize) -> usize {
@@ -57,19 +61,31 @@ impl<'a> SchemaBlock<'a> {
         self.columns().position(|column| column == name.as_ref())
     }
 
-    /// The schema as a tree: what [`crate::Schema::tables`] lays out. None where the block is not in form.
-    pub fn schema(&self) -> Option<crate::Schema> {
-        self.tree(0, 64)
-    }
-
-    fn tree(&self, index: usize, levels: usize) -> Option<crate::Schema> {
-        let node = self.node(index)?;
-        let below = levels.checked_sub(1)?;
-        // A block has as many records as nodes, so a count that passes its end is none.
-        let children = (0..node.children)
-            .map(|child| self.tree(node.child(child).filter(|child| *child > index)?, below))
-            .collect::<Option<Vec<_>>>()?;
-        Some(crate::Schema { wire_type: node.wire_type, name: node.name.map(<[u8]>::to_vec), children })
+    /// The schema as a tree: what [`crate::Schema::tables`] lays out. None where the block is not in form, or
+    /// over 64 levels deep.
+    pub fn schema(&self) -> Option<Schema> {
+        let most = self.records.len() / RECORD_BYTES;
+        let count = usize::try_from(self.count).ok().filter(|count| *count <= most)?;
+        // A level at a time: children stand where those of earlier nodes end.
+        let mut nodes = Vec::new();
+        let mut levels = vec![1];
+        for index in 0..count {
+            let node = self.node(index)?;
+            let level = *levels.get(index).filter(|level| **level <= MOST_LEVELS)?;
+            let starts_elsewhere = node.children > 0 && node.first_child != levels.len();
+            if starts_elsewhere || levels.len() + node.children > count {
+                return None;
+            }
+            levels.resize(levels.len() + node.children, level + 1);
+            nodes.push(node);
+        }
+        // From the last node on, each takes the trees that wait for it.
+        let mut waiting = VecDeque::new();
+        for Node { wire_type, name, children, .. } in nodes.into_iter().rev() {
+            let below = waiting.split_off(waiting.len().checked_sub(children)?);
+            waiting.push_front(Schema { wire_type, name: name.map(<[u8]>::to_vec), children: below.into() });
+        }
+        waiting.pop_front().filter(|_| waiting.is_empty() && levels.len() == count)
     }
 }
 

@@ -22,17 +22,20 @@ use crate::{Extent, Format, ValueRef, ValueTable};
 /// assert_eq!(row.get("nome"), None);
 /// # Ok::<(), Box<dyn std::error::Error>>(())
 /// ```
+///
+/// It borrows from two sides: the value from the slices that it stands in, the columns' names from the
+/// format's tables.
 #[derive(Clone, Copy)]
-pub struct Row<'a> {
+pub struct Row<'a, 'f> {
     extent: Extent,
-    format: Format<'a>,
+    format: Format<'f>,
     values: Table<'a>,
 }
 
-impl<'a> Row<'a> {
+impl<'a, 'f> Row<'a, 'f> {
     /// The row that the library wrote to the starts of two slices.
     #[inline]
-    pub(crate) fn new(extent: Extent, format: Format<'a>, records: &'a [u8], payload: &'a [u8]) -> Self {
+    pub(crate) fn new(extent: Extent, format: Format<'f>, records: &'a [u8], payload: &'a [u8]) -> Self {
         let records = &records[..extent.records as usize * VALUE_RECORD_BYTES];
         Self { extent, format, values: Table { records, payload: &payload[..extent.payload as usize] } }
     }
@@ -63,7 +66,7 @@ impl<'a> Row<'a> {
     }
 
     /// All columns, each with its name, in order.
-    pub fn columns(&self) -> impl Iterator<Item = (&'a [u8], ValueRef<'a>)> + use<'a> {
+    pub fn columns(&self) -> impl Iterator<Item = (&'f [u8], ValueRef<'a>)> + use<'a, 'f> {
         let names = self.format.table_schema(self.table()).map(|schema| schema.columns());
         names.into_iter().flatten().zip(self.value().as_tuple().into_iter().flatten())
     }
@@ -98,26 +101,27 @@ impl<'a> Row<'a> {
     }
 
     /// The same row in memory of its own.
-    pub fn to_owned_row(&self) -> OwnedRow<'a> {
-        OwnedRow::of(self, self.format)
+    pub fn to_owned_row(&self) -> OwnedRow<'f> {
+        let (records, payload) = (self.records().to_vec(), self.payload().to_vec());
+        OwnedRow { extent: self.extent, format: self.format, records, payload }
     }
 }
 
-impl PartialEq for Row<'_> {
+impl PartialEq for Row<'_, '_> {
     /// The same table and the same value, bit for bit.
     fn eq(&self, other: &Self) -> bool {
         self.table() == other.table() && self.values == other.values
     }
 }
 
-impl fmt::Debug for Row<'_> {
+impl fmt::Debug for Row<'_, '_> {
     fn fmt(&self, out: &mut fmt::Formatter<'_>) -> fmt::Result {
         out.debug_struct("Row").field("extent", &self.extent).field("value", &self.value()).finish()
     }
 }
 
-impl<'a> From<Row<'a>> for ValueTable<'a> {
-    fn from(row: Row<'a>) -> Self {
+impl<'a> From<Row<'a, '_>> for ValueTable<'a> {
+    fn from(row: Row<'a, '_>) -> Self {
         Self { records: row.records(), payload: row.payload() }
     }
 }
@@ -132,14 +136,8 @@ pub struct OwnedRow<'f> {
 }
 
 impl<'f> OwnedRow<'f> {
-    /// A copy of a row, with the tables of its own format.
-    pub(crate) fn of(row: &Row<'_>, format: Format<'f>) -> Self {
-        let (records, payload) = (row.records().to_vec(), row.payload().to_vec());
-        Self { extent: row.extent, format, records, payload }
-    }
-
     /// The row.
-    pub fn row(&self) -> Row<'_> {
+    pub fn row(&self) -> Row<'_, 'f> {
         Row::new(self.extent, self.format, &self.records, &self.payload)
     }
 }
