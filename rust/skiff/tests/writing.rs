@@ -207,5 +207,15 @@ fn misuses_are_errors() {
     }
     assert_eq!(misuse(&|row| done(deep(row, 63))), Ok(()));
     assert_eq!(misuse(&|row| done(deep(row, 64))), Err(Misuse::TooDeep { record: 64 }));
+    // What the builder keeps from being written, the library would refuse.
+    let levels = |count: usize| {
+        let mut records = vec![0; 16 * count];
+        for (index, record) in records.chunks_mut(16).enumerate() {
+            record[0] = 17;
+            record[4] = u8::from(index + 1 < count);
+        }
+        ValueTable { records: &records, payload: &[] }.check()
+    };
+    assert_eq!((levels(64), levels(65)), (Ok(()), Err(Refusal::BadValueTable)));
     assert!(Misuse::TooDeep { record: 64 }.to_string().starts_with("value record 64: "));
 }
