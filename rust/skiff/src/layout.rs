@@ -107,28 +107,53 @@ impl<'a> Iterator for Columns<'a> {
     }
 }
 
+/// What a table's reference is.
+#[derive(Debug, Clone, Copy, PartialEq, Eq)]
+pub enum TableRef<'a> {
+    /// A schema of its own.
+    Inline(SchemaBlock<'a>),
+    /// The schema of this name in the registry.
+    Registry(&'a [u8]),
+}
+
 impl<'a> Format<'a> {
     /// How many tables there are.
     pub fn tables(&self) -> usize {
         self.references.len() / RECORD_BYTES
     }
 
-    /// The schema of a table, inline or from the registry. None where there is no such table.
+    /// The references of all tables, in order; fewer where one is not in form.
+    pub fn table_refs(&self) -> impl Iterator<Item = TableRef<'a>> + use<'a> {
+        let format = *self;
+        (0..self.tables()).map_while(move |table| format.table_ref(table))
+    }
+
+    /// The schemas of the registry with their names, in order; fewer where one is not in form.
+    pub fn registered(&self) -> impl Iterator<Item = (&'a [u8], SchemaBlock<'a>)> + use<'a> {
+        let format = *self;
+        self.registry.chunks_exact(RECORD_BYTES).map_while(move |entry| {
+            let name = span(format.names, number(entry, 0, 4), number(entry, 4, 4))?;
+            Some((name, format.block(number(entry, 8, 4), number(entry, 12, 4))))
+        })
+    }
+
+    /// The schema of a table, its own or from the registry. None where there is no such table.
     pub fn table_schema(&self, table: u16) -> Option<SchemaBlock<'a>> {
-        let reference = record(self.references, usize::from(table))?;
-        let (one, two) = (number(reference, 4, 4), number(reference, 8, 4));
-        match reference[0] {
-            0 => Some(self.block(one, two)),
-            _ => self.registered(span(self.names, one, two)?),
+        match self.table_ref(usize::from(table))? {
+            TableRef::Inline(block) => Some(block),
+            TableRef::Registry(wanted) => {
+                self.registered().find(|(name, _)| *name == wanted).map(|(_, block)| block)
+            }
         }
     }
 
-    fn registered(&self, name: &[u8]) -> Option<SchemaBlock<'a>> {
-        let entry = self
-            .registry
-            .chunks_exact(RECORD_BYTES)
-            .find(|entry| span(self.names, number(entry, 0, 4), number(entry, 4, 4)) == Some(name))?;
-        Some(self.block(number(entry, 8, 4), number(entry, 12, 4)))
+    fn table_ref(&self, table: usize) -> Option<TableRef<'a>> {
+        let reference = record(self.references, table)?;
+        let (one, two) = (number(reference, 4, 4), number(reference, 8, 4));
+        Some(match reference[0] {
+            0 => TableRef::Inline(self.block(one, two)),
+            _ => TableRef::Registry(span(self.names, one, two)?),
+        })
     }
 
     fn block(&self, first: usize, count: usize) -> SchemaBlock<'a> {

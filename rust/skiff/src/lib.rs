@@ -26,7 +26,7 @@ pub use decoder::{Decoder, FromReader, FromSlice, Rows, Source};
 pub use encoder::{Encoder, SchemaBlock, Sink, ToSlice, ToWriter, ValueTable};
 pub use error::{Error, Refused};
 pub use format::{Extent, Format, Run, Stop, WindowRun};
-pub use layout::Columns;
+pub use layout::{Columns, TableRef};
 pub use owned::{Value, Variant};
 pub use refusal::{Context, Refusal};
 pub use row::{Listing, OwnedRow, Row};

@@ -4,7 +4,8 @@ mod common;
 
 use common::{one_table, schema_a, schema_b, Chance};
 use skiff::{
-    Decoder, Encoder, FormatBuilder, Misuse, RowBuilder, Schema, SchemaBlock, Value, Variant, WireType,
+    Decoder, Encoder, FormatBuilder, Misuse, Row, RowBuilder, Schema, SchemaBlock, TableRef, Value, Variant,
+    WireType,
 };
 
 /// One column of each kind, and a value of each.
@@ -44,15 +45,23 @@ fn every_kind() -> (Schema, Value) {
     (Schema::tuple(columns), value)
 }
 
+/// Looks at the row that a value is, written and read.
+fn with_row(schema: &Schema, value: &Value, look: impl FnOnce(Row)) {
+    let tables = schema.tables().expect("short names");
+    let mut encoder = Encoder::to_writer(Vec::new(), &tables).expect("a table's schema");
+    encoder.write_value(value).expect("it conforms");
+    let (stream, format) = (encoder.into_inner(), one_table(schema));
+    let mut decoder = Decoder::from_slice(&stream, &format).expect("a format");
+    look(decoder.next_row().expect("a good row").expect("there is one"));
+}
+
 #[test]
 fn values_by_column_name_and_rust_type() {
     let (schema, value) = every_kind();
-    let tables = schema.tables().expect("short names");
-    let mut encoder = Encoder::to_writer(Vec::new(), &tables).expect("a table's schema");
-    encoder.write_value(&value).expect("it conforms");
-    let (stream, format) = (encoder.into_inner(), one_table(&schema));
-    let mut decoder = Decoder::from_slice(&stream, &format).expect("a format");
-    let row = decoder.next_row().expect("a good row").expect("there is one");
+    with_row(&schema, &value, |row| look_at_columns(&schema, &value, row));
+}
+
+fn look_at_columns(schema: &Schema, value: &Value, row: Row) {
     let get = |name: &str| row.get(name).expect("there is such a column");
 
     assert!(get("nothing").is_nothing() && !get("int8").is_nothing());
@@ -88,7 +97,7 @@ fn values_by_column_name_and_rust_type() {
 
     // The tree gives the same answers.
     let tree = row.value().to_value();
-    assert_eq!(tree, value);
+    assert_eq!(tree, *value);
     let fields = tree.as_tuple().expect("a tuple");
     for (field, (_, view)) in fields.iter().zip(row.columns()) {
         assert_eq!(field.kind(), view.kind());
@@ -121,12 +130,6 @@ fn words_show_text_as_text() {
 #[test]
 fn a_listing_has_a_line_for_each_record() {
     let (schema, value) = every_kind();
-    let tables = schema.tables().expect("short names");
-    let mut encoder = Encoder::to_writer(Vec::new(), &tables).expect("a table's schema");
-    encoder.write_value(&value).expect("it conforms");
-    let (stream, format) = (encoder.into_inner(), one_table(&schema));
-    let mut decoder = Decoder::from_slice(&stream, &format).expect("a format");
-    let row = decoder.next_row().expect("a good row").expect("there is one");
     let wide: String = (0..32).map(|byte| format!("{byte:02x}")).collect();
     let lines = [
         "1 0 tuple 19",
@@ -156,7 +159,7 @@ fn a_listing_has_a_line_for_each_record() {
         "3 0 int8 1",
     ];
     let expected: String = lines.iter().map(|line| format!("7 {line}\n")).collect();
-    assert_eq!(row.listing(7).to_string(), expected);
+    with_row(&schema, &value, |row| assert_eq!(row.listing(7).to_string(), expected));
 
     let format = one_table(&schema_b());
     let mut decoder = Decoder::from_slice(&[0, 0, 0xFF], &format).expect("a format");
@@ -189,6 +192,14 @@ fn a_schema_is_read_back_from_its_tables() {
             assert_eq!(block.columns().count(), schemas[index].children.len());
         }
         assert_eq!(format.table_schema(4), None);
+        let words = |table| match table {
+            TableRef::Inline(block) => block.schema().expect("it is in form").children.len().to_string(),
+            TableRef::Registry(name) => name.escape_ascii().to_string(),
+        };
+        assert!(format.table_refs().map(words).eq(["1", "two", "3", "three"]));
+        let registered: Vec<_> = format.registered().map(|(name, block)| (name, block.schema())).collect();
+        let wanted = [(&b""[..], 0), (b"three", 2), (b"two", 1)];
+        assert_eq!(registered, wanted.map(|(name, index)| (name, Some(schemas[index].clone()))));
     }
 }
 
