@@ -92,13 +92,16 @@ enum skiff_answer {
     SKIFF_ANSWER_RECORDS = 9,   /* value records, of SKIFF_VALUE_RECORD_BYTES each, */
     SKIFF_ANSWER_PAYLOAD = 10,  /* and payload bytes; all three are 0 for a run and a check, but for: */
     SKIFF_ANSWER_MAY_CHANGE = 8, /* of skiff_run_window, 1 where more bytes may change the answer, else 0 */
-    SKIFF_ANSWER_TYPE = 8       /* of skiff_parse, the wire type's code */
+    SKIFF_ANSWER_TYPE = 8,      /* of skiff_parse, the wire type's code */
+    SKIFF_ANSWER_CASE = 8,      /* of skiff_value, enum skiff_case, */
+    SKIFF_ANSWER_VALUE = 9,     /* the value as that case has it, */
+    SKIFF_ANSWER_LENGTH = 10    /* and a payload's length */
 };
 
 enum skiff_what {
     SKIFF_WHAT_ROW = 0,     /* a row was skipped, decoded or written; or a format, a schema or a value
                                table was accepted, and then all other numbers are 0 too; or a name is
-                               that of a wire type */
+                               that of a wire type; or a record has a value */
     SKIFF_WHAT_END = 1,     /* the position is the input's length, or the run came to it */
     SKIFF_WHAT_REFUSAL = 2, /* refused; a run then has the rows and bytes before */
     SKIFF_WHAT_NO_TYPE = 3  /* of skiff_parse: no wire type has that name, which is no refusal */
@@ -255,6 +258,26 @@ static inline uint32_t skiff_encode(uint64_t node_charge, uint64_t max_blob_byte
 static inline uint32_t skiff_check_value_table(const uint8_t *value_records, size_t value_records_len,
                                                const uint8_t *payload, size_t payload_len,
                                                uint8_t *answer, size_t answer_len);
+
+/* What skiff_value answers with, and what SKIFF_ANSWER_VALUE then is. */
+enum skiff_case {
+    SKIFF_CASE_NOTHING = 0,  /* 0 */
+    SKIFF_CASE_BOOLEAN = 1,  /* 0 or 1 */
+    SKIFF_CASE_SIGNED = 2,   /* of int8 to int64, the number in the 64 bits of an int64_t */
+    SKIFF_CASE_UNSIGNED = 3, /* of uint8 to uint64, the number */
+    SKIFF_CASE_DOUBLE = 4,   /* the 64 bits of a double, a NaN's too */
+    SKIFF_CASE_PAYLOAD = 5,  /* of int128, int256, string32 and yson32, where it starts in the payload */
+    SKIFF_CASE_CHILDREN = 6  /* of a variant, a repeated or a tuple, how many it has */
+};
+
+/*
+ * The value of record `index`, from 0 on, which needs no payload. A record that is not there is refused by
+ * SKIFF_SETTING, and so is a slice of more than 4,294,967,295 bytes; then SKIFF_BAD_VALUE_TABLE where the slice
+ * is not whole records, or where the record's kind, byte 1, size or data are not as its kind demands. Its tag,
+ * where its payload starts and the tree are not looked at: skiff_check_value_table does that.
+ */
+static inline uint32_t skiff_value(const uint8_t *value_records, size_t value_records_len, uint64_t index,
+                                   uint8_t *answer, size_t answer_len);
 
 /*
  * Whether the four tables are a format. skiff_skip, skiff_decode, skiff_run and skiff_run_window check it

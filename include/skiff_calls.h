@@ -151,6 +151,14 @@ static inline uint32_t skiff_parse(const uint8_t *name, size_t name_len, uint8_t
     return skiff1_parse(SKIFF_READ(name), SKIFF_WRITTEN(answer));
 }
 
+uint32_t skiff1_value(const uint8_t *, size_t, uint64_t, uint8_t *, size_t);
+
+static inline uint32_t skiff_value(const uint8_t *value_records, size_t value_records_len, uint64_t index,
+                                   uint8_t *answer, size_t answer_len)
+{
+    return skiff1_value(SKIFF_READ(value_records), index, SKIFF_WRITTEN(answer));
+}
+
 #undef SKIFF_READ
 #undef SKIFF_WRITTEN
 

@@ -37,6 +37,7 @@ use Rattle.skiff.proofs.writing.skiff1_check_value_table as skiff1-check-value-
 use Rattle.skiff.proofs.checking.skiff1_check_format as skiff1-check-format
 use Rattle.skiff.proofs.checking.skiff1_check_encoder_schema as skiff1-check-encoder-schema
 use Rattle.skiff.proofs.checking.skiff1_parse as skiff1-parse
+use Rattle.skiff.proofs.querying.skiff1_value as skiff1-value
 
 -- one result
 abbrev pub OneAnswer : {n : ℕ} (ps : List (PK n)) (r : RK n) → Out n ps r → Type 0
@@ -138,3 +139,6 @@ skiff1-check-encoder-schema-one-answer κs a x y s t p q = (ap (λ g. g .number)
 
 pub skiff1-parse-one-answer : OneOutcome skiff1-parse.Kinds.ps skiff1-parse.Kinds.r (λ κs (name, (answer, _)). answer .now ∷ []) skiff1-parse.Reads.Post
 skiff1-parse-one-answer κs a x y s t p q = (ap (λ g. g .number) (p ∙ sym q), ap (λ g. g .answer ∷ []) (p ∙ sym q))
+
+pub skiff1-value-one-answer : OneOutcome skiff1-value.Kinds.ps skiff1-value.Kinds.r (λ κs (records, (index, (answer, _))). answer .now ∷ []) skiff1-value.Reads.Post
+skiff1-value-one-answer κs a x y s t p q = (ap (λ g. g .number) (p ∙ sym q), ap (λ g. g .answer ∷ []) (p ∙ sym q))

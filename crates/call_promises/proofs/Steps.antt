@@ -66,7 +66,9 @@ use Rattle.skiff.proofs.answer.answer_of_ran as answer-of-ran
 use Rattle.skiff.proofs.answer.answer_of_written as answer-of-written
 use Rattle.skiff.proofs.answer.answer_of_checked as answer-of-checked
 use Rattle.skiff.proofs.answer.answer_of_known as answer-of-known
+use Rattle.skiff.proofs.answer.answer_of_queried as answer-of-queried
 use Rattle.skiff.proofs.answer.give as give
+use Rattle.scalars.proofs.scalar_in_numbers as scalar-in-numbers
 use Rattle.wire.proofs.store.put16 as put16
 use Rattle.wire.proofs.store.put32 as put32
 use Rattle.wire.proofs.store.put64 as put64
@@ -281,6 +283,12 @@ answer-of-checked-one-answer κs a x y s t p q = p ∙ sym q
 
 pub answer-of-known-one-answer : OneAnswer answer-of-known.Kinds.ps answer-of-known.Kinds.r answer-of-known.Reads.Post
 answer-of-known-one-answer κs a x y s t p q = p ∙ sym q
+
+pub answer-of-queried-one-answer : OneAnswer answer-of-queried.Kinds.ps answer-of-queried.Kinds.r answer-of-queried.Reads.Post
+answer-of-queried-one-answer κs a x y s t p q = p ∙ sym q
+
+pub scalar-in-numbers-one-answer : OneAnswer scalar-in-numbers.Kinds.ps scalar-in-numbers.Kinds.r scalar-in-numbers.Reads.Post
+scalar-in-numbers-one-answer κs a x y s t p q = p ∙ sym q
 
 -- ---- steps that write
 pub put16-one-answer : OneOutcome put16.Kinds.ps put16.Kinds.r (λ κs (s, _). s .now ∷ []) put16.Reads.Post

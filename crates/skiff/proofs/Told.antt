@@ -1,15 +1,20 @@
--- An answer in numbers, by what was read, written, checked or known, or why a run stopped.
+-- An answer in numbers, by what was read, written, checked, known or asked for, or why a run stopped.
 -- Assumes nothing.
 use Prim.Native.Nat.{ℕ}
 use mathlib.Core.Path.{_≡_}
+use mathlib.Core.List.{List}
 use Rattle.rules.specs.Choice.{pick}
 use Rattle.rules.specs.Refusals.{reportOf}
 use Rattle.rules.specs.Wire.{codeOf}
+use Rattle.rules.specs.Query.{queryRule}
 use Rattle.rules.specs.Windows.{goesOn}
 use Rattle.rules.specs.declared.refusal.Report.{Report}
 use Rattle.rules.specs.declared.wire_type.WireType.{WireType}
 use Rattle.rules.specs.declared.wire_type.Known.{Known}
 use Rattle.rules.specs.declared.wire_type.Known.the-variants as known
+use Rattle.rules.specs.declared.query.Scalar.{Scalar}
+use Rattle.rules.specs.declared.query.Queried.{Queried}
+use Rattle.rules.specs.declared.query.Queried.the-variants as queried
 use Rattle.rules.specs.declared.answer.Extent.{Extent}
 use Rattle.rules.specs.declared.refusal.Refusal.{Refusal}
 use Rattle.rules.specs.declared.answer.Read.{Read}
@@ -20,8 +25,11 @@ use Rattle.rules.specs.declared.answer.Checked.{Checked}
 use Rattle.rules.specs.declared.answer.Checked.the-variants as checked
 use Rattle.rules.specs.declared.answer.Stop.{Stop}
 use Rattle.rules.specs.declared.answer.Stop.the-variants as stop
+use Rattle.scalars.specs.Numbers.{HasBits, SaysBits, scalarNumbers}
+use Rattle.scalars.specs.declared.ScalarNumbers.{ScalarNumbers}
+use Rattle.scalars.proofs.Said.{query-says-bits}
 use Rattle.skiff.specs.declared.answer.AnswerNumbers.{AnswerNumbers}
-use Rattle.skiff.specs.Answers.{noRefusal, extentOfBytes, answerOfRead, answerOfWritten, answerOfChecked, answerOfKnown, answerOfRan, whatOf, whyOf, answerOfWindow}
+use Rattle.skiff.specs.Answers.{noRefusal, extentOfBytes, answerOfRead, answerOfWritten, answerOfChecked, answerOfKnown, answerOfQueried, answerOfRan, whatOf, whyOf, answerOfWindow}
 
 pub told-row : (w : Report) (x : Read) (e : Extent) → x ≡ read.Row e → w ≡ noRefusal → record { what = 0; why = w; rows = 1; row = e } ≡ answerOfRead x
 unfolding answerOfRead
@@ -32,6 +40,19 @@ pub known-wire : (w : Report) (x : Known) (t : WireType) (code : ℕ) → x ≡ 
 unfolding answerOfKnown
 known-wire w x t code p q c = rw (p, q, c)
 
+-- a record's value
+pub says-bits : (x : Queried) (table : List ℕ) (i : ℕ) → x ≡ queryRule table i → SaysBits x
+says-bits x table i e = rw e (query-says-bits table i)
+
+pub value-bits : (x : Queried) (s : Scalar) → SaysBits x → x ≡ queried.Value s → HasBits s
+unfolding SaysBits
+value-bits x s b p = rw p at b
+
+pub value-told : (w : Report) (x : Queried) (s : Scalar) (n : ScalarNumbers) → x ≡ queried.Value s → n ≡ scalarNumbers s → w ≡ noRefusal →
+    record { what = 0; why = w; rows = 0; row = record { table = n .which; bytes = 0; records = n .number; payload = n .length } } ≡ answerOfQueried x
+unfolding answerOfQueried
+value-told w x s n p q r = rw (p, ← q, r)
+
 module _ (a : AnswerNumbers) where
   pub written-row : (x : Written) (e : Extent) → x ≡ written.Row e → a ≡ answerOfRead (read.Row e) → a ≡ answerOfWritten x
   unfolding answerOfWritten
@@ -40,6 +61,10 @@ module _ (a : AnswerNumbers) where
   pub written-refused : (x : Written) (r : Refusal) → x ≡ written.Refused r → a ≡ answerOfRead (read.Refused r) → a ≡ answerOfWritten x
   unfolding answerOfWritten
   written-refused x r p q = rw p q
+
+  pub query-refused : (x : Queried) (r : Refusal) → x ≡ queried.Refused r → a ≡ answerOfRead (read.Refused r) → a ≡ answerOfQueried x
+  unfolding answerOfQueried
+  query-refused x r p q = rw p q
 
   pub checked-refused : (x : Checked) (r : Refusal) → x ≡ checked.Refused r → a ≡ answerOfRead (read.Refused r) → a ≡ answerOfChecked x
   unfolding answerOfChecked

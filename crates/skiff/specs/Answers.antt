@@ -10,6 +10,8 @@ use Rattle.rules.specs.Windows.{goesOn}
 use Rattle.rules.specs.declared.refusal.Report.{Report}
 use Rattle.rules.specs.declared.wire_type.Known.{Known}
 use Rattle.rules.specs.declared.wire_type.Known.the-variants as known
+use Rattle.rules.specs.declared.query.Queried.{Queried}
+use Rattle.rules.specs.declared.query.Queried.the-variants as queried
 use Rattle.rules.specs.declared.answer.Extent.{Extent}
 use Rattle.rules.specs.declared.answer.Read.{Read}
 use Rattle.rules.specs.declared.answer.Read.the-variants.{Row, End, Refused}
@@ -20,6 +22,7 @@ use Rattle.rules.specs.declared.answer.Checked.the-variants as checked
 use Rattle.rules.specs.declared.answer.Ran.{Ran}
 use Rattle.rules.specs.declared.answer.Stop.{Stop}
 use Rattle.rules.specs.declared.answer.Stop.the-variants as stop
+use Rattle.scalars.specs.Numbers.{scalarNumbers}
 use Rattle.skiff.specs.declared.answer.AnswerNumbers.{AnswerNumbers}
 
 -- numbers, one after another
@@ -64,6 +67,13 @@ answerOfChecked (checked.Refused r) = answerOfRead (Refused r)
 unfoldable pub answerOfKnown : Known → AnswerNumbers
 answerOfKnown (known.Wire t) = record { what = 0; why = noRefusal; rows = 0; row = record { table = codeOf t; bytes = 0; records = 0; payload = 0 } }
 answerOfKnown known.Unknown = record { what = 3; why = noRefusal; rows = 0; row = extentOfBytes 0 }
+
+-- a record's value: which case it is in the table's place, its number in the records', and a payload's length in the payload's
+unfoldable pub answerOfQueried : Queried → AnswerNumbers
+answerOfQueried (queried.Value s) =
+    let n = scalarNumbers s in
+    record { what = 0; why = noRefusal; rows = 0; row = record { table = n .which; bytes = 0; records = n .number; payload = n .length } }
+answerOfQueried (queried.Refused r) = answerOfRead (Refused r)
 
 unfoldable pub whatOf : Stop → ℕ
 whatOf stop.End = 1

@@ -11,10 +11,11 @@ use Rattle.rules.specs.Format.{Format, formatRule, encoderRule}
 use Rattle.rules.specs.Reading.{skipRule, runRule, ranOf, Decoded, decodeRule}
 use Rattle.rules.specs.Writing.{Encoded, encodeRule}
 use Rattle.rules.specs.ValueCheck.{valueTableRule}
+use Rattle.rules.specs.Query.{queryRule}
 use Rattle.rules.specs.Windows.{runAfter}
 use Rattle.rules.specs.declared.settings.Settings.{Settings}
 use Rattle.skiff.specs.declared.answer.AnswerNumbers.{AnswerNumbers}
-use Rattle.skiff.specs.Answers.{answerLayout, answerOfRead, answerOfRan, answerOfWindow, answerOfWritten, answerOfChecked, answerOfKnown}
+use Rattle.skiff.specs.Answers.{answerLayout, answerOfRead, answerOfRan, answerOfWindow, answerOfWritten, answerOfChecked, answerOfKnown, answerOfQueried}
 
 abbrev pub settingsOf : ℕ → ℕ → ℕ → Settings
 settingsOf charge blob row = record { «node_charge» = charge; «max_blob_bytes» = blob; «max_row_bytes» = row }
@@ -50,6 +51,9 @@ parseGiven name slice = given slice (answerOfKnown (parsed name))
 
 unfoldable pub checkValueTableGiven : List ℕ → List ℕ → List ℕ → Given
 checkValueTableGiven rs ps slice = given slice (answerOfChecked (valueTableRule rs ps))
+
+unfoldable pub valueGiven : List ℕ → ℕ → List ℕ → Given
+valueGiven rs i slice = given slice (answerOfQueried (queryRule rs i))
 
 -- decode's two slices too
 pub record GivenRow : Type 0 where

@@ -4,14 +4,17 @@ ghost use Prim.Native.Nat.{_+_, _≤_};
 ghost use mathlib.Core.List.{_∷_, []};
 ghost use lib.ListN.{length};
 ghost use Rattle.rules.specs.Bytes.{over};
-ghost use Rattle.skiff.specs.Answers.{words, answerLayout, noRefusal, extentOfBytes, answerOfRead, answerOfRan, answerOfWritten, answerOfChecked, answerOfKnown};
+ghost use Rattle.skiff.specs.Answers.{words, answerLayout, noRefusal, extentOfBytes, answerOfRead, answerOfRan, answerOfWritten, answerOfChecked, answerOfKnown, answerOfQueried};
+ghost use Rattle.scalars.specs.Numbers.{SaysBits};
 use rules::Checked;
 use rules::Extent;
 use rules::Known;
+use rules::Queried;
 use rules::Read;
 use rules::Report;
 use rules::Stop;
 use rules::Written;
+use scalars::scalar_in_numbers;
 use wire::code_of;
 use wire::store::put64;
 
@@ -124,6 +127,30 @@ pub fn answer_of_known(known: Known) -> AnswerNumbers
             rows: 0,
             row: extent_of_bytes(0),
         },
+    }
+}
+
+// A record's value in numbers: which case it is in the table's place, its number in the records', a payload's length in the payload's.
+pub fn answer_of_queried(queried: Queried) -> AnswerNumbers
+    requires { ⌜ SaysBits queried ⌝ }
+    ensures { λ r. ⌜ r ≡ answerOfQueried queried ⌝ }
+{
+    match queried {
+        Queried::Value(scalar) => {
+            let said = scalar_in_numbers(scalar);
+            AnswerNumbers {
+                what: 0,
+                why: no_refusal(),
+                rows: 0,
+                row: Extent {
+                    table: said.which,
+                    bytes: 0,
+                    records: said.number,
+                    payload: said.length,
+                },
+            }
+        }
+        Queried::Refused(refusal) => answer_of_read(Read::Refused(refusal)),
     }
 }
 

@@ -16,6 +16,7 @@ use plain::reading::{run, skip};
 use plain::report::{what, Report};
 use plain::settings::{Settings, MOST};
 use plain::tables::{Block, FormatTables};
+use plain::value_table::value;
 use plain::wire_type::parse;
 
 /// All that a reading call is given but for its answer slice. A run's position is 0.
@@ -235,4 +236,19 @@ pub unsafe extern "C" fn skiff_parse(
     let name = slice::from_raw_parts(name, name_len);
     let answer = slice::from_raw_parts_mut(answer, answer_len);
     Report::of_parsed(parse(name)).write_to(answer)
+}
+
+/// # Safety
+/// Each pointer leads to as many bytes as the length after it says.
+#[export_name = "skiff1_value"]
+pub unsafe extern "C" fn skiff_value(
+    value_records: *const u8,
+    value_records_len: usize,
+    index: u64,
+    answer: *mut u8,
+    answer_len: usize,
+) -> u32 {
+    let records = slice::from_raw_parts(value_records, value_records_len);
+    let answer = slice::from_raw_parts_mut(answer, answer_len);
+    Report::of_value(&value(records, index)).write_to(answer)
 }

@@ -3,6 +3,7 @@
 use crate::answer::number::SETTING;
 use crate::answer::{Checked, Refusal};
 use crate::reading::{Row, Run, Skipped};
+use crate::value_table::Said;
 
 pub const REPORT_BYTES: usize = 88;
 
@@ -68,6 +69,16 @@ impl Report {
         match code {
             Some(table) => Self { table, ..Self::default() },
             None => Self { what: what::NO_TYPE, ..Self::default() },
+        }
+    }
+
+    /// A record's value is told in the places of table, records and payload.
+    pub fn of_value(said: &Result<Said, Refusal>) -> Self {
+        match said {
+            Ok(Said { case, number, length }) => {
+                Self { table: *case, records: *number, payload: *length, ..Self::default() }
+            }
+            Err(refusal) => Self::of_refusal(refusal),
         }
     }
 

@@ -139,3 +139,51 @@ pub fn check(records: &[u8], payload: &[u8]) -> Checked {
     }
     Ok(())
 }
+
+/// What one record says by itself: which case it is, its number, and a payload's length.
+#[derive(Debug, Clone, Copy, PartialEq, Eq, Default)]
+pub struct Said {
+    pub case: u64,
+    pub number: u64,
+    pub length: u64,
+}
+
+/// The cases of a value.
+pub mod case {
+    pub const NOTHING: u64 = 0;
+    pub const TRUTH: u64 = 1;
+    pub const SIGNED: u64 = 2;
+    pub const UNSIGNED: u64 = 3;
+    pub const DOUBLE: u64 = 4;
+    pub const PAYLOAD: u64 = 5;
+    pub const CHILDREN: u64 = 6;
+}
+
+/// The value query as a call: 1 for a record that is not there, then 18.
+pub fn value(records: &[u8], index: u64) -> Result<Said, Refusal> {
+    if !is_short_enough(records) || index >= record_count(records) {
+        return Err(Refusal::bare(SETTING));
+    }
+    let record = value_record(records, index);
+    if !is_whole(records) || !record_is_formed(&record) {
+        return Err(Refusal::bare(BAD_VALUE_TABLE));
+    }
+    let data = record.data;
+    let signed = match record.kind {
+        2 => i64::from(data[0] as i8),
+        3 => i64::from(i16::from_le_bytes([data[0], data[1]])),
+        4 => i64::from(i32::from_le_bytes([data[0], data[1], data[2], data[3]])),
+        _ => i64::from_le_bytes(data),
+    };
+    let (case, number) = match record.kind {
+        0 => (case::NOTHING, 0),
+        BOOLEAN => (case::TRUTH, record.start()),
+        2..=5 => (case::SIGNED, signed as u64),
+        8..=11 => (case::UNSIGNED, record.start()),
+        12 => (case::DOUBLE, record.start()),
+        _ if record.has_payload() => (case::PAYLOAD, record.start()),
+        _ => (case::CHILDREN, record.size),
+    };
+    let length = if record.has_payload() { record.size } else { 0 };
+    Ok(Said { case, number, length })
+}

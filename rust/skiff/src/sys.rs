@@ -234,7 +234,7 @@ pub fn check_value_table(value: &ValueTable, answer: &mut [u8]) -> u32 {
     }
 }
 
-// The checks.
+// The checks, and the value of one record.
 extern "C" {
     #[link_name = "skiff1_check_format"]
     fn skiff_check_format(
@@ -262,6 +262,14 @@ extern "C" {
     ) -> u32;
     #[link_name = "skiff1_parse"]
     fn skiff_parse(name: *const u8, name_len: usize, answer: *mut u8, answer_len: usize) -> u32;
+    #[link_name = "skiff1_value"]
+    fn skiff_value(
+        value_records: *const u8,
+        value_records_len: usize,
+        index: u64,
+        answer: *mut u8,
+        answer_len: usize,
+    ) -> u32;
 }
 
 /// `skiff_check_format`: the refusal's number, 0 where it is a format.
@@ -307,4 +315,11 @@ pub fn check_encoder_schema(records: &[u8], names: &[u8], first: u64, count: u64
 pub fn parse(name: &[u8], answer: &mut [u8]) -> u32 {
     // SAFETY: as in `skip`.
     unsafe { skiff_parse(name.as_ptr(), name.len(), answer.as_mut_ptr(), answer.len()) }
+}
+
+/// `skiff_value`: the refusal's number, 0 where the record's value is in the answer.
+#[inline]
+pub fn value(records: &[u8], index: u64, answer: &mut [u8]) -> u32 {
+    // SAFETY: as in `skip`.
+    unsafe { skiff_value(records.as_ptr(), records.len(), index, answer.as_mut_ptr(), answer.len()) }
 }

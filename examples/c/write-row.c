@@ -40,7 +40,6 @@ int main(void)
 {
     uint64_t answer[SKIFF_ANSWER_NUMBERS];
     uint8_t row[64], back[sizeof value], bytes[sizeof payload];
-    static const uint8_t nothing[1];
 
     if (skiff_encode(SETTINGS, schema, sizeof schema, names, sizeof names - 1, 0, 5, value, sizeof value,
                      payload, sizeof payload, row, sizeof row, 0, (uint8_t *)answer, sizeof answer) != 0)
@@ -52,7 +51,7 @@ int main(void)
     printf("\n");
 
     if (skiff_decode(SETTINGS, schema, sizeof schema, names, sizeof names - 1, reference, sizeof reference,
-                     nothing, 0, row, length, 0, back, sizeof back, bytes, sizeof bytes,
+                     NULL, 0, row, length, 0, back, sizeof back, bytes, sizeof bytes,
                      (uint8_t *)answer, sizeof answer) != 0)
         return refused(answer);
     if (memcmp(back, value, sizeof value) != 0 || memcmp(bytes, payload, sizeof payload) != 0)

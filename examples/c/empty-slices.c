@@ -1,0 +1,70 @@
+/* empty-slices: each function with a null pointer of length 0 for every slice that may be empty, the answer slice
+ * too, and what it says then. It is C99 and C++17. */
+
+#include <stdio.h>
+#include <string.h>
+
+#include "skiff.h"
+
+static uint64_t answer[SKIFF_ANSWER_NUMBERS];
+static int wrong;
+
+#define SETTINGS SKIFF_DEFAULT_NODE_CHARGE, SKIFF_DEFAULT_MAX_BLOB_BYTES, SKIFF_DEFAULT_MAX_ROW_BYTES
+#define NONE NULL, 0
+#define FORMAT NONE, NONE, NONE, NONE
+#define ANSWER (uint8_t *)answer, sizeof answer
+
+static void says(const char *call, uint32_t said, uint32_t refusal, uint64_t what)
+{
+    const int right = said == refusal && answer[SKIFF_ANSWER_WHAT] == what && answer[SKIFF_ANSWER_REFUSAL] == refusal;
+    printf("%s: %u%s\n", call, (unsigned)said, right ? "" : ", WRONG");
+    wrong += !right;
+    memset(answer, 255, sizeof answer);
+}
+
+/* Too short an answer slice: 1, and nothing is written. */
+static void short_answer(const char *call, uint32_t said)
+{
+    const int right = said == SKIFF_SETTING && answer[0] == UINT64_MAX;
+    printf("%s, no answer slice: %u%s\n", call, (unsigned)said, right ? "" : ", WRONG");
+    wrong += !right;
+}
+
+int main(void)
+{
+    const uint8_t int8[4] = {'i', 'n', 't', '8'};
+    memset(answer, 255, sizeof answer);
+
+    /* No tables are a format without tables; an empty block is no schema, an empty value table no value. */
+    says("skiff_skip", skiff_skip(SETTINGS, FORMAT, NONE, 0, ANSWER), SKIFF_EMPTY_TABLE_SCHEMAS, SKIFF_WHAT_REFUSAL);
+    says("skiff_decode", skiff_decode(SETTINGS, FORMAT, NONE, 0, NONE, NONE, ANSWER), SKIFF_EMPTY_TABLE_SCHEMAS,
+         SKIFF_WHAT_REFUSAL);
+    says("skiff_run", skiff_run(SETTINGS, FORMAT, NONE, ANSWER), SKIFF_EMPTY_TABLE_SCHEMAS, SKIFF_WHAT_REFUSAL);
+    says("skiff_run_window", skiff_run_window(SETTINGS, FORMAT, NONE, 0, 0, ANSWER), SKIFF_EMPTY_TABLE_SCHEMAS,
+         SKIFF_WHAT_REFUSAL);
+    says("skiff_encode", skiff_encode(SETTINGS, NONE, NONE, 0, 0, NONE, NONE, NONE, 0, ANSWER), SKIFF_BAD_SCHEMA_TABLE,
+         SKIFF_WHAT_REFUSAL);
+    says("skiff_check_value_table", skiff_check_value_table(NONE, NONE, ANSWER), SKIFF_BAD_VALUE_TABLE,
+         SKIFF_WHAT_REFUSAL);
+    says("skiff_check_format", skiff_check_format(FORMAT, ANSWER), SKIFF_EMPTY_TABLE_SCHEMAS, SKIFF_WHAT_REFUSAL);
+    says("skiff_check_encoder_schema", skiff_check_encoder_schema(NONE, NONE, 0, 0, ANSWER), SKIFF_BAD_SCHEMA_TABLE,
+         SKIFF_WHAT_REFUSAL);
+    says("skiff_parse", skiff_parse(NONE, ANSWER), SKIFF_NO_REFUSAL, SKIFF_WHAT_NO_TYPE);
+    says("skiff_value", skiff_value(NONE, 0, ANSWER), SKIFF_SETTING, SKIFF_WHAT_REFUSAL);
+
+    short_answer("skiff_skip", skiff_skip(SETTINGS, FORMAT, NONE, 0, NONE));
+    short_answer("skiff_decode", skiff_decode(SETTINGS, FORMAT, NONE, 0, NONE, NONE, NONE));
+    short_answer("skiff_run", skiff_run(SETTINGS, FORMAT, NONE, NONE));
+    short_answer("skiff_run_window", skiff_run_window(SETTINGS, FORMAT, NONE, 0, 0, NONE));
+    short_answer("skiff_encode", skiff_encode(SETTINGS, NONE, NONE, 0, 0, NONE, NONE, NONE, 0, NONE));
+    short_answer("skiff_check_value_table", skiff_check_value_table(NONE, NONE, NONE));
+    short_answer("skiff_check_format", skiff_check_format(FORMAT, NONE));
+    short_answer("skiff_check_encoder_schema", skiff_check_encoder_schema(NONE, NONE, 0, 0, NONE));
+    short_answer("skiff_parse", skiff_parse(NONE, NONE));
+    short_answer("skiff_value", skiff_value(NONE, 0, NONE));
+
+    skiff_parse(int8, sizeof int8, ANSWER);
+    printf("int8 is %u\n", (unsigned)answer[SKIFF_ANSWER_TYPE]);
+    wrong += answer[SKIFF_ANSWER_WHAT] != SKIFF_WHAT_ROW || answer[SKIFF_ANSWER_TYPE] != SKIFF_KIND_INT8;
+    return wrong != 0;
+}
