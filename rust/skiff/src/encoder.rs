@@ -49,13 +49,54 @@ impl ValueTable<'_> {
     pub fn check(&self) -> Result<(), Refusal> {
         Report::of(|answer| sys::check_value_table(self, answer)).accepted()
     }
+
+    /// What the record of this number says, judged by itself; [`ValueTable::check`] judges them together.
+    ///
+    /// ```
+    /// use skiff::{RowBuilder, Scalar};
+    ///
+    /// let mut row = RowBuilder::new();
+    /// let table = row.value(-7_i16).value("hi").finish()?;
+    /// assert_eq!(table.value(0), Ok(Scalar::Children(2)));
+    /// assert_eq!(table.value(1), Ok(Scalar::Signed(-7)));
+    /// assert_eq!(table.value(2), Ok(Scalar::Payload { start: 0, length: 2 }));
+    /// assert!(table.value(3).is_err());
+    /// # Ok::<(), skiff::Misuse>(())
+    /// ```
+    pub fn value(&self, record: u64) -> Result<Scalar, Refusal> {
+        Report::of(|answer| sys::value(self.records, record, answer)).scalar()
+    }
+}
+
+/// What the library says of one value record by itself.
+#[derive(Debug, Clone, Copy, PartialEq)]
+#[non_exhaustive]
+pub enum Scalar {
+    /// A nothing.
+    Nothing,
+    /// A boolean.
+    Boolean(bool),
+    /// An int8 to int64.
+    Signed(i64),
+    /// A uint8 to uint64.
+    Unsigned(u64),
+    /// A double, with its bits.
+    Double(f64),
+    /// An int128, int256, string32 or yson32: where its bytes stand in the payload.
+    Payload {
+        /// The first byte.
+        start: u64,
+        /// How many there are.
+        length: u64,
+    },
+    /// A variant, repeated variant or tuple: how many children it has.
+    Children(u64),
 }
 
 impl SchemaBlock<'_> {
     /// Whether rows can be written by it: in form, by the rules, a tuple whose columns have names.
     pub fn check(&self) -> Result<(), Refusal> {
-        let Self { records, names, first, count } = *self;
-        Report::of(|answer| sys::check_encoder_schema(records, names, first, count, answer)).accepted()
+        Report::of(|answer| sys::check_encoder_schema(self, answer)).accepted()
     }
 
     /// Writes a row at `position` of `output`. Refused, it has written nothing; where there is too little

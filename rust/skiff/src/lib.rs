@@ -23,7 +23,7 @@ mod wire_type;
 pub mod from_ytsaurus_rs {}
 
 pub use decoder::{Decoder, FromReader, FromSlice, Rows, Source};
-pub use encoder::{Encoder, SchemaBlock, Sink, ToSlice, ToWriter, ValueTable};
+pub use encoder::{Encoder, Scalar, SchemaBlock, Sink, ToSlice, ToWriter, ValueTable};
 pub use error::{Error, Refused};
 pub use format::{Extent, Format, Run, Stop, WindowRun};
 pub use layout::{Columns, TableRef};

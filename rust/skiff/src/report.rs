@@ -1,7 +1,7 @@
 //! The answer slice, taken apart: eleven little-endian numbers.
 
 use crate::sys::ANSWER_SIZE;
-use crate::{Extent, Refusal};
+use crate::{Extent, Refusal, Scalar};
 
 /// What the first number says.
 const ROW: u64 = 0;
@@ -52,6 +52,22 @@ impl Report {
     /// Of a call that finds a wire type, whose code then stands in the table's place, or none.
     pub(crate) fn wire_code(&self) -> Option<u64> {
         (self.refusal.is_none() && self.what == ROW).then_some(self.table)
+    }
+
+    /// Of a call that finds a record's value: its case stands in the table's place, the value in the records',
+    /// a payload's length in the payload's.
+    pub(crate) fn scalar(&self) -> Result<Scalar, Refusal> {
+        self.accepted()?;
+        Ok(match (self.table, self.records) {
+            (0, _) => Scalar::Nothing,
+            (1, truth) => Scalar::Boolean(truth != 0),
+            (2, bits) => Scalar::Signed(bits as i64),
+            (3, number) => Scalar::Unsigned(number),
+            (4, bits) => Scalar::Double(f64::from_bits(bits)),
+            (5, start) => Scalar::Payload { start, length: self.payload },
+            (6, count) => Scalar::Children(count),
+            (case, value) => return Err(Refusal::from_numbers(0, 0, [case, value, self.payload])),
+        })
     }
 
     /// Of a call that finds a row, an end or a refusal.
