@@ -1,0 +1,98 @@
+//! The subcommands that write: encode, schema.
+
+use std::fs::{self, File};
+use std::io::{self, BufRead, BufReader, BufWriter, Write};
+use std::path::Path;
+
+use clap::ArgMatches;
+use skiff::{Encoder, Error};
+
+use crate::files::{self, TABLES};
+use crate::json;
+use crate::progress::Progress;
+use crate::read_rows::settings;
+use crate::schema_text;
+use crate::words::{output_failed, Failure, Status};
+
+/// Where the stream goes: a file of this name, or standard output.
+fn output(name: Option<&String>) -> Result<Box<dyn Write>, Failure> {
+    Ok(match name {
+        None => Box::new(io::stdout().lock()),
+        Some(name) => Box::new(File::create(name).map_err(|error| Failure::of_file(name, error))?),
+    })
+}
+
+pub fn encode(given: &ArgMatches) -> Result<Status, Failure> {
+    let word = |name: &str| given.get_one::<String>(name);
+    let (format_name, lines_name) = (word("format").expect("required"), word("lines").expect("a default"));
+    let tables = files::format(format_name)?;
+    let format = tables.format();
+    format.check().map_err(|refusal| Failure::Refused(format!("{format_name}: {refusal}")))?;
+    let shapes = json::schemas(&format);
+    let schema = format.table_schema(0).expect("a format has a table");
+    let input = files::input(lines_name)?;
+    let progress = Progress::new(input.length);
+    let mut lines = BufReader::with_capacity(1 << 16, progress.watch(input.reader));
+    let out = BufWriter::with_capacity(1 << 16, output(word("output"))?);
+    let mut encoder = Encoder::to_writer(out, schema)
+        .map_err(|refusal| Failure::Refused(refusal.to_string()))?
+        .with_settings(settings(given));
+    let (mut line, mut number) = (Vec::new(), 0);
+    loop {
+        line.clear();
+        let read = lines.read_until(b'\n', &mut line);
+        if read.map_err(|error| Failure::of_file(lines_name, error))? == 0 {
+            break;
+        }
+        number += 1;
+        if line.trim_ascii().is_empty() {
+            continue;
+        }
+        let at_line = |words: String| Failure::Refused(format!("{lines_name}: line {number}: {words}"));
+        let row = serde_json::from_slice(&line)
+            .map_err(|error| at_line(format!("column {}: {}", error.column(), first_words(&error))))?;
+        let value = json::read_row(&shapes, &row).map_err(|fault| at_line(fault.words()))?;
+        encoder.write_value(&value).map_err(|error| match error {
+            Error::Io(error) => output_failed(error),
+            other => at_line(other.to_string()),
+        })?;
+    }
+    progress.clear();
+    encoder.flush().map_err(|error| match error {
+        Error::Io(error) => output_failed(error),
+        other => Failure::Refused(other.to_string()),
+    })?;
+    Ok(Status::Accepted)
+}
+
+/// What is wrong, without the place that is told before it.
+fn first_words(error: &serde_json::Error) -> String {
+    let words = error.to_string();
+    words.split(" at line ").next().unwrap_or(&words).to_owned()
+}
+
+pub fn schema(given: &ArgMatches) -> Result<Status, Failure> {
+    let name = given.get_one::<String>("format").expect("required");
+    let tables = files::format(name)?;
+    let format = tables.format();
+    format.check().map_err(|refusal| Failure::Refused(format!("{name}: {refusal}")))?;
+    match given.get_one::<String>("output") {
+        Some(folder) if !Path::new(name).is_dir() => {
+            let write = |file: &str, bytes: &[u8]| {
+                let path = Path::new(folder).join(file);
+                fs::write(&path, bytes).map_err(|error| Failure::of_file(path.display(), error))
+            };
+            fs::create_dir_all(folder).map_err(|error| Failure::of_file(folder, error))?;
+            let all = [&tables.records, &tables.names, &tables.references, &tables.registry];
+            TABLES.iter().zip(all).try_for_each(|(file, bytes)| write(file, bytes))?;
+        }
+        Some(_) => return Err(Failure::File("--output is for a schema as text".to_owned())),
+        None => {
+            let text = schema_text::text(&format)
+                .ok_or_else(|| Failure::Refused(format!("{name}: a schema of the registry is no table's")))?;
+            let mut out = io::stdout().lock();
+            out.write_all(text.as_bytes()).and_then(|()| out.flush()).map_err(output_failed)?;
+        }
+    }
+    Ok(Status::Accepted)
+}
