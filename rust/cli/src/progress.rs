@@ -40,7 +40,7 @@ impl Progress {
     fn bar(&self) -> ProgressBar {
         let Some(total) = self.total else {
             return ProgressBar::with_draw_target(None, ProgressDrawTarget::stderr()).with_style(
-                ProgressStyle::with_template("{bytes} {bytes_per_sec}").expect("a good template"),
+                ProgressStyle::with_template("{bytes} read").expect("a good template"),
             );
         };
         let style = ProgressStyle::with_template("{bar:40} {bytes} of {total_bytes}, {eta} left");
