@@ -39,9 +39,8 @@ impl Progress {
     /// Nothing is drawn where standard error is no terminal.
     fn bar(&self) -> ProgressBar {
         let Some(total) = self.total else {
-            return ProgressBar::with_draw_target(None, ProgressDrawTarget::stderr()).with_style(
-                ProgressStyle::with_template("{bytes} read").expect("a good template"),
-            );
+            return ProgressBar::with_draw_target(None, ProgressDrawTarget::stderr())
+                .with_style(ProgressStyle::with_template("{bytes} read").expect("a good template"));
         };
         let style = ProgressStyle::with_template("{bar:40} {bytes} of {total_bytes}, {eta} left");
         ProgressBar::with_draw_target(Some(total), ProgressDrawTarget::stderr())

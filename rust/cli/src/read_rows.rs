@@ -38,7 +38,7 @@ pub fn check(given: &ArgMatches) -> Result<Status, Failure> {
     let tables = files::format(word(given, "format"))?;
     match tables.format().check() {
         Ok(()) => say("accepted").map(|()| Status::Accepted),
-        Err(refusal) => say(&refusal.to_string()).map(|()| Status::Refused),
+        Err(refusal) => say(&tables.format().explain(refusal).to_string()).map(|()| Status::Refused),
     }
 }
 
@@ -71,11 +71,7 @@ fn count(
     progress: &Progress,
 ) -> Result<(String, Status), Failure> {
     let mut decoder = decoder(format, settings, input, progress)?;
-    let run = match decoder.run() {
-        Ok(run) => run,
-        // The stream is too long.
-        Err(error) => return Ok((refused(name, error)?.to_string(), Status::Refused)),
-    };
+    let run = decoder.run().map_err(|error| Failure::of_file(name, error))?;
     let (rows, bytes) = (run.rows, run.bytes);
     Ok(match run.stop {
         Stop::End => (format!("end {rows} {bytes}"), Status::Accepted),
@@ -219,7 +215,7 @@ pub fn list(given: &ArgMatches) -> Result<Status, Failure> {
 pub fn cat(given: &ArgMatches) -> Result<Status, Failure> {
     let tables = files::format(word(given, "format"))?;
     if let Err(refusal) = tables.format().check() {
-        return Err(Failure::Refused(refusal.to_string()));
+        return Err(Failure::Refused(tables.format().explain(refusal).to_string()));
     }
     let schemas = json::schemas(&tables.format());
     each_row(given, &tables, |out, _, row| json::write_row(out, &schemas, &row), |_, _, _, _| Ok(()))

@@ -5,7 +5,7 @@ use std::io::{self, BufRead, BufReader, BufWriter, Write};
 use std::path::Path;
 
 use clap::ArgMatches;
-use skiff::{Encoder, Error};
+use skiff::{Encoder, Error, Format};
 
 use crate::files::{self, TABLES};
 use crate::json;
@@ -22,12 +22,18 @@ fn output(name: Option<&String>) -> Result<Box<dyn Write>, Failure> {
     })
 }
 
+/// Refuses what is no format.
+fn checked(name: &str, format: &Format) -> Result<(), Failure> {
+    let refused = |refusal| Failure::Refused(format!("{name}: {}", format.explain(refusal)));
+    format.check().map_err(refused)
+}
+
 pub fn encode(given: &ArgMatches) -> Result<Status, Failure> {
     let word = |name: &str| given.get_one::<String>(name);
     let (format_name, lines_name) = (word("format").expect("required"), word("lines").expect("a default"));
     let tables = files::format(format_name)?;
     let format = tables.format();
-    format.check().map_err(|refusal| Failure::Refused(format!("{format_name}: {refusal}")))?;
+    checked(format_name, &format)?;
     let shapes = json::schemas(&format);
     let schema = format.table_schema(0).expect("a format has a table");
     let input = files::input(lines_name)?;
@@ -75,7 +81,7 @@ pub fn schema(given: &ArgMatches) -> Result<Status, Failure> {
     let name = given.get_one::<String>("format").expect("required");
     let tables = files::format(name)?;
     let format = tables.format();
-    format.check().map_err(|refusal| Failure::Refused(format!("{name}: {refusal}")))?;
+    checked(name, &format)?;
     match given.get_one::<String>("output") {
         Some(folder) if !Path::new(name).is_dir() => {
             let write = |file: &str, bytes: &[u8]| {

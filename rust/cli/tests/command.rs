@@ -88,7 +88,8 @@ fn check() {
     assert_eq!(accepted(&skiff(&["check", "."])), "accepted\n");
     let bad = file(&folder("check"), "bad.txt", "table\n  uint8\n");
     let words = "refused 10 TableSchemaChildMissingName (index 0) at 1";
-    assert_eq!(told(&skiff(&["check", &bad])), (1, format!("{words}\n"), String::new()));
+    let check = told(&skiff(&["check", &bad]));
+    assert_eq!(check, (1, format!("{words}: schema record 1, table 0, field 0\n"), String::new()));
     let run = told(&skiff(&["run", &bad, "rows.skf"]));
     assert_eq!(run, (1, format!("{words} after 0 rows, 0 bytes\n"), String::new()));
     assert_eq!(told(&skiff(&["list", &bad, "rows.skf"])), (1, "refused 10 1\n".to_owned(), String::new()));

@@ -11,17 +11,27 @@ use crate::{path, Error, Extent, Format, OwnedRow, Refusal, Row, Run, Settings, 
 pub trait Source: sealed::Source {}
 
 mod sealed {
-    use crate::Error;
+    use std::io;
 
     pub trait Source {
         /// The bytes at hand, and the offset of the first of them in the stream.
         fn window(&self) -> (&[u8], u64);
 
-        /// Has more bytes behind those at hand, of which the first `passed` may be given up. False where the
-        /// stream has no more.
-        fn more(&mut self, passed: usize) -> Result<bool, Error>;
+        /// Has more bytes behind those at hand, of which the first `passed` may be given up.
+        fn more(&mut self, passed: usize) -> io::Result<More>;
+    }
+
+    #[derive(Clone, Copy, PartialEq, Eq)]
+    pub enum More {
+        Bytes,
+        /// The stream has ended.
+        Nothing,
+        /// The stream has more than the most bytes, and those up to it are at hand.
+        TooMany,
     }
 }
+
+use sealed::More;
 
 /// A stream that is a slice.
 #[derive(Debug, Clone, Copy)]
@@ -34,8 +44,8 @@ impl sealed::Source for FromSlice<'_> {
         (self.0, 0)
     }
 
-    fn more(&mut self, _: usize) -> Result<bool, Error> {
-        Ok(false)
+    fn more(&mut self, _: usize) -> io::Result<More> {
+        Ok(More::Nothing)
     }
 }
 
@@ -50,16 +60,16 @@ pub struct FromReader<R> {
     filled: usize,
     /// How much of the stream came before them.
     start: u64,
-    ended: bool,
-    /// The longest stream, and whether this one is longer.
+    /// What the reader gave last.
+    last: More,
+    /// The longest stream.
     most: u64,
-    passes_most: bool,
 }
 
 impl<R: Read> FromReader<R> {
     fn new(reader: R) -> Self {
         let most = Settings::MOST_BYTES;
-        Self { reader, buffer: Vec::new(), filled: 0, start: 0, ended: false, most, passes_most: false }
+        Self { reader, buffer: Vec::new(), filled: 0, start: 0, last: More::Bytes, most }
     }
 
     /// Up to `room` bytes more.
@@ -75,8 +85,7 @@ impl<R: Read> FromReader<R> {
 
 impl<R> fmt::Debug for FromReader<R> {
     fn fmt(&self, out: &mut fmt::Formatter<'_>) -> fmt::Result {
-        let Self { filled, start, ended, .. } = self;
-        write!(out, "FromReader {{ {filled} bytes from {start} on, ended: {ended} }}")
+        write!(out, "FromReader {{ {} bytes from {} on }}", self.filled, self.start)
     }
 }
 
@@ -87,30 +96,27 @@ impl<R: Read> sealed::Source for FromReader<R> {
         (&self.buffer[..self.filled], self.start)
     }
 
-    fn more(&mut self, passed: usize) -> Result<bool, Error> {
-        if self.passes_most {
-            return Err(Refusal::Setting.into());
-        }
-        if self.ended {
-            return Ok(false);
+    fn more(&mut self, passed: usize) -> io::Result<More> {
+        if self.last != More::Bytes {
+            return Ok(self.last);
         }
         // Room for a piece at the buffer's end: what is given up makes some.
         let kept = self.filled - passed;
-        let wanted = kept.saturating_add(kept.max(PIECE));
-        grow(&mut self.buffer, wanted as u64)?;
-        let left = self.most - (self.start + self.filled as u64);
-        // A byte over the longest stream is asked for too, to tell whether there is one.
-        let room = (self.buffer.len() - kept).min(usize::try_from(left).unwrap_or(usize::MAX).max(1));
+        grow(&mut self.buffer, kept as u64 + kept.max(PIECE) as u64)?;
         self.buffer.copy_within(passed..self.filled, 0);
         (self.start, self.filled) = (self.start + passed as u64, kept);
-        let read = self.read(room)?;
-        if left == 0 && read > 0 {
-            self.passes_most = true;
-            return Err(Refusal::Setting.into());
+        let left = usize::try_from(self.most - (self.start + kept as u64)).unwrap_or(usize::MAX);
+        // A byte over the most is asked for too, to tell whether there is one.
+        let read = self.read((self.buffer.len() - kept).min(left.max(1)))?;
+        self.last = match read {
+            0 => More::Nothing,
+            _ if left == 0 => More::TooMany,
+            _ => More::Bytes,
+        };
+        if self.last == More::Bytes {
+            self.filled += read;
         }
-        self.filled += read;
-        self.ended = read == 0;
-        Ok(read > 0)
+        Ok(self.last)
     }
 }
 
@@ -166,7 +172,7 @@ pub struct Decoder<'f, S> {
 
 impl<'f, 's> Decoder<'f, FromSlice<'s>> {
     /// Over a stream that is a slice. Refuses what is no format.
-    pub fn from_slice(input: &'s [u8], format: impl Into<Format<'f>>) -> Result<Self, Refusal> {
+    pub fn from_slice(input: &'s [u8], format: impl Into<Format<'f>>) -> Result<Self, Error> {
         Self::over(FromSlice(input), format.into())
     }
 }
@@ -177,7 +183,7 @@ impl<'f, R: Read> Decoder<'f, FromReader<R>> {
     ///
     /// What is at hand is as long as the longest row and a piece. A row that is cut is asked for again with
     /// each piece that the reader gives, so that no row waits for bytes after it.
-    pub fn from_reader(reader: R, format: impl Into<Format<'f>>) -> Result<Self, Refusal> {
+    pub fn from_reader(reader: R, format: impl Into<Format<'f>>) -> Result<Self, Error> {
         Self::over(FromReader::new(reader), format.into())
     }
 
@@ -188,8 +194,8 @@ impl<'f, R: Read> Decoder<'f, FromReader<R>> {
 }
 
 impl<'f, S: Source> Decoder<'f, S> {
-    fn over(source: S, format: Format<'f>) -> Result<Self, Refusal> {
-        format.check()?;
+    fn over(source: S, format: Format<'f>) -> Result<Self, Error> {
+        format.check().map_err(|refusal| format.explain(refusal))?;
         let (settings, records, payload) = (Settings::default(), Vec::new(), Vec::new());
         Ok(Self { format, settings, source, at: 0, rows: 0, records, payload })
     }
@@ -250,29 +256,44 @@ impl<'f, S: Source> Decoder<'f, S> {
         mut call: impl FnMut(&mut Self) -> Result<Option<Extent>, Refusal>,
     ) -> Result<Option<Extent>, Error> {
         loop {
-            match call(self) {
+            let answer = call(self);
+            let asks_again = match answer {
                 Ok(Some(extent)) => {
                     self.at += extent.bytes;
                     self.rows += 1;
-                    return Ok(Some(extent));
+                    false
                 }
-                Err(Refusal::NoNodeRoom { needed, .. })
-                    if more_room(&mut self.records, needed.saturating_mul(VALUE_RECORD_BYTES as u64))? => {}
-                Err(Refusal::NoPayloadRoom { needed, .. }) if more_room(&mut self.payload, needed)? => {}
-                Ok(None) | Err(Refusal::Truncated { .. }) if self.more()? => {}
-                Ok(None) => return Ok(None),
-                Err(refusal) => return Err(self.refused(refusal).into()),
+                Err(Refusal::NoNodeRoom { needed, .. }) => {
+                    more_room(&mut self.records, needed.saturating_mul(VALUE_RECORD_BYTES as u64))?
+                }
+                Err(Refusal::NoPayloadRoom { needed, .. }) => more_room(&mut self.payload, needed)?,
+                Ok(None) | Err(Refusal::Truncated { .. }) => match self.more()? {
+                    More::Bytes => true,
+                    More::Nothing => false,
+                    More::TooMany => return Ok(self.too_long().to_end().map(|_| None)?),
+                },
+                Err(_) => false,
+            };
+            if !asks_again {
+                return answer.map_err(|refusal| self.refused(refusal).into());
             }
         }
     }
 
-    /// Whether to ask again: there are more bytes, or those at hand begin elsewhere in the stream.
-    fn more(&mut self) -> Result<bool, Error> {
+    /// [`More::Bytes`] also where there are none, but those at hand begin elsewhere in the stream: an answer
+    /// is about those at hand.
+    fn more(&mut self) -> io::Result<More> {
         let (position, start) = (self.position(), self.source.window().1);
         let more = self.source.more(self.at);
         let start_now = self.source.window().1;
         self.at = (position - start_now) as usize;
-        Ok(more? || start_now != start)
+        let moved = start_now != start;
+        more.map(|more| if moved { More::Bytes } else { more })
+    }
+
+    /// What the library says of a stream of one byte more than the most.
+    fn too_long(&self) -> Run {
+        self.format.run_window(&self.settings, 0, Settings::MOST_BYTES, &[0]).run
     }
 
     fn refused(&self, refusal: Refusal) -> Refused {
@@ -295,8 +316,11 @@ impl<'f, S: Source> Decoder<'f, S> {
                 self.at += passed as usize;
                 self.rows = run.rows;
             }
-            if !(may_change && self.more()?) {
-                return Ok(run);
+            let more = if may_change { self.more()? } else { More::Nothing };
+            match more {
+                More::Bytes => {}
+                More::Nothing => return Ok(run),
+                More::TooMany => return Ok(self.too_long()),
             }
         }
     }

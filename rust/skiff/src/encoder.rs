@@ -99,6 +99,11 @@ impl SchemaBlock<'_> {
         Report::of(|answer| sys::check_encoder_schema(self, answer)).accepted()
     }
 
+    /// A refusal of this block, with the node that it is about.
+    pub fn explain(&self, refusal: Refusal) -> Refused {
+        Refused::of_schema(refusal, path::in_block(self, &refusal))
+    }
+
     /// Writes a row at `position` of `output`. Refused, it has written nothing; where there is too little
     /// room, [`Refusal::NoOutputRoom`] says how many bytes the row has.
     pub fn encode<'v>(
@@ -247,7 +252,7 @@ impl<'f, 's> Encoder<'f, ToSlice<'s>> {
     /// assert_eq!(output, [0, 0, 7, 0xEE, 0xEE]);
     /// # Ok::<(), Box<dyn std::error::Error>>(())
     /// ```
-    pub fn to_slice(output: &'s mut [u8], schema: impl Into<SchemaBlock<'f>>) -> Result<Self, Refusal> {
+    pub fn to_slice(output: &'s mut [u8], schema: impl Into<SchemaBlock<'f>>) -> Result<Self, Error> {
         Self::over(ToSlice { output, written: 0 }, schema.into())
     }
 
@@ -261,7 +266,7 @@ impl<'f, 's> Encoder<'f, ToSlice<'s>> {
 impl<'f, W: Write> Encoder<'f, ToWriter<W>> {
     /// Into a writer, one `write_all` for each row; a `BufWriter` makes fewer calls of them. Refuses a block
     /// that is no table's schema.
-    pub fn to_writer(writer: W, schema: impl Into<SchemaBlock<'f>>) -> Result<Self, Refusal> {
+    pub fn to_writer(writer: W, schema: impl Into<SchemaBlock<'f>>) -> Result<Self, Error> {
         Self::over(ToWriter { writer, row: Vec::new() }, schema.into())
     }
 
@@ -277,8 +282,8 @@ impl<'f, W: Write> Encoder<'f, ToWriter<W>> {
 }
 
 impl<'f, S: Sink> Encoder<'f, S> {
-    fn over(sink: S, block: SchemaBlock<'f>) -> Result<Self, Refusal> {
-        block.check()?;
+    fn over(sink: S, block: SchemaBlock<'f>) -> Result<Self, Error> {
+        block.check().map_err(|refusal| block.explain(refusal))?;
         let (settings, builder) = (Settings::default(), RowBuilder::new());
         Ok(Self { block, settings, sink, rows: 0, bytes: 0, builder })
     }

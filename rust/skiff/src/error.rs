@@ -2,7 +2,7 @@
 
 use std::{fmt, io};
 
-use crate::path::words;
+use crate::path::{self, words};
 use crate::{Misuse, Refusal};
 
 /// A refusal, and which value it is about.
@@ -10,8 +10,8 @@ use crate::{Misuse, Refusal};
 pub struct Refused {
     /// Why, by the library's number.
     pub refusal: Refusal,
-    /// From the row's root down to the value that it is about, as `column "name", element 3, tag 1`; empty
-    /// where it is about no value, or about the root.
+    /// From the row's root down to the value that it is about, as `column "name", element 3, tag 1`, or from
+    /// a table down to a node of its schema; empty where it is about neither, or about the root.
     pub path: String,
     pub(crate) at: Where,
 }
@@ -23,6 +23,8 @@ pub(crate) enum Where {
     Row(u64),
     /// Value records.
     Value,
+    /// Schema records.
+    Schema,
     /// Neither.
     Nowhere,
 }
@@ -31,16 +33,23 @@ impl Refused {
     pub(crate) fn new(refusal: Refusal) -> Self {
         Self { refusal, path: String::new(), at: Where::Nowhere }
     }
+
+    /// Of a format or a block, with the path to a schema record.
+    pub(crate) fn of_schema(refusal: Refusal, path: Option<String>) -> Self {
+        let at = if path::is_about_a_record(&refusal) { Where::Schema } else { Where::Nowhere };
+        Self { refusal, path: path.unwrap_or_default(), at }
+    }
 }
 
 /// The refusal's words, then where it was met: `byte 15, row 1, column "name"` in reading, `value record 3,
-/// column "name", tag 1` in writing.
+/// column "name", tag 1` in writing, `schema record 1, table 0, column "name"` of a format.
 impl fmt::Display for Refused {
     fn fmt(&self, out: &mut fmt::Formatter<'_>) -> fmt::Result {
         let place = self.refusal.place();
         let place = match self.at {
             Where::Row(row) => format!("byte {place}, row {row}"),
             Where::Value => format!("value record {place}"),
+            Where::Schema => format!("schema record {place}"),
             Where::Nowhere => String::new(),
         };
         write!(out, "{}{}", self.refusal, words(&place, &self.path))
@@ -54,6 +63,25 @@ impl std::error::Error for Refused {
 }
 
 /// Why there is no row.
+///
+/// ```
+/// use skiff::{Decoder, Error, FormatBuilder, Refusal, Schema, WireType};
+///
+/// fn pages(stream: &[u8]) -> Result<Vec<u64>, Error> {
+///     let page = Schema::leaf(WireType::Uint8).named("page");
+///     let tables = FormatBuilder::new().table(Schema::tuple([page])).build().expect("short names");
+///     let mut decoder = Decoder::from_slice(stream, &tables)?;
+///     let mut pages = Vec::new();
+///     while let Some(row) = decoder.next_row()? {
+///         pages.extend(row.get("page").and_then(|page| page.as_u64()));
+///     }
+///     Ok(pages)
+/// }
+///
+/// assert_eq!(pages(&[0, 0, 7, 0, 0, 8]).expect("two rows"), [7, 8]);
+/// let error = pages(&[1, 0]).expect_err("there is one table");
+/// assert_eq!(error.refusal(), Some(Refusal::MissingTableSchema { index: 1, place: 0 }));
+/// ```
 #[derive(Debug)]
 #[non_exhaustive]
 pub enum Error {

@@ -1,7 +1,7 @@
 //! Formats and the calls that read by them.
 
 use crate::report::Report;
-use crate::{sys, Refusal, Row, Settings};
+use crate::{path, sys, Refusal, Refused, Row, Settings};
 
 /// A format as flat tables that somebody else holds: what may stand in a stream, table by table. Every
 /// call checks it whole, so there is no way to read by a bad one; [`crate::FormatBuilder`] makes them.
@@ -96,6 +96,24 @@ impl<'a> Format<'a> {
     /// ```
     pub fn check(&self) -> Result<(), Refusal> {
         Report::of(|answer| sys::check_format(self, answer)).accepted()
+    }
+
+    /// A refusal of this format, with the table and the node that it is about.
+    ///
+    /// ```
+    /// use skiff::{FormatBuilder, Schema, WireType};
+    ///
+    /// let bad = Schema::node(WireType::Int8, [Schema::leaf(WireType::Nothing)]).named("n");
+    /// let tables = FormatBuilder::new().table(Schema::tuple([bad])).build()?;
+    /// let refusal = tables.format().check().expect_err("an int8 has no children");
+    /// assert_eq!(
+    ///     tables.format().explain(refusal).to_string(),
+    ///     r#"refused 4 UnexpectedChildren (type 2 int8, count 1) at 1: schema record 1, table 0, column "n""#
+    /// );
+    /// # Ok::<(), Box<dyn std::error::Error>>(())
+    /// ```
+    pub fn explain(&self, refusal: Refusal) -> Refused {
+        Refused::of_schema(refusal, path::in_format(self, &refusal))
     }
 
     /// Passes the row at `position` of `input`; none where that is the input's end. Any position is taken

@@ -212,6 +212,60 @@ impl Walk<'_> {
     }
 }
 
+/// To the schema record that a refusal of a format is about: the table or the schema of the registry, and the
+/// way from its root.
+pub(crate) fn in_format(format: &Format, refusal: &Refusal) -> Option<String> {
+    if let Refusal::UnknownRegistryReference { table, .. } = refusal {
+        return Some(format!("table {table}"));
+    }
+    let tables = (0..=u16::MAX).take(format.tables());
+    let tables = tables.map_while(|table| Some((format!("table {table}"), format.table_schema(table)?)));
+    let registered = format
+        .registered()
+        .map(|(name, block)| (format!("registry schema \"{}\"", name.escape_ascii()), block));
+    // The registry is judged first, but only a table's root and names are.
+    let is_about_a_table = matches!(refusal.number(), 8 | 10);
+    let blocks = registered.filter(|_| !is_about_a_table).chain(tables);
+    blocks.filter_map(|(owner, block)| Some(join(owner, in_block(&block, refusal)?))).next()
+}
+
+fn join(owner: String, path: String) -> String {
+    if path.is_empty() {
+        return owner;
+    }
+    format!("{owner}, {path}")
+}
+
+/// From a block's root to the schema record that a refusal is about. None where it is about none of the block's.
+pub(crate) fn in_block(block: &SchemaBlock, refusal: &Refusal) -> Option<String> {
+    if !is_about_a_record(refusal) {
+        return None;
+    }
+    let offset = refusal.place().checked_sub(block.first).filter(|offset| *offset < block.count)?;
+    let mut index = usize::try_from(offset).ok()?;
+    let mut steps = Vec::new();
+    while index > 0 {
+        // In level order a parent stands before its children.
+        let (parent, above) = (0..index).find_map(|parent| {
+            let node = block.node(parent)?;
+            (0..node.children).contains(&index.checked_sub(node.child(0)?)?).then_some((parent, node))
+        })?;
+        let nth = index - above.child(0)?;
+        steps.push(match above.wire_type {
+            WireType::Tuple => field(&block.node(index)?, nth),
+            _ => format!("choice {nth}"),
+        });
+        index = parent;
+    }
+    steps.reverse();
+    Some(steps.join(", "))
+}
+
+/// The place of these is a schema record.
+pub(crate) fn is_about_a_record(refusal: &Refusal) -> bool {
+    matches!(refusal.number(), 4 | 5 | 8 | 9 | 10)
+}
+
 /// ` WHERE, PATH` for the words of a refusal; a path may be empty.
 pub(crate) fn words(place: &str, path: &str) -> String {
     let mut words = String::new();

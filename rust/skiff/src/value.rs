@@ -104,6 +104,22 @@ impl<'a> Table<'a> {
 /// `Debug` shows text as text, and `Display` is the value as a listing has it: a number in decimal, a
 /// boolean as 0 or 1, a double as its bits in hex, blobs, int128 and int256 in hex as they are stored, and
 /// of a compound value the count of its children.
+///
+/// ```
+/// # use skiff::{Decoder, FormatBuilder, Schema, Value, WireType};
+/// # let name = Schema::leaf(WireType::String32).named("name");
+/// # let list = Schema::node(WireType::RepeatedVariant8, [Schema::leaf(WireType::Uint8)]).named("list");
+/// # let tables = FormatBuilder::new().table(Schema::tuple([name, list])).build()?;
+/// # let mut decoder = Decoder::from_slice(b"\0\0\x02\0\0\0hi\0\x07\0\x08\xff", &tables)?;
+/// # let row = decoder.next_row()?.expect("there is one");
+/// let (name, list) = (row.at(0).expect("a name"), row.at(1).expect("a list"));
+/// assert_eq!((name.as_str(), name.as_u64()), (Some("hi"), None));
+/// assert_eq!((format!("{name:?}"), name.to_string()), ("Bytes(\"hi\")".to_owned(), "6869".to_owned()));
+/// let numbers: Vec<_> = list.as_list().expect("it is one").map(|item| item.value().as_u64()).collect();
+/// assert_eq!(numbers, [Some(7), Some(8)]);
+/// assert_eq!(name.to_value(), Value::text("hi"));
+/// # Ok::<(), Box<dyn std::error::Error>>(())
+/// ```
 #[derive(Clone, PartialEq)]
 pub enum ValueRef<'a> {
     /// A nothing.

@@ -271,8 +271,10 @@ fn buffers_grow_with_the_rows() {
 #[test]
 fn a_bad_format_makes_no_decoder() {
     let none = FormatTables::default();
-    assert_eq!(Decoder::from_slice(&[], &none).map(drop), Err(Refusal::EmptyTableSchemas));
-    assert_eq!(Decoder::from_reader(&[][..], &none).map(drop), Err(Refusal::EmptyTableSchemas));
+    let refusal = |made: Result<(), Error>| made.expect_err("no format").refusal();
+    let empty = Some(Refusal::EmptyTableSchemas);
+    assert_eq!(refusal(Decoder::from_slice(&[], &none).map(drop)), empty);
+    assert_eq!(refusal(Decoder::from_reader(&[][..], &none).map(drop)), empty);
     // Settings are judged by the calls.
     let tables = two_tables();
     let bad = Settings::default().with_node_charge(0);

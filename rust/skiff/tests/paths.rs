@@ -3,7 +3,7 @@
 mod common;
 
 use common::{one_table, Chance};
-use skiff::{Decoder, Encoder, Refusal, Schema, Settings, WireType};
+use skiff::{Decoder, Encoder, FormatBuilder, Schema, Settings, WireType};
 
 fn words(schema: &Schema, settings: Settings, stream: &[u8]) -> String {
     let tables = one_table(schema);
@@ -105,10 +105,38 @@ fn the_column_is_the_one_that_the_library_refuses() {
     }
 }
 
+/// Refusals of formats: the table or the schema of the registry, and the way down from its root.
 #[test]
-fn a_refusal_about_the_format_has_no_path() {
-    let nameless = one_table(&Schema::tuple([Schema::leaf(WireType::Int8)]));
-    let refusal = nameless.format().check().expect_err("a column has no name");
-    assert_eq!(refusal, Refusal::TableSchemaChildMissingName { index: 0, place: 1 });
-    assert_eq!(skiff::Error::from(refusal).to_string(), refusal.to_string());
+fn a_schema_record_is_named_by_its_table_and_its_columns() {
+    let leaf = Schema::leaf;
+    let good = || Schema::tuple([leaf(WireType::Int8).named("good")]);
+    let bad = || Schema::node(WireType::Int8, [leaf(WireType::Nothing)]);
+    let words = |builder: FormatBuilder| {
+        let tables = builder.build().expect("short names");
+        let refusal = tables.format().check().expect_err("no format");
+        let explained = tables.format().explain(refusal).to_string();
+        let error = Decoder::from_slice(&[], &tables).map(drop).expect_err("no format");
+        assert_eq!(error.to_string(), explained);
+        explained.strip_prefix(&refusal.to_string()).expect("the refusal first").to_owned()
+    };
+    let format = FormatBuilder::new;
+    assert_eq!(words(format()), "");
+    assert_eq!(words(format().table(good()).table_from_registry("x")), ": table 1");
+    let nameless = Schema::tuple([leaf(WireType::Int8).named("a"), leaf(WireType::Int8)]);
+    assert_eq!(words(format().table(good()).table(nameless)), ": schema record 4, table 1, field 1");
+    assert_eq!(words(format().table(leaf(WireType::Int8))), ": schema record 0, table 0");
+    let deep =
+        Schema::node(WireType::Variant8, [good(), Schema::tuple([leaf(WireType::Int8), bad().named("n")])]);
+    let deep = Schema::tuple([leaf(WireType::Int8).named("a"), deep.named("v")]);
+    let way = "column \"v\", choice 1, column \"n\"";
+    assert_eq!(words(format().table(deep.clone())), format!(": schema record 7, table 0, {way}"));
+    let registered = format().table(good()).register("r", deep).register("a", good());
+    assert_eq!(words(registered), format!(": schema record 11, registry schema \"r\", {way}"));
+    let root = format().table_from_registry("r").register("r", leaf(WireType::Int8));
+    assert_eq!(words(root), ": schema record 0, table 0");
+
+    let tables = Schema::tuple([leaf(WireType::Int8)]).tables().expect("short names");
+    let error = Encoder::to_writer(Vec::new(), &tables).map(drop).expect_err("no name");
+    let expected = "refused 10 TableSchemaChildMissingName (index 0) at 1: schema record 1, field 0";
+    assert_eq!(error.to_string(), expected);
 }

@@ -139,7 +139,8 @@ fn bad_schemas_are_refused() {
     let refused = |schema: Schema| {
         let tables = schema.tables().expect("short names");
         let refusal = tables.block().check().expect_err("no table's schema");
-        assert_eq!(Encoder::to_writer(Vec::new(), &tables).map(drop), Err(refusal));
+        let error = Encoder::to_writer(Vec::new(), &tables).map(drop).expect_err("no table's schema");
+        assert_eq!(error.refusal(), Some(refusal));
         refusal
     };
     assert_eq!(
