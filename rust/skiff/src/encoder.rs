@@ -1,157 +1,9 @@
-//! Rows written: a schema's block, and encoders over a slice and over a writer.
+//! Row after row, into a slice or a writer.
 
 use std::fmt;
 use std::io::Write;
 
-use crate::error::{Refused, Where};
-use crate::report::Report;
-use crate::sys::VALUE_RECORD_BYTES;
-use crate::{path, sys, Error, Extent, Refusal, RowBuilder, Settings, Value};
-
-/// One schema among the records of a table, by its first record and their count; [`crate::Schema::tables`]
-/// makes one. Every call checks it, so there is no way to write by a bad one.
-///
-/// [`Encoder`] writes row after row; the calls here write one row each and keep nothing.
-#[derive(Debug, Clone, Copy, PartialEq, Eq, Hash)]
-pub struct SchemaBlock<'a> {
-    /// Schema records, 16 bytes each.
-    pub records: &'a [u8],
-    /// The store that names lie in.
-    pub names: &'a [u8],
-    /// The number of its first record.
-    pub first: u64,
-    /// How many records it has.
-    pub count: u64,
-}
-
-/// A value as value records and payload bytes: what [`crate::RowBuilder`] makes, and what a decoded row
-/// is. Nothing is checked before it is written.
-#[derive(Debug, Clone, Copy, PartialEq, Eq, Hash)]
-pub struct ValueTable<'a> {
-    /// Value records, 16 bytes each.
-    pub records: &'a [u8],
-    /// The payload bytes that they point at.
-    pub payload: &'a [u8],
-}
-
-impl ValueTable<'_> {
-    /// Whether it is one: exactly one tree of records, and a store that is exactly filled.
-    ///
-    /// ```
-    /// use skiff::{Refusal, RowBuilder, ValueTable};
-    ///
-    /// let mut row = RowBuilder::new();
-    /// assert_eq!(row.value(7_u8).finish()?.check(), Ok(()));
-    /// let none = ValueTable { records: &[], payload: &[] };
-    /// assert_eq!(none.check(), Err(Refusal::BadValueTable));
-    /// # Ok::<(), skiff::Misuse>(())
-    /// ```
-    pub fn check(&self) -> Result<(), Refusal> {
-        Report::of(|answer| sys::check_value_table(self, answer)).accepted()
-    }
-
-    /// What the record of this number says, judged by itself; [`ValueTable::check`] judges them together.
-    ///
-    /// ```
-    /// use skiff::{RowBuilder, Scalar};
-    ///
-    /// let mut row = RowBuilder::new();
-    /// let table = row.value(-7_i16).value("hi").finish()?;
-    /// assert_eq!(table.value(0), Ok(Scalar::Children(2)));
-    /// assert_eq!(table.value(1), Ok(Scalar::Signed(-7)));
-    /// assert_eq!(table.value(2), Ok(Scalar::Payload { start: 0, length: 2 }));
-    /// assert!(table.value(3).is_err());
-    /// # Ok::<(), skiff::Misuse>(())
-    /// ```
-    pub fn value(&self, record: u64) -> Result<Scalar, Refusal> {
-        Report::of(|answer| sys::value(self.records, record, answer)).scalar()
-    }
-}
-
-/// What the library says of one value record by itself.
-#[derive(Debug, Clone, Copy, PartialEq)]
-#[non_exhaustive]
-pub enum Scalar {
-    /// A nothing.
-    Nothing,
-    /// A boolean.
-    Boolean(bool),
-    /// An int8 to int64.
-    Signed(i64),
-    /// A uint8 to uint64.
-    Unsigned(u64),
-    /// A double, with its bits.
-    Double(f64),
-    /// An int128, int256, string32 or yson32: where its bytes stand in the payload.
-    Payload {
-        /// The first byte.
-        start: u64,
-        /// How many there are.
-        length: u64,
-    },
-    /// A variant, repeated variant or tuple: how many children it has.
-    Children(u64),
-}
-
-impl SchemaBlock<'_> {
-    /// Whether rows can be written by it: in form, by the rules, a tuple whose columns have names.
-    pub fn check(&self) -> Result<(), Refusal> {
-        Report::of(|answer| sys::check_encoder_schema(self, answer)).accepted()
-    }
-
-    /// A refusal of this block, with the node that it is about.
-    pub fn explain(&self, refusal: Refusal) -> Refused {
-        Refused::of_schema(refusal, path::in_block(self, &refusal))
-    }
-
-    /// Writes a row at `position` of `output`. Refused, it has written nothing; where there is too little
-    /// room, [`Refusal::NoOutputRoom`] says how many bytes the row has.
-    pub fn encode<'v>(
-        &self,
-        settings: &Settings,
-        row: impl Into<ValueTable<'v>>,
-        output: &mut [u8],
-        position: usize,
-    ) -> Result<Extent, Refused> {
-        let value = row.into();
-        self.put(settings, &value, output, position as u64).map_err(|refusal| self.about(refusal, &value))
-    }
-
-    /// Appends a row to `output`, which grows as it has to. Refused, it has appended nothing.
-    pub fn append<'v>(
-        &self,
-        settings: &Settings,
-        row: impl Into<ValueTable<'v>>,
-        output: &mut Vec<u8>,
-    ) -> Result<Extent, Refused> {
-        let value = row.into();
-        let start = output.len();
-        // No value takes more than ten bytes beside its payload: a tag of two, and a number of eight.
-        let most = 2 + value.records.len() / VALUE_RECORD_BYTES * 10 + value.payload.len();
-        output.resize(start + most, 0);
-        let done = self.put(settings, &value, &mut output[start..], 0);
-        output.truncate(start + done.as_ref().map_or(0, |row| row.bytes));
-        done.map_err(|refusal| self.about(refusal, &value))
-    }
-
-    fn put(
-        &self,
-        settings: &Settings,
-        value: &ValueTable,
-        output: &mut [u8],
-        position: u64,
-    ) -> Result<Extent, Refusal> {
-        let report = Report::of(|answer| sys::encode(settings.into(), self, value, output, position, answer));
-        // An end is nothing that this call answers.
-        report.extent()?.ok_or(Refusal::from_numbers(0, 0, [0; 3]))
-    }
-
-    fn about(&self, refusal: Refusal, value: &ValueTable) -> Refused {
-        let path = path::in_values(self, value, &refusal);
-        let at = if path.is_some() { Where::Value } else { Where::Nowhere };
-        Refused { refusal, path: path.unwrap_or_default(), at }
-    }
-}
+use crate::{Error, Extent, RowBuilder, SchemaBlock, Settings, Value, ValueTable};
 
 /// Where an encoder's rows go: [`ToSlice`] or [`ToWriter`].
 pub trait Sink: sealed::Sink {}
@@ -238,7 +90,7 @@ pub struct Encoder<'f, S> {
 
 impl<'f, 's> Encoder<'f, ToSlice<'s>> {
     /// Into a slice, from its start on. Refuses a block that is no table's schema. A row that no longer fits
-    /// is refused by [`Refusal::NoOutputRoom`].
+    /// is refused by [`crate::Refusal::NoOutputRoom`].
     ///
     /// ```
     /// # use skiff::{Encoder, Refusal, Schema, WireType};

@@ -2,6 +2,7 @@
 #![warn(missing_docs)]
 
 mod accessors;
+mod block;
 mod decoder;
 mod encoder;
 mod error;
@@ -15,15 +16,18 @@ mod row;
 mod row_builder;
 mod schema;
 mod settings;
+mod source;
 pub mod sys;
 mod value;
+mod value_table;
 mod wire_type;
 
 #[doc = include_str!("../FROM-YTSAURUS-RS.md")]
 pub mod from_ytsaurus_rs {}
 
-pub use decoder::{Decoder, FromReader, FromSlice, Rows, Source};
-pub use encoder::{Encoder, Scalar, SchemaBlock, Sink, ToSlice, ToWriter, ValueTable};
+pub use block::SchemaBlock;
+pub use decoder::{Decoder, Rows};
+pub use encoder::{Encoder, Sink, ToSlice, ToWriter};
 pub use error::{Error, Refused};
 pub use format::{Extent, Format, Run, Stop, WindowRun};
 pub use layout::{Columns, TableRef};
@@ -33,5 +37,7 @@ pub use row::{Listing, OwnedRow, Row};
 pub use row_builder::{Misuse, RowBuilder, ToValue};
 pub use schema::{FormatBuilder, FormatTables, NameTooLong, Schema, SchemaTables};
 pub use settings::Settings;
+pub use source::{FromReader, FromSlice, Source};
 pub use value::{ValueRef, Values, VariantRef, Variants};
+pub use value_table::{Scalar, ValueTable};
 pub use wire_type::WireType;
