@@ -52,6 +52,10 @@ fn compare(options: &Options) -> Result<ExitCode, String> {
         Err(Stop::Unmet(unmet)) => {
             return Err(format!("all answers were right, but never met: {}", unmet.join(", ")));
         }
+        Err(Stop::Misread(name)) => {
+            println!("DIFFERENCE: skiff_parse takes {:?} for another type", String::from_utf8_lossy(&name));
+            return Ok(ExitCode::from(1));
+        }
         Err(Stop::Difference(asked)) => {
             report(options, *asked)?;
             return Ok(ExitCode::from(1));
@@ -85,6 +89,9 @@ fn report(options: &Options, asked: Asked) -> Result<(), String> {
     println!("  plain:    {}", verdict.wanted.in_words());
     if !verdict.as_skipped {
         println!("  SKIP IS ANSWERED OTHERWISE THAN DECODE");
+    }
+    if !verdict.as_checked {
+        println!("  THE CHECK OF THE FORMAT IS ANSWERED OTHERWISE");
     }
     if !verdict.expected.is_one() {
         println!("  THE ORIGINAL DIFFERS FROM THE PLAIN READING");

@@ -43,5 +43,6 @@ pub fn verdict(asked: &Asked) -> Verdict {
         _ => skipped.returned == got.returned && skipped.answer == got.answer,
     };
     let expected = Expected::with(case, decoded_line(&report, after));
-    Verdict { expected, as_skipped, wanted, got }
+    // Each case is asked as a skip or a run too, and its format checked there.
+    Verdict { expected, as_skipped, as_checked: true, wanted, got }
 }

@@ -1,5 +1,6 @@
 //! The reading calls of the library, linked into this process.
 
+pub mod checks;
 pub mod decoding;
 pub mod huge;
 
@@ -137,6 +138,8 @@ pub struct Verdict {
     pub expected: Expected,
     /// The library's skip answers as its decoding did.
     pub as_skipped: bool,
+    /// The library's check of the format answers as the plain reading's.
+    pub as_checked: bool,
     pub wanted: Reply,
     pub got: Reply,
 }
@@ -151,11 +154,12 @@ impl Verdict {
         let expected = Expected::with(case, line(case.op, &report));
         let wanted = Reply::expected(&report, *answer_size);
         let got = Reply::of_library(case.op, case, *answer_size);
-        Self { expected, as_skipped: true, wanted, got }
+        let as_checked = checks::format_is_right(case, *answer_size);
+        Self { expected, as_skipped: true, as_checked, wanted, got }
     }
 
     pub fn is_good(&self) -> bool {
-        self.expected.is_one() && self.as_skipped && self.wanted == self.got
+        self.expected.is_one() && self.as_skipped && self.as_checked && self.wanted == self.got
     }
 }
 
@@ -173,6 +177,8 @@ fn unmet(call: &str, tally: &Tally, more: &[u64]) -> Vec<String> {
 /// Why a run stopped short.
 pub enum Stop {
     Difference(Box<Asked>),
+    /// A name that is taken for another wire type than the plain reading takes it for.
+    Misread(Vec<u8>),
     /// All answers were right, but these were never among them.
     Unmet(Vec<String>),
 }
@@ -226,6 +232,9 @@ impl Run {
 
 /// All fixed cases, then random ones up to `count` in all; and at least as many of decode.
 pub fn run(seed: u64, count: u64) -> Result<Tallies, Stop> {
+    if let Some(name) = ANSWER_SIZES.iter().find_map(|size| checks::misread_name(*size)) {
+        return Err(Stop::Misread(name));
+    }
     let mut run = Run::default();
     rows::fixed(&mut |kind, case| run.take(kind, case));
     for number in run.tallies.reading.cases..count {

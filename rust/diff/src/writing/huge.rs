@@ -43,9 +43,8 @@ fn both(given: &Given, output: &mut [u8], position: u64) -> Right {
     let value = ValueTable { records: value_records, payload };
     let settings = numbers(given.settings);
     let got = left(output, |output, answer| sys::encode(settings, &block, &value, output, position, answer));
-    let wanted_table = left(&mut [], |_, answer| {
-        Report::of_checked(&check_table(value_records, payload)).write_to(answer)
-    });
+    let wanted_table =
+        left(&mut [], |_, answer| Report::of_checked(&check_table(value_records, payload)).write_to(answer));
     let got_table = left(&mut [], |_, answer| sys::check_value_table(&value, answer));
     if got == wanted && got_table == wanted_table {
         return Ok(2);

@@ -7,15 +7,18 @@ use std::{ptr, slice};
 
 use plain::answer::Refusal;
 use plain::encoding::written;
+use plain::format::validate_encoder;
 use plain::reading::Row;
 use plain::report::Report;
 use plain::settings::Settings;
-use plain::value_table::check;
+use plain::tables::record_count;
+use plain::value_table::{check, value};
 use skiff::sys::{self, Numbers};
 use skiff::{Format, SchemaBlock, ValueTable};
 
 use super::run::Tally;
 use super::{filled, round_trip, WriteCase};
+use crate::judge::lone_block;
 
 extern "C" {
     fn mmap(at: *mut c_void, bytes: usize, may: i32, how: i32, file: i32, offset: i64) -> *mut c_void;
@@ -108,6 +111,31 @@ fn check_table(case: &WriteCase, answer_size: usize, at_end: bool) -> Left {
     })
 }
 
+fn check_schema(case: &WriteCase, answer_size: usize, at_end: bool) -> Left {
+    FENCES.with_borrow_mut(|[records, names, answer, ..]| {
+        let records = records.hold(&case.schema.records, at_end);
+        let names = names.hold(&case.schema.names, at_end);
+        let answer = answer.hold(&filled(answer_size), at_end);
+        let returned = sys::check_encoder_schema(records, names, case.schema.a, case.schema.b, answer);
+        Left { returned, answer: answer.to_vec(), output: Vec::new() }
+    })
+}
+
+/// The value of each record, of the whole table or not, and of one that is not there.
+fn values(case: &WriteCase, answer_size: usize, at_end: bool) -> Result<(), String> {
+    FENCES.with_borrow_mut(|[records, answer, ..]| {
+        let records = records.hold(&case.value.records, at_end);
+        for index in 0..=record_count(records) {
+            let answer = answer.hold(&filled(answer_size), at_end);
+            let returned = sys::value(records, index, answer);
+            let got = Left { returned, answer: answer.to_vec(), output: Vec::new() };
+            let report = Report::of_value(&value(records, index));
+            same(&format!("value of record {index}"), &got, &expected(&report, answer_size, &[]))?;
+        }
+        Ok(())
+    })
+}
+
 fn expected(report: &Report, answer_size: usize, output: &[u8]) -> Left {
     let mut answer = filled(answer_size);
     let returned = report.write_to(&mut answer);
@@ -142,9 +170,17 @@ pub fn verdict(
         ValueTable { records: &case.value.records, payload: &case.value.payload };
     let table_report = Report::of_checked(&check(records, payload));
     same("check of a value table", &check_table(case, size, at_end), &expected(&table_report, size, &[]))?;
+    let schema = Report::of_checked(&validate_encoder(
+        &case.schema.records,
+        &case.schema.names,
+        lone_block(&case.schema),
+    ));
+    same("check of the schema", &check_schema(case, size, at_end), &expected(&schema, size, &[]))?;
+    values(case, size, at_end)?;
     if number % 16 == 0 {
         let size = SHORT_SIZES[number as usize / 16 % SHORT_SIZES.len()];
-        tally.short_answers += 2;
+        // The value of each record and of one more, and three calls besides.
+        tally.short_answers += 4 + record_count(records);
         let untouched = filled(case.output);
         same("encode", &encode(case, size, at_end), &expected(&report, size, &untouched))?;
         same(
@@ -152,6 +188,8 @@ pub fn verdict(
             &check_table(case, size, at_end),
             &expected(&table_report, size, &[]),
         )?;
+        same("check of the schema", &check_schema(case, size, at_end), &expected(&schema, size, &[]))?;
+        values(case, size, at_end)?;
     }
     match done {
         Ok(row) => read_back(case, row, number),
