@@ -24,7 +24,8 @@ pub struct SchemaBlock<'a> {
 impl SchemaBlock<'_> {
     /// Whether rows can be written by it: in form, by the rules, a tuple whose columns have names.
     pub fn check(&self) -> Result<(), Refusal> {
-        Report::of(|answer| sys::check_encoder_schema(self, answer)).accepted()
+        let Self { records, names, first, count } = *self;
+        Report::of(|answer| sys::check_encoder_schema(records, names, first, count, answer)).accepted()
     }
 
     /// A refusal of this block, with the node that it is about.

@@ -257,11 +257,11 @@ pub fn check_format(format: &Format, answer: &mut [u8]) -> u32 {
 
 /// `skiff_check_encoder_schema`: the refusal's number, 0 where an encoder may write by the block.
 #[inline]
-pub fn check_encoder_schema(block: &SchemaBlock, answer: &mut [u8]) -> u32 {
+pub fn check_encoder_schema(records: &[u8], names: &[u8], first: u64, count: u64, answer: &mut [u8]) -> u32 {
     // SAFETY: as in `skip`.
     unsafe {
-        lend!(skiff_check_encoder_schema: read block.records; read block.names; number block.first;
-            number block.count; written answer;)
+        lend!(skiff_check_encoder_schema: read records; read names; number first; number count;
+            written answer;)
     }
 }
 
