@@ -98,13 +98,14 @@ impl<R: Read> sealed::Source for FromReader<R> {
         if self.last != More::Bytes {
             return Ok(self.last);
         }
-        // Room for a piece at the buffer's end: what is given up makes some.
         let kept = self.filled - passed;
-        grow(&mut self.buffer, kept as u64 + kept.max(PIECE) as u64)?;
+        let left = usize::try_from(self.most - (self.start + self.filled as u64)).unwrap_or(usize::MAX);
+        // Room for a piece at the buffer's end, some of which is that of what is given up. A byte over the most
+        // is asked for too, to tell whether there is one.
+        let room = kept.max(PIECE).min(left.max(1));
+        grow(&mut self.buffer, kept as u64 + room as u64)?;
         self.buffer.copy_within(passed..self.filled, 0);
         (self.start, self.filled) = (self.start + passed as u64, kept);
-        let left = usize::try_from(self.most - (self.start + kept as u64)).unwrap_or(usize::MAX);
-        // A byte over the most is asked for too, to tell whether there is one.
         let read = self.read((self.buffer.len() - kept).min(left.max(1)))?;
         self.last = match read {
             0 => More::Nothing,

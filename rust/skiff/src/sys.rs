@@ -1,8 +1,8 @@
 //! The library's C functions, as include/skiff.h has them, behind signatures that can't be misused.
 //!
-//! Nothing checks the declarations below against the library's source; row-diff runs each of them on
-//! millions of inputs for that reason among others. Their contracts ask nothing of a caller but that
-//! each pointer leads to as many bytes as its length says, which a slice guarantees.
+//! include/check-refusals compares the declarations below with the library's source, and the differential
+//! runs put millions of inputs to each. Their contracts ask nothing of a caller but that each pointer leads
+//! to as many bytes as its length says, which a slice guarantees.
 
 use crate::{Format, SchemaBlock, Settings, ValueTable};
 
