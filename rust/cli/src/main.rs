@@ -139,4 +139,18 @@ mod tests {
     fn the_command_is_well_formed() {
         super::command().debug_assert();
     }
+
+    /// The man page names each subcommand and each option.
+    #[test]
+    fn the_man_page_is_whole() {
+        let page = include_str!("../skiff.1").replace("\\-", "-");
+        for subcommand in super::command().get_subcommands() {
+            let name = subcommand.get_name();
+            assert!(page.contains(&format!("\\fBskiff {name}")), "{name}");
+            assert!(page.contains(&format!(".B {name}")), "{name}");
+            for option in subcommand.get_arguments().filter_map(|argument| argument.get_long()) {
+                assert!(page.contains(&format!("--{option}")), "{name} --{option}");
+            }
+        }
+    }
 }

@@ -34,8 +34,8 @@ use crate::{path, Error, Extent, Format, OwnedRow, Refusal, Row, Run, Settings, 
 /// ```
 ///
 /// A refusal moves nothing: asked again, the decoder refuses again. A stream has at most
-/// [`Settings::MOST_BYTES`] bytes; of a longer one the rows before that come, and then
-/// [`Refusal::Setting`].
+/// [`Settings::MOST_BYTES`] bytes: a longer slice is refused by [`Refusal::Setting`] at once, and what a longer
+/// reader gives after the rows up to there.
 #[derive(Debug)]
 pub struct Decoder<'f, S> {
     format: Format<'f>,
@@ -56,11 +56,11 @@ impl<'f, 's> Decoder<'f, FromSlice<'s>> {
 }
 
 impl<'f, R: Read> Decoder<'f, FromReader<R>> {
-    /// Over a stream that is read piece by piece; it needs no buffer of its own beside this one. Refuses what
-    /// is no format.
+    /// Over a stream that is read piece by piece; a `BufReader` around it would be one buffer too many. Refuses
+    /// what is no format.
     ///
-    /// What is at hand is as long as the longest row and a piece. A row that is cut is asked for again with
-    /// each piece that the reader gives, so that no row waits for bytes after it.
+    /// The buffer is as long as the longest row and a piece. A row that is cut is asked for again with each
+    /// piece that the reader gives, so that no row waits for bytes after it.
     pub fn from_reader(reader: R, format: impl Into<Format<'f>>) -> Result<Self, Error> {
         Self::over(FromReader::new(reader), format.into())
     }
@@ -182,7 +182,18 @@ impl<'f, S: Source> Decoder<'f, S> {
     }
 
     /// Passes all rows that are left, in far fewer calls than by [`Decoder::skip_row`]. The rows and bytes of
-    /// the answer are all those of the stream so far.
+    /// the answer are all those of the stream so far; of one that is too long there are none.
+    ///
+    /// ```
+    /// # use skiff::{Decoder, FormatBuilder, Refusal, Schema, Stop, WireType};
+    /// # let page = Schema::leaf(WireType::Uint8).named("page");
+    /// # let tables = FormatBuilder::new().table(Schema::tuple([page])).build()?;
+    /// let mut decoder = Decoder::from_reader(&[0, 0, 0x25, 0, 0, 0x26, 1, 0][..], &tables)?;
+    /// let run = decoder.run()?;
+    /// assert_eq!((run.rows, run.bytes), (2, 6));
+    /// assert_eq!(run.stop, Stop::Refused(Refusal::MissingTableSchema { index: 1, place: 6 }));
+    /// # Ok::<(), Box<dyn std::error::Error>>(())
+    /// ```
     pub fn run(&mut self) -> Result<Run, Error> {
         loop {
             let (window, _) = self.source.window();
