@@ -1,20 +1,25 @@
 -- What the query says has bits, and a double's number is the bits that stand in its record, a NaN's too.
 -- Assumes nothing.
-use Prim.Native.Nat.{ℕ, _^_, _<_}
+use Prim.Native.Nat.{ℕ, suc, _-_, _*_, _^_, _<_}
 use mathlib.Core.Path.{_≡_, refl, sym, _∙_, ap}
 use mathlib.Core.Bool.{false, not}
 use mathlib.Core.List.{List}
+use native.Mathlib.Omega.{arith}
+use borrow.Author.Tests.{lt-ltb, le-ltb}
 use lib.Dec.{T}
+use lib.IntN.{ℤ, pos, negsuc}
+use mir.Syntax.{w64}
+use mir.Val.{SFits}
 use lib.Ieee.{binary64, nanBits, isNan, ofBits}
 use lib.Ieee.Bits.{nanBits-is, toBits-ofBits}
 use Rattle.rules.specs.Choice.{pick}
 use Rattle.rules.specs.Wire.{Form, empty, truth, fixed, raw, sized, variant-form, repeated-form, tuple-form, unknown}
-use Rattle.rules.specs.Query.{doubleSaid, numberSaid, scalarSaid, recordSaid, recordSeen, queriedOf, queryRule}
+use Rattle.rules.specs.Query.{signed, doubleSaid, numberSaid, scalarSaid, recordSaid, recordSeen, queriedOf, queryRule}
 use Rattle.rules.specs.declared.table_record.ValueRecord.{ValueRecord}
 use Rattle.rules.specs.declared.query.Scalar.{Scalar}
 use Rattle.rules.specs.declared.query.Seen.{Seen}
 use Rattle.rules.proofs.Tests.{either}
-use Rattle.scalars.specs.Numbers.{oneNumber, scalarNumbers, HasBits, SaysBits}
+use Rattle.scalars.specs.Numbers.{signedBits, oneNumber, scalarNumbers, HasBits, SaysBits}
 use Rattle.scalars.specs.declared.ScalarNumbers.{ScalarNumbers}
 
 no-nan : (bits : ℕ) → nanBits binary64 bits ≡ false → isNan (ofBits binary64 bits) ≡ false
@@ -53,3 +58,12 @@ unfolding doubleSaid scalarNumbers
 double-told bits l =
     either (λ s. scalarNumbers s ≡ oneNumber 4 bits) _ (λ e. refl)
     (λ e. let n : T (not (isNan (ofBits binary64 bits))) = rw (no-nan bits e) tt in ap (oneNumber 4) (toBits-ofBits binary64 bits l n))
+
+-- the number of a signed one is its 64 bits: read as two's complement they give it back
+pub signed-bits-back : (z : ℤ) → SFits w64 z → signed 8 (signedBits z) ≡ z
+unfolding signed signedBits pick
+signed-bits-back (pos n) f = let l : n < 2 ^ 63 = f .sfits in rw (lt-ltb (2 * n) (256 ^ 8) (omega (arith, l)))
+signed-bits-back (negsuc n) f =
+    let l : n < 2 ^ 63 = f .sfits in
+    let e : 2 ^ 64 - suc (2 ^ 64 - suc n) ≡ n = omega (arith, l) in
+    rw (le-ltb (2 * (2 ^ 64 - suc n)) (256 ^ 8) (omega (arith, l)), lt-ltb (2 ^ 64 - suc n) (2 ^ 64) (omega (arith, l)), e)

@@ -38,6 +38,18 @@ fn found(fault: &str, most_bytes: usize, says: &[&str]) {
 const ONE_COLUMN: usize = 2 * 16 + 16 + 1;
 
 #[test]
+fn a_format_that_is_none() {
+    found("passes_every_format", 0, &["THE CHECK OF THE FORMAT IS ANSWERED OTHERWISE"]);
+}
+
+#[test]
+fn a_name_in_capitals() {
+    let (code, text) = run("reads_names_in_capitals", "1000000");
+    assert_eq!(code, Some(1), "{text}");
+    assert!(text.contains("DIFFERENCE: skiff_parse takes "), "{text}");
+}
+
+#[test]
 fn a_blob_as_long_as_its_limit() {
     found("blob_limit_excludes_equality", ONE_COLUMN + 40, &["library:  returned 14", "original: number 12"]);
 }

@@ -4,6 +4,7 @@
 //!
 //! Nothing that is said of the library may rest on a run over this.
 
+mod checking;
 mod decoding;
 mod encoding;
 mod fault;
@@ -11,13 +12,10 @@ mod fault;
 use std::slice;
 
 use plain::encoding::Given;
-use plain::format::{validate_encoder, validate_format};
 use plain::reading::{run, skip};
 use plain::report::{what, Report};
 use plain::settings::{Settings, MOST};
 use plain::tables::{Block, FormatTables};
-use plain::value_table::value;
-use plain::wire_type::parse;
 
 /// All that a reading call is given but for its answer slice. A run's position is 0.
 #[derive(Clone, Copy)]
@@ -178,8 +176,6 @@ pub unsafe extern "C" fn skiff_check_value_table(
     encoding::check_answer(records, payload, slice::from_raw_parts_mut(answer, answer_len))
 }
 
-/// No fault is planted in the checks.
-///
 /// # Safety
 /// Each pointer leads to as many bytes as the length after it says.
 #[export_name = "skiff1_check_format"]
@@ -202,7 +198,7 @@ pub unsafe extern "C" fn skiff_check_format(
         registry: slice::from_raw_parts(registry, registry_len),
     };
     let answer = slice::from_raw_parts_mut(answer, answer_len);
-    Report::of_checked(&validate_format(&tables)).write_to(answer)
+    checking::format_answer(&tables, answer)
 }
 
 /// # Safety
@@ -221,7 +217,7 @@ pub unsafe extern "C" fn skiff_check_encoder_schema(
     let records = slice::from_raw_parts(records, records_len);
     let names = slice::from_raw_parts(names, names_len);
     let answer = slice::from_raw_parts_mut(answer, answer_len);
-    Report::of_checked(&validate_encoder(records, names, Block { first, count })).write_to(answer)
+    checking::block_answer(records, names, Block { first, count }, answer)
 }
 
 /// # Safety
@@ -235,7 +231,7 @@ pub unsafe extern "C" fn skiff_parse(
 ) -> u32 {
     let name = slice::from_raw_parts(name, name_len);
     let answer = slice::from_raw_parts_mut(answer, answer_len);
-    Report::of_parsed(parse(name)).write_to(answer)
+    checking::name_answer(name, answer)
 }
 
 /// # Safety
@@ -250,5 +246,5 @@ pub unsafe extern "C" fn skiff_value(
 ) -> u32 {
     let records = slice::from_raw_parts(value_records, value_records_len);
     let answer = slice::from_raw_parts_mut(answer, answer_len);
-    Report::of_value(&value(records, index)).write_to(answer)
+    checking::value_answer(records, index, answer)
 }
