@@ -1,5 +1,6 @@
 //! Row after row of a stream, from a slice or from a reader.
 
+use std::fmt;
 use std::io::{self, Read};
 
 use crate::error::{Refused, Where};
@@ -36,7 +37,6 @@ use crate::{path, Error, Extent, Format, OwnedRow, Refusal, Row, Run, Settings, 
 /// A refusal moves nothing: asked again, the decoder refuses again. A stream has at most
 /// [`Settings::MOST_BYTES`] bytes: a longer slice is refused by [`Refusal::Setting`] at once, and what a longer
 /// reader gives after the rows up to there.
-#[derive(Debug)]
 pub struct Decoder<'f, S> {
     format: Format<'f>,
     settings: Settings,
@@ -230,6 +230,17 @@ impl<'f, S: Source> Decoder<'f, S> {
     }
 }
 
+/// Where it stands; not what its buffers hold.
+impl<S: Source> fmt::Debug for Decoder<'_, S> {
+    fn fmt(&self, out: &mut fmt::Formatter<'_>) -> fmt::Result {
+        out.debug_struct("Decoder")
+            .field("position", &self.position())
+            .field("rows_passed", &self.rows)
+            .field("settings", &self.settings)
+            .finish_non_exhaustive()
+    }
+}
+
 /// Grows a buffer to so many bytes. False where that would not help: it is as long already, or the library
 /// would not look at all of it.
 fn more_room(buffer: &mut Vec<u8>, needed: u64) -> io::Result<bool> {
@@ -242,7 +253,6 @@ fn more_room(buffer: &mut Vec<u8>, needed: u64) -> io::Result<bool> {
 }
 
 /// The rows of a decoder that are left.
-#[derive(Debug)]
 pub struct Rows<'d, 'f, S> {
     decoder: &'d mut Decoder<'f, S>,
     done: bool,
@@ -258,6 +268,12 @@ impl<'f, S: Source> Iterator for Rows<'_, 'f, S> {
         let next = self.decoder.next_row().map(|row| row.map(|row| row.to_owned_row())).transpose();
         self.done = !matches!(next, Some(Ok(_)));
         next
+    }
+}
+
+impl<S: Source> fmt::Debug for Rows<'_, '_, S> {
+    fn fmt(&self, out: &mut fmt::Formatter<'_>) -> fmt::Result {
+        out.debug_struct("Rows").field("decoder", self.decoder).field("done", &self.done).finish()
     }
 }
 

@@ -22,7 +22,6 @@ mod sealed {
 }
 
 /// Rows one after another into a slice.
-#[derive(Debug)]
 pub struct ToSlice<'s> {
     output: &'s mut [u8],
     written: usize,
@@ -42,12 +41,6 @@ impl sealed::Sink for ToSlice<'_> {
 pub struct ToWriter<W> {
     writer: W,
     row: Vec<u8>,
-}
-
-impl<W> fmt::Debug for ToWriter<W> {
-    fn fmt(&self, out: &mut fmt::Formatter<'_>) -> fmt::Result {
-        out.write_str("ToWriter")
-    }
 }
 
 impl<W: Write> Sink for ToWriter<W> {}
@@ -78,7 +71,6 @@ impl<W: Write> sealed::Sink for ToWriter<W> {
 /// ```
 ///
 /// A row that is refused leaves no byte behind, in a slice and in a writer alike.
-#[derive(Debug)]
 pub struct Encoder<'f, S> {
     block: SchemaBlock<'f>,
     settings: Settings,
@@ -194,5 +186,28 @@ impl<'f, S: Sink> Encoder<'f, S> {
         let done = builder.finish().map_err(Error::from).and_then(|row| self.write(row));
         self.builder = builder;
         done
+    }
+}
+
+/// What it has written; not what its buffers hold.
+impl<S> fmt::Debug for Encoder<'_, S> {
+    fn fmt(&self, out: &mut fmt::Formatter<'_>) -> fmt::Result {
+        out.debug_struct("Encoder")
+            .field("rows", &self.rows)
+            .field("bytes", &self.bytes)
+            .field("settings", &self.settings)
+            .finish_non_exhaustive()
+    }
+}
+
+impl fmt::Debug for ToSlice<'_> {
+    fn fmt(&self, out: &mut fmt::Formatter<'_>) -> fmt::Result {
+        write!(out, "ToSlice {{ {} of {} bytes }}", self.written, self.output.len())
+    }
+}
+
+impl<W> fmt::Debug for ToWriter<W> {
+    fn fmt(&self, out: &mut fmt::Formatter<'_>) -> fmt::Result {
+        out.write_str("ToWriter")
     }
 }

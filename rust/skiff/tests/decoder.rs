@@ -292,4 +292,8 @@ fn the_delivery() {
     let mut decoder = Decoder::from_reader(file, &tables).expect("a format");
     assert_eq!(decoder.rows().filter(Result::is_ok).count(), 5);
     assert_eq!(decoder.position(), 49);
+    // Its words are short, whatever its buffers hold.
+    assert!(
+        format!("{decoder:?}").starts_with("Decoder { position: 49, rows_passed: 5, settings: Settings {")
+    );
 }
