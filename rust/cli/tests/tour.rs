@@ -33,7 +33,7 @@ fn the_tour_prints_what_it_says() {
     fs::create_dir_all(&folder).expect("it can be made");
     let command = Path::new(env!("CARGO_BIN_EXE_skiff")).parent().expect("a folder");
     let path = format!("{}:{}", command.display(), env::var("PATH").expect("there is one"));
-    let steps = steps(include_str!("../TOUR.md"));
+    let steps = steps(include_str!("../../../docs/TOUR.md"));
     assert!(steps.len() > 10);
     for step in steps {
         let shell = Command::new("sh")
