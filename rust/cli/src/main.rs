@@ -3,6 +3,7 @@
 
 mod files;
 mod json;
+mod line;
 mod progress;
 mod read_rows;
 mod schema_text;

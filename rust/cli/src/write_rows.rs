@@ -9,6 +9,7 @@ use skiff::{Encoder, Error, Format};
 
 use crate::files::{self, TABLES};
 use crate::json;
+use crate::line::Line;
 use crate::progress::Progress;
 use crate::read_rows::settings;
 use crate::schema_text;
@@ -55,7 +56,7 @@ pub fn encode(given: &ArgMatches) -> Result<Status, Failure> {
             continue;
         }
         let at_line = |words: String| Failure::Refused(format!("{lines_name}: line {number}: {words}"));
-        let row = serde_json::from_slice(&line)
+        let Line(row) = serde_json::from_slice(&line)
             .map_err(|error| at_line(format!("column {}: {}", error.column(), first_words(&error))))?;
         let value = json::read_row(&shapes, &row).map_err(|fault| at_line(fault.words()))?;
         encoder.write_value(&value).map_err(|error| match error {

@@ -246,6 +246,7 @@ fn bad_json_is_told_by_line_and_column() {
     assert_eq!(refused("{\"page\":1,\"name\":true}"), "line 1: column \"name\": a boolean is no string32");
     assert_eq!(refused("[1]"), "line 1: an array is no tuple");
     assert_eq!(refused("{\"page\":1,"), "line 1: column 10: EOF while parsing a value");
+    assert_eq!(refused("{\"page\":1,\"page\":2}"), "line 1: column 19: \"page\" stands twice");
     assert!(refused("\u{1}").starts_with("line 1: column 1: "));
     let limited = ["encode", "--max-blob-bytes", "1", "."];
     let (status, _, errors) = told(&with_input(&limited, "{\"page\":1,\"name\":\"hi\"}"));
