@@ -2,10 +2,10 @@
 
 use std::fs::{self, File};
 use std::io::{self, BufRead, BufReader, BufWriter, Write};
-use std::path::Path;
+use std::path::{Path, PathBuf};
 
 use clap::ArgMatches;
-use skiff::{Encoder, Error, Format};
+use skiff::{Encoder, Error, Format, ToWriter};
 
 use crate::files::{self, TABLES};
 use crate::json;
@@ -15,12 +15,35 @@ use crate::read_rows::settings;
 use crate::schema_text;
 use crate::words::{output_failed, Failure, Status};
 
-/// Where the stream goes: a file of this name, or standard output.
-fn output(name: Option<&String>) -> Result<Box<dyn Write>, Failure> {
-    Ok(match name {
-        None => Box::new(io::stdout().lock()),
-        Some(name) => Box::new(File::create(name).map_err(|error| Failure::of_file(name, error))?),
-    })
+/// Where the stream goes: standard output, or a file, which is there under its name only once it is whole.
+struct Output {
+    writer: Box<dyn Write>,
+    /// The name that it is written under, and its own.
+    names: Option<(PathBuf, PathBuf)>,
+}
+
+impl Output {
+    fn open(name: Option<&String>) -> Result<Self, Failure> {
+        let Some(name) = name else {
+            return Ok(Self { writer: Box::new(io::stdout().lock()), names: None });
+        };
+        // What is there already and is no file, a pipe or a device, is written to as it is.
+        let is_file = fs::metadata(name).map_or(true, |about| about.is_file());
+        let part = PathBuf::from(if is_file { format!("{name}.part") } else { name.clone() });
+        let file = File::create(&part).map_err(|error| Failure::of_file(part.display(), error))?;
+        Ok(Self { writer: Box::new(file), names: is_file.then(|| (part, PathBuf::from(name))) })
+    }
+}
+
+/// Gives a file its own name, or takes away what was not finished.
+fn settle(names: Option<(PathBuf, PathBuf)>, done: Result<(), Failure>) -> Result<Status, Failure> {
+    if let Some((part, name)) = names {
+        match &done {
+            Ok(()) => fs::rename(&part, &name).map_err(|error| Failure::of_file(name.display(), error))?,
+            Err(_) => drop(fs::remove_file(&part)),
+        }
+    }
+    done.map(|()| Status::Accepted)
 }
 
 /// Refuses what is no format.
@@ -39,11 +62,23 @@ pub fn encode(given: &ArgMatches) -> Result<Status, Failure> {
     let schema = format.table_schema(0).expect("a format has a table");
     let input = files::input(lines_name)?;
     let progress = Progress::new(input.length);
-    let mut lines = BufReader::with_capacity(1 << 16, progress.watch(input.reader));
-    let out = BufWriter::with_capacity(1 << 16, output(word("output"))?);
-    let mut encoder = Encoder::to_writer(out, schema)
-        .map_err(|refusal| Failure::Refused(refusal.to_string()))?
-        .with_settings(settings(given));
+    let lines = BufReader::with_capacity(1 << 16, progress.watch(input.reader));
+    let Output { writer, names } = Output::open(word("output"))?;
+    let done = Encoder::to_writer(BufWriter::with_capacity(1 << 16, writer), schema)
+        .map_err(|refusal| Failure::Refused(refusal.to_string()))
+        .map(|encoder| encoder.with_settings(settings(given)))
+        .and_then(|encoder| write_lines(lines_name, lines, &shapes, encoder));
+    progress.clear();
+    settle(names, done)
+}
+
+/// Writes each line as a row.
+fn write_lines<W: Write>(
+    lines_name: &str,
+    mut lines: impl BufRead,
+    shapes: &[json::Shape],
+    mut encoder: Encoder<ToWriter<W>>,
+) -> Result<(), Failure> {
     let (mut line, mut number) = (Vec::new(), 0);
     loop {
         line.clear();
@@ -58,18 +93,16 @@ pub fn encode(given: &ArgMatches) -> Result<Status, Failure> {
         let at_line = |words: String| Failure::Refused(format!("{lines_name}: line {number}: {words}"));
         let Line(row) = serde_json::from_slice(&line)
             .map_err(|error| at_line(format!("column {}: {}", error.column(), first_words(&error))))?;
-        let value = json::read_row(&shapes, &row).map_err(|fault| at_line(fault.words()))?;
+        let value = json::read_row(shapes, &row).map_err(|fault| at_line(fault.words()))?;
         encoder.write_value(&value).map_err(|error| match error {
             Error::Io(error) => output_failed(error),
             other => at_line(other.to_string()),
         })?;
     }
-    progress.clear();
     encoder.flush().map_err(|error| match error {
         Error::Io(error) => output_failed(error),
         other => Failure::Refused(other.to_string()),
-    })?;
-    Ok(Status::Accepted)
+    })
 }
 
 /// What is wrong, without the place that is told before it.

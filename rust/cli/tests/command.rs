@@ -254,6 +254,24 @@ fn bad_json_is_told_by_line_and_column() {
     assert!(errors.contains("line 1: refused 14 BlobTooLarge") && errors.contains("column \"name\""));
 }
 
+/// A file that is not whole never has the name that was asked for.
+#[test]
+fn a_refused_line_leaves_the_file_as_it_was() {
+    let folder = folder("output");
+    let name = folder.join("rows.skf").to_str().expect("text").to_owned();
+    let good = "{\"page\":1}\n";
+    let encode = |lines: &str| told(&with_input(&["encode", ".", "-o", &name], lines)).0;
+    assert_eq!(encode(&format!("{good}[]")), 1);
+    assert_eq!(fs::read_dir(&folder).expect("a folder").count(), 0);
+    assert_eq!(encode(good), 0);
+    assert_eq!(fs::read(&name).expect("it is there"), [0, 0, 1, 0]);
+    assert_eq!(encode(&format!("{good}{good}[]")), 1);
+    assert_eq!(fs::read(&name).expect("it is there"), [0, 0, 1, 0]);
+    assert_eq!(encode(&format!("{good}{good}")), 0);
+    assert_eq!(fs::read(&name).expect("it is there").len(), 8);
+    assert_eq!(fs::read_dir(&folder).expect("a folder").count(), 1);
+}
+
 #[test]
 fn schema_there_and_back() {
     let text = accepted(&skiff(&["schema", "."]));
