@@ -146,7 +146,7 @@ fn encode(options: &Options) {
         println!("{name:46} {CLIENT_ROWS:8} {original:9.1} {library:9.1} {:6.2}", library / original);
     };
     line("skiff_encode", best_of(options.runs, original, || writing::encode_bare(&case, &standing)));
-    line("Encoder::append", best_of(options.runs, original, || writing::encode_library(&case, &standing)));
+    line("SchemaBlock::append", best_of(options.runs, original, || writing::encode_library(&case, &standing)));
     println!(
         "\n{:46} {:>8} {:>12} {:>10}",
         "one row, by its value records", "records", "encode, us", "ns/record"

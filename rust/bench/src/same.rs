@@ -2,7 +2,7 @@
 
 use diff::case::Case;
 use oracle::{Decoder, Format as Original, Value as Tree};
-use skiff::{Decoded, Settings, Skipped, Value};
+use skiff::{Settings, ValueRef};
 
 use crate::timing::tables;
 
@@ -28,10 +28,10 @@ pub fn check(case: &Case, format: &Original, rows: u64) -> Room {
     while let Some((table, tree)) = decoder.next_row().expect("good rows") {
         let settings = Settings::default();
         let decoded = tables(case).next_row(&settings, &case.input, at, &mut records, &mut payload);
-        let Ok(Decoded::Row(decoded)) = decoded else { panic!("row {met} is a row: {decoded:?}") };
-        assert_eq!(usize::from(decoded.row.table), table);
+        let Ok(Some(decoded)) = decoded else { panic!("row {met} is a row: {decoded:?}") };
+        assert_eq!(usize::from(decoded.table()), table);
         assert!(same(&tree, decoded.value()), "row {met} is {tree:?} and {:?}", decoded.value());
-        at += decoded.row.bytes;
+        at += decoded.extent().bytes;
         met += 1;
     }
     assert_eq!((met, at), (rows, case.input.len()));
@@ -41,9 +41,7 @@ pub fn check(case: &Case, format: &Original, rows: u64) -> Room {
 fn room(case: &Case) -> Room {
     let mut room = Room { records: 0, payload: 0 };
     let mut at = 0;
-    while let Skipped::Row(row) =
-        tables(case).skip_row(&Settings::default(), &case.input, at).expect("good rows")
-    {
+    while let Some(row) = tables(case).skip_row(&Settings::default(), &case.input, at).expect("good rows") {
         room.records = room.records.max(row.records);
         room.payload = room.payload.max(row.payload);
         at += row.bytes;
@@ -51,27 +49,29 @@ fn room(case: &Case) -> Room {
     room
 }
 
-fn same(tree: &Tree, value: Value) -> bool {
+fn same(tree: &Tree, value: ValueRef) -> bool {
     match (tree, value) {
-        (Tree::Nothing, Value::Nothing) => true,
-        (Tree::Boolean(x), Value::Boolean(y)) => *x == y,
-        (Tree::Int8(x), Value::Int8(y)) => *x == y,
-        (Tree::Int16(x), Value::Int16(y)) => *x == y,
-        (Tree::Int32(x), Value::Int32(y)) => *x == y,
-        (Tree::Int64(x), Value::Int64(y)) => *x == y,
-        (Tree::Int128(x), Value::Int128(y)) => *x == y,
-        (Tree::Int256(x), Value::Int256(y)) => x == y,
-        (Tree::Uint8(x), Value::Uint8(y)) => *x == y,
-        (Tree::Uint16(x), Value::Uint16(y)) => *x == y,
-        (Tree::Uint32(x), Value::Uint32(y)) => *x == y,
-        (Tree::Uint64(x), Value::Uint64(y)) => *x == y,
-        (Tree::Double(x), Value::Double(y)) => x.to_bits() == y.to_bits(),
-        (Tree::Bytes(x), Value::Bytes(y)) | (Tree::Yson(x), Value::Yson(y)) => x == y,
-        (Tree::Variant { tag, value }, Value::Variant(y)) => *tag == y.tag() && same(value, y.value()),
-        (Tree::RepeatedVariants(x), Value::RepeatedVariants(y)) => {
+        (Tree::Nothing, ValueRef::Nothing) => true,
+        (Tree::Boolean(x), ValueRef::Boolean(y)) => *x == y,
+        (Tree::Int8(x), ValueRef::Int8(y)) => *x == y,
+        (Tree::Int16(x), ValueRef::Int16(y)) => *x == y,
+        (Tree::Int32(x), ValueRef::Int32(y)) => *x == y,
+        (Tree::Int64(x), ValueRef::Int64(y)) => *x == y,
+        (Tree::Int128(x), ValueRef::Int128(y)) => *x == y,
+        (Tree::Int256(x), ValueRef::Int256(y)) => x == y,
+        (Tree::Uint8(x), ValueRef::Uint8(y)) => *x == y,
+        (Tree::Uint16(x), ValueRef::Uint16(y)) => *x == y,
+        (Tree::Uint32(x), ValueRef::Uint32(y)) => *x == y,
+        (Tree::Uint64(x), ValueRef::Uint64(y)) => *x == y,
+        (Tree::Double(x), ValueRef::Double(y)) => x.to_bits() == y.to_bits(),
+        (Tree::Bytes(x), ValueRef::Bytes(y)) | (Tree::Yson(x), ValueRef::Yson(y)) => x == y,
+        (Tree::Variant { tag, value }, ValueRef::Variant(y)) => *tag == y.tag() && same(value, y.value()),
+        (Tree::RepeatedVariants(x), ValueRef::RepeatedVariants(y)) => {
             x.len() == y.len() && x.iter().zip(y).all(|(x, y)| x.tag == y.tag() && same(&x.value, y.value()))
         }
-        (Tree::Tuple(x), Value::Tuple(y)) => x.len() == y.len() && x.iter().zip(y).all(|(x, y)| same(x, y)),
+        (Tree::Tuple(x), ValueRef::Tuple(y)) => {
+            x.len() == y.len() && x.iter().zip(y).all(|(x, y)| same(x, y))
+        }
         _ => false,
     }
 }
@@ -113,10 +113,9 @@ mod tests {
                 let decoded = tables(&case)
                     .next_row(&settings, &case.input, at, &mut records, &mut payload)
                     .expect("good rows");
-                let Decoded::Row(decoded) = decoded else { break };
-                let skiff::Row { table, bytes, .. } = decoded.row;
+                let Some(decoded) = decoded else { break };
+                let skiff::Extent { table, bytes, records: made, payload: kept } = decoded.extent();
                 let (table, row_bytes) = (u64::from(table), bytes as u64);
-                let (made, kept) = (decoded.row.records, decoded.row.payload);
                 let row = plain::reading::Row { table, bytes: row_bytes, records: made, payload: kept };
                 assert_eq!(expected, Ok(plain::reading::Skipped::Row(row)));
                 assert_eq!((&records, &payload), (&plain_records, &plain_payload));

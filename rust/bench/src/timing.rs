@@ -6,7 +6,7 @@ use std::hint::black_box;
 use diff::case::Case;
 use diff::original;
 use oracle::{Decoder, Format as Original};
-use skiff::{sys, Decoded, Format, Settings, Stop};
+use skiff::{sys, Format, Settings, Stop};
 
 use crate::same::Room;
 
@@ -68,7 +68,7 @@ pub fn run_library(case: &Case, rows: u64) -> f64 {
     let format = tables(case);
     nanoseconds(|| {
         let run = black_box(format).run(&Settings::default(), black_box(&case.input));
-        assert_eq!((run.rows, run.bytes, run.stop), (rows, case.input.len(), Stop::End));
+        assert_eq!((run.rows, run.bytes, run.stop), (rows, case.input.len() as u64, Stop::End));
     })
 }
 
@@ -94,8 +94,8 @@ pub fn decode_library(case: &Case, room: Room, rows: u64) -> f64 {
         loop {
             let input = black_box(&case.input);
             let decoded = black_box(&format).next_row(&settings, input, at, &mut records, &mut payload);
-            let Decoded::Row(decoded) = decoded.expect("good rows") else { break };
-            at += black_box(&decoded).row.bytes;
+            let Some(decoded) = decoded.expect("good rows") else { break };
+            at += black_box(&decoded).extent().bytes;
             met += 1;
         }
         assert_eq!((met, at), (rows, case.input.len()));

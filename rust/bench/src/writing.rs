@@ -7,7 +7,7 @@ use diff::generate::writes::draw::{lay_out, Body, Node};
 use diff::generate::writes::schema_of;
 use diff::plan::{fan, table_of};
 use oracle::{Decoder, Encoder as OriginalEncoder, Format as Original, Value as Tree};
-use skiff::{sys, Decoded, Encoder, SchemaBlock, Settings, ValueTable};
+use skiff::{sys, SchemaBlock, Settings, ValueTable};
 
 use crate::same::Room;
 use crate::timing::{nanoseconds, tables};
@@ -31,12 +31,12 @@ impl Standing {
         while let Some((_, tree)) = decoder.next_row().expect("good rows") {
             let settings = Settings::default();
             let decoded = tables(case).next_row(&settings, &case.input, at, &mut records, &mut payload);
-            let Ok(Decoded::Row(decoded)) = decoded else { panic!("a row is a row: {decoded:?}") };
+            let Ok(Some(decoded)) = decoded else { panic!("a row is a row: {decoded:?}") };
             all.records.extend_from_slice(decoded.records());
             all.payload.extend_from_slice(decoded.payload());
             all.ends.push([all.records.len(), all.payload.len()]);
             all.trees.push(tree);
-            at += decoded.row.bytes;
+            at += decoded.extent().bytes;
         }
         all
     }
@@ -78,11 +78,11 @@ pub fn encode_bare(case: &Case, standing: &Standing) -> f64 {
 
 /// The front end's `append` to a `Vec` that has room.
 pub fn encode_library(case: &Case, standing: &Standing) -> f64 {
-    let encoder = Encoder::new(block(case), Settings::default()).expect("a table's schema");
+    let (block, settings) = (block(case), Settings::default());
     let mut output = Vec::with_capacity(case.input.len() + 1024);
     let time = nanoseconds(|| {
         for value in standing.tables() {
-            black_box(&encoder).append(value, &mut output).expect("it was read");
+            black_box(&block).append(&settings, value, &mut output).expect("it was read");
         }
     });
     assert!(output == case.input, "the rows that were read");
@@ -120,10 +120,10 @@ impl Long {
 
     pub fn encode(&mut self) -> f64 {
         let block = block(&self.schema);
-        let encoder = Encoder::new(block, Settings::default()).expect("a table's schema");
+        let settings = Settings::default();
         let value = ValueTable { records: &self.value.records, payload: &self.value.payload };
         nanoseconds(|| {
-            let row = black_box(&encoder).write(value, &mut self.output, 0).expect("it fits");
+            let row = black_box(&block).encode(&settings, value, &mut self.output, 0).expect("it fits");
             assert_eq!(row.bytes, self.output.len());
         })
     }

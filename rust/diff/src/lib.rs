@@ -2,6 +2,10 @@
 //! plain reading and, on its domain, against the original. The format side goes to a program over a
 //! pipe; the reading calls go to the library itself, in this process.
 
+// Its symbols are those that the front end calls.
+#[cfg(feature = "double")]
+extern crate double as _;
+
 pub mod bench;
 pub mod case;
 pub mod compare;

@@ -5,11 +5,13 @@ use std::fmt;
 use crate::WireType;
 
 /// What a stream was cut in.
-#[derive(Debug, Clone, Copy, PartialEq, Eq)]
+#[derive(Debug, Clone, Copy, PartialEq, Eq, Hash)]
 pub enum Context {
     /// A value of a type with a fixed width.
     Fixed(WireType),
+    /// The length of a string32 or yson32.
     BlobLength,
+    /// The bytes of a string32 or yson32.
     BlobPayload,
     /// The tag of a variant8 or of an element of a repeated_variant8.
     Variant8Tag,
@@ -20,6 +22,7 @@ pub enum Context {
 }
 
 impl Context {
+    /// The number that [`Refusal::Truncated`] carries for it, 1 to 17.
     pub const fn number(self) -> u64 {
         match self {
             Self::Fixed(wire_type) => wire_type.code() as u64,
@@ -31,6 +34,7 @@ impl Context {
         }
     }
 
+    /// The context of a number, if it is one.
     pub fn from_number(number: u64) -> Option<Self> {
         Some(match number {
             1..=12 => Self::Fixed(WireType::from_code(number)?),
@@ -58,10 +62,13 @@ impl fmt::Display for Context {
     }
 }
 
-/// A case for each of the library's refusal numbers, 1 to 21, with what it carries. `place` is an
-/// offset in the stream for a row, a record number for a schema, a value record in writing. Some
-/// numbers belong to calls that this crate does not have; the list is one for all calls.
-#[derive(Debug, Clone, Copy, PartialEq, Eq)]
+/// A case for each of the library's refusal numbers, 1 to 21, with what it carries. The place is an
+/// offset in the stream for a row, a record number for a schema, a value record in writing.
+///
+/// A number that is none of them, as a later library may have, is [`Refusal::Unknown`]: nothing that the
+/// library says is lost on the way here.
+#[derive(Debug, Clone, Copy, PartialEq, Eq, Hash)]
+#[non_exhaustive]
 pub enum Refusal {
     /// A setting, a slice's length or a position is outside its bounds.
     Setting,
@@ -69,42 +76,149 @@ pub enum Refusal {
     BadSchemaTable,
     /// A schema has more than 64 levels.
     TooDeep,
-    /// A type that has no children has some, in the schema record at `place`.
-    UnexpectedChildren { wire_type: WireType, count: u64, place: u64 },
-    /// The schema record at `place` has more children than its type's tags can choose.
-    TooManyChildren { wire_type: WireType, count: u64, maximum: u64, place: u64 },
+    /// A type that has no children has some.
+    UnexpectedChildren {
+        /// The type that has no children.
+        wire_type: WireType,
+        /// How many children it has.
+        count: u64,
+        /// The schema record.
+        place: u64,
+    },
+    /// A schema record has more children than its type's tags can choose.
+    TooManyChildren {
+        /// The type.
+        wire_type: WireType,
+        /// How many children it has.
+        count: u64,
+        /// How many it may have.
+        maximum: u64,
+        /// The schema record.
+        place: u64,
+    },
     /// The format has no tables.
     EmptyTableSchemas,
     /// A table names a schema that is not in the registry.
-    UnknownRegistryReference { table: u64, place: u64 },
-    /// A table's root, the schema record at `place`, is no tuple.
-    TableSchemaRootMustBeTuple { found: WireType, place: u64 },
+    UnknownRegistryReference {
+        /// The table, from 0.
+        table: u64,
+        /// The table.
+        place: u64,
+    },
+    /// A table's root is no tuple.
+    TableSchemaRootMustBeTuple {
+        /// The root's type.
+        found: WireType,
+        /// The schema record.
+        place: u64,
+    },
     /// The same of what is written by.
-    TableSchemaMustBeTuple { found: WireType, place: u64 },
-    /// A table's column, the schema record at `place`, has no name.
-    TableSchemaChildMissingName { index: u64, place: u64 },
-    /// The row at `place` is of a table that the format does not have.
-    MissingTableSchema { index: u64, place: u64 },
-    /// The stream ends inside what begins at `place`.
-    Truncated { context: Context, place: u64 },
-    /// The row costs more than its limit when the node at `place` is charged.
-    RowTooLarge { limit: u64, place: u64 },
-    /// The blob whose length stands at `place`, or that is the value record there, is over the limit.
-    BlobTooLarge { wire_type: WireType, length: u64, limit: u64, place: u64 },
-    /// The value record at `place` is of a kind that can't be written as the schema's type.
-    ValueDoesNotMatchSchema { wire_type: WireType, kind: u64, place: u64 },
-    /// The tuple at value record `place` has more or fewer values than the schema's has children.
-    TupleLength { expected: u64, actual: u64, place: u64 },
-    /// The tag at `place`, or of the value record there, chooses none of the schema's children.
-    InvalidVariantTag { wire_type: WireType, tag: u64, children: u64, place: u64 },
+    TableSchemaMustBeTuple {
+        /// The root's type.
+        found: WireType,
+        /// The schema record.
+        place: u64,
+    },
+    /// A table's column has no name.
+    TableSchemaChildMissingName {
+        /// Which column, from 0.
+        index: u64,
+        /// The schema record.
+        place: u64,
+    },
+    /// A row is of a table that the format does not have.
+    MissingTableSchema {
+        /// The table that the row names.
+        index: u64,
+        /// The offset of the row.
+        place: u64,
+    },
+    /// The stream ends inside a row.
+    Truncated {
+        /// What was cut.
+        context: Context,
+        /// The offset of the cut field.
+        place: u64,
+    },
+    /// The row costs more than its limit when a node of it is charged.
+    RowTooLarge {
+        /// The most that a row may cost.
+        limit: u64,
+        /// The offset where the node would start.
+        place: u64,
+    },
+    /// A blob is over the limit.
+    BlobTooLarge {
+        /// string32 or yson32.
+        wire_type: WireType,
+        /// Its bytes.
+        length: u64,
+        /// The most bytes that it may have.
+        limit: u64,
+        /// The offset of the length, or the value record.
+        place: u64,
+    },
+    /// A value is of a kind that can't be written as the schema's type.
+    ValueDoesNotMatchSchema {
+        /// The schema's type.
+        wire_type: WireType,
+        /// The value's kind, 0 to 17.
+        kind: u64,
+        /// The value record.
+        place: u64,
+    },
+    /// A tuple has more or fewer values than the schema's has children.
+    TupleLength {
+        /// The children of the schema.
+        expected: u64,
+        /// The values of the tuple.
+        actual: u64,
+        /// The value record.
+        place: u64,
+    },
+    /// A tag chooses none of the schema's children.
+    InvalidVariantTag {
+        /// The schema's type.
+        wire_type: WireType,
+        /// The tag.
+        tag: u64,
+        /// The children of the schema.
+        children: u64,
+        /// The offset of the tag, or the value record that bears it.
+        place: u64,
+    },
     /// The value table is not in form.
     BadValueTable,
-    /// The row at `place` has more value records than the slice lent for them holds.
-    NoNodeRoom { needed: u64, place: u64 },
-    /// The row at `place` has more payload bytes than the slice lent for them.
-    NoPayloadRoom { needed: u64, place: u64 },
-    /// The output has fewer bytes from position `place` on than the row.
-    NoOutputRoom { needed: u64, place: u64 },
+    /// The row has more value records than the slice lent for them holds.
+    NoNodeRoom {
+        /// The records of the whole row.
+        needed: u64,
+        /// The offset of the row.
+        place: u64,
+    },
+    /// The row has more payload bytes than the slice lent for them.
+    NoPayloadRoom {
+        /// The payload bytes of the whole row.
+        needed: u64,
+        /// The offset of the row.
+        place: u64,
+    },
+    /// The output has fewer bytes from the position on than the row.
+    NoOutputRoom {
+        /// The row's bytes.
+        needed: u64,
+        /// The output position.
+        place: u64,
+    },
+    /// A number that this crate does not know, or not with these values.
+    Unknown {
+        /// The number.
+        number: u64,
+        /// Its place.
+        place: u64,
+        /// What it carries.
+        carried: [u64; 3],
+    },
 }
 
 /// The words of the refusals 1 to 21: the name, and what each carried value is. include/check-refusals
@@ -134,33 +248,51 @@ const WORDS: [(&str, &[&str]); 21] = [
 ];
 
 impl Refusal {
-    /// The refusal of a number with its place and carried values; none where there is no such one.
-    pub fn from_numbers(number: u64, place: u64, carried: [u64; 3]) -> Option<Self> {
+    /// The refusal of a number with its place and carried values.
+    ///
+    /// ```
+    /// use skiff::Refusal;
+    ///
+    /// assert_eq!(Refusal::from_numbers(13, 4, [193, 0, 0]), Refusal::RowTooLarge { limit: 193, place: 4 });
+    /// let later = Refusal::from_numbers(99, 4, [1, 2, 3]);
+    /// assert_eq!((later.number(), later.place(), later.carried()), (99, 4, [1, 2, 3]));
+    /// ```
+    // Away from the calls, so that these are small enough to be compiled into their callers.
+    #[cold]
+    pub fn from_numbers(number: u64, place: u64, carried: [u64; 3]) -> Self {
         let [x, y, z] = carried;
         let wire_type = WireType::from_code(x);
-        Some(match number {
-            1 => Self::Setting,
-            2 => Self::BadSchemaTable,
-            3 => Self::TooDeep,
-            4 => Self::UnexpectedChildren { wire_type: wire_type?, count: y, place },
-            5 => Self::TooManyChildren { wire_type: wire_type?, count: y, maximum: z, place },
-            6 => Self::EmptyTableSchemas,
-            7 => Self::UnknownRegistryReference { table: x, place },
-            8 => Self::TableSchemaRootMustBeTuple { found: wire_type?, place },
-            9 => Self::TableSchemaMustBeTuple { found: wire_type?, place },
-            10 => Self::TableSchemaChildMissingName { index: x, place },
-            11 => Self::MissingTableSchema { index: x, place },
-            12 => Self::Truncated { context: Context::from_number(x)?, place },
-            13 => Self::RowTooLarge { limit: x, place },
-            14 => Self::BlobTooLarge { wire_type: wire_type?, length: y, limit: z, place },
-            15 => Self::ValueDoesNotMatchSchema { wire_type: wire_type?, kind: y, place },
-            16 => Self::TupleLength { expected: x, actual: y, place },
-            17 => Self::InvalidVariantTag { wire_type: wire_type?, tag: y, children: z, place },
-            18 => Self::BadValueTable,
-            19 => Self::NoNodeRoom { needed: x, place },
-            20 => Self::NoPayloadRoom { needed: x, place },
-            21 => Self::NoOutputRoom { needed: x, place },
-            _ => return None,
+        let known = || {
+            Some(match number {
+                1 => Self::Setting,
+                2 => Self::BadSchemaTable,
+                3 => Self::TooDeep,
+                4 => Self::UnexpectedChildren { wire_type: wire_type?, count: y, place },
+                5 => Self::TooManyChildren { wire_type: wire_type?, count: y, maximum: z, place },
+                6 => Self::EmptyTableSchemas,
+                7 => Self::UnknownRegistryReference { table: x, place },
+                8 => Self::TableSchemaRootMustBeTuple { found: wire_type?, place },
+                9 => Self::TableSchemaMustBeTuple { found: wire_type?, place },
+                10 => Self::TableSchemaChildMissingName { index: x, place },
+                11 => Self::MissingTableSchema { index: x, place },
+                12 => Self::Truncated { context: Context::from_number(x)?, place },
+                13 => Self::RowTooLarge { limit: x, place },
+                14 => Self::BlobTooLarge { wire_type: wire_type?, length: y, limit: z, place },
+                15 => Self::ValueDoesNotMatchSchema { wire_type: wire_type?, kind: y, place },
+                16 => Self::TupleLength { expected: x, actual: y, place },
+                17 => Self::InvalidVariantTag { wire_type: wire_type?, tag: y, children: z, place },
+                18 => Self::BadValueTable,
+                19 => Self::NoNodeRoom { needed: x, place },
+                20 => Self::NoPayloadRoom { needed: x, place },
+                21 => Self::NoOutputRoom { needed: x, place },
+                _ => return None,
+            })
+        };
+        // A case that can't hold all that was said does not stand for it.
+        known().filter(|refusal| refusal.numbers() == (number, place, carried)).unwrap_or(Self::Unknown {
+            number,
+            place,
+            carried,
         })
     }
 
@@ -197,15 +329,22 @@ impl Refusal {
             Self::NoNodeRoom { needed, place } => (19, place, [needed, 0, 0]),
             Self::NoPayloadRoom { needed, place } => (20, place, [needed, 0, 0]),
             Self::NoOutputRoom { needed, place } => (21, place, [needed, 0, 0]),
+            Self::Unknown { number, place, carried } => (number, place, carried),
         }
     }
 
-    /// 1 to 21.
+    /// 1 to 21, or that of an unknown one.
     pub fn number(&self) -> u64 {
         self.numbers().0
     }
 
-    /// The name that document 01 has for the number.
+    /// The values that it carries, in the order of the rules, and zeros after them; a type by its wire code,
+    /// a context by its number.
+    pub fn carried(&self) -> [u64; 3] {
+        self.numbers().2
+    }
+
+    /// The name that the rules have for the number.
     pub fn name(&self) -> &'static str {
         self.words().0
     }
@@ -216,7 +355,26 @@ impl Refusal {
     }
 
     fn words(&self) -> (&'static str, &'static [&'static str]) {
-        WORDS[self.number() as usize - 1]
+        match *self {
+            Self::Unknown { .. } => ("Unknown", &["first", "second", "third"]),
+            _ => WORDS[self.number() as usize - 1],
+        }
+    }
+
+    /// The same of a stream whose window begins so many bytes on: a place in reading is then that much later,
+    /// where it is an offset.
+    pub(crate) fn moved(self, by: u64) -> Self {
+        let (number, place, carried) = self.numbers();
+        if self.is_at_an_offset() {
+            Self::from_numbers(number, place + by, carried)
+        } else {
+            self
+        }
+    }
+
+    /// Whether its place, in reading, is an offset in the stream.
+    pub(crate) fn is_at_an_offset(&self) -> bool {
+        matches!(self.number(), 11..=14 | 17 | 19 | 20)
     }
 }
 
@@ -245,33 +403,57 @@ impl std::error::Error for Refusal {}
 mod tests {
     use super::*;
 
+    /// Wire code 3 is also a context. A refusal that carries less has zeros, and one without a place 0.
+    fn sample(number: u64) -> Refusal {
+        let carries = WORDS[number as usize - 1].1.len();
+        let carried = std::array::from_fn(|index| if index < carries { [3, 80, 90][index] } else { 0 });
+        Refusal::from_numbers(number, if [1, 2, 3, 6, 18].contains(&number) { 0 } else { 70 }, carried)
+    }
+
     #[test]
     fn numbers_and_refusals_are_one() {
         let mut messages = std::collections::BTreeSet::new();
         for number in 1..=21 {
-            // Wire code 3 is also a context; places and values that a refusal lacks come back as 0.
-            let refusal = Refusal::from_numbers(number, 70, [3, 80, 90]).expect("there is such a number");
-            assert_eq!(refusal.number(), number);
+            let refusal = sample(number);
+            assert_eq!((refusal.number(), refusal.name()), (number, WORDS[number as usize - 1].0));
+            assert!(!matches!(refusal, Refusal::Unknown { .. }));
             let (_, place, carried) = refusal.numbers();
-            assert_eq!(Refusal::from_numbers(number, place, carried), Some(refusal));
-            assert_eq!(place, if [1, 2, 3, 6, 18].contains(&number) { 0 } else { 70 });
+            assert_eq!((refusal.place(), refusal.carried()), (place, carried));
+            assert_eq!(Refusal::from_numbers(number, place, carried), refusal);
             assert!(messages.insert(refusal.to_string()));
             assert!(format!("{refusal:?}").starts_with(refusal.name()));
         }
-        for number in [0, 22, 255, 1 << 32, u64::MAX] {
-            assert_eq!(Refusal::from_numbers(number, 0, [0; 3]), None);
+    }
+
+    #[test]
+    fn an_unknown_number_is_a_value() {
+        let all = [(0, 0, [0; 3]), (22, 1, [2, 3, 4]), (u64::MAX, u64::MAX, [u64::MAX; 3])];
+        // Known numbers with a type or a context that is none, or with more than they carry.
+        let more =
+            [(4, 0, [20, 0, 0]), (12, 0, [0, 0, 0]), (12, 0, [18, 0, 0]), (1, 5, [0; 3]), (13, 0, [1, 1, 0])];
+        for (number, place, carried) in all.into_iter().chain(more) {
+            let refusal = Refusal::from_numbers(number, place, carried);
+            assert_eq!(refusal, Refusal::Unknown { number, place, carried });
+            assert_eq!(refusal.numbers(), (number, place, carried));
         }
-        assert_eq!(Refusal::from_numbers(4, 0, [20, 0, 0]), None);
-        assert_eq!(Refusal::from_numbers(12, 0, [0, 0, 0]), None);
-        assert_eq!(Refusal::from_numbers(12, 0, [18, 0, 0]), None);
+        let words = Refusal::from_numbers(22, 1, [2, 3, 4]).to_string();
+        assert_eq!(words, "refused 22 Unknown (first 2, second 3, third 4) at 1");
+    }
+
+    #[test]
+    fn a_window_moves_offsets_alone() {
+        for number in 1..=21 {
+            let offset = [11, 12, 13, 14, 17, 19, 20].contains(&number);
+            let moved = sample(number).moved(1000);
+            assert_eq!(moved.place(), sample(number).place() + if offset { 1000 } else { 0 });
+            assert_eq!(moved.carried(), sample(number).carried());
+        }
     }
 
     #[test]
     fn words_are_those_of_the_delivery_program() {
-        let words = |number, carried| {
-            Refusal::from_numbers(number, 7, carried).expect("there is such a number").to_string()
-        };
-        assert_eq!(words(1, [0; 3]), "refused 1 Setting at 0");
+        let words = |number, carried| Refusal::from_numbers(number, 7, carried).to_string();
+        assert_eq!(Refusal::Setting.to_string(), "refused 1 Setting at 0");
         assert_eq!(
             words(5, [15, 257, 256]),
             "refused 5 TooManyChildren (type 15 variant8, count 257, maximum 256) at 7"

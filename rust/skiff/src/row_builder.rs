@@ -4,33 +4,52 @@ use std::fmt;
 
 use crate::sys::VALUE_RECORD_BYTES;
 use crate::value::{REPEATED, TUPLE, VARIANT};
-use crate::ValueTable;
+use crate::{Value, ValueTable};
 
 /// A value table is at most so deep, the root counting as 1.
 const MOST_LEVELS: usize = 64;
 
 /// What a builder was asked for that no value table can be. `record` is the value record that it was about.
-#[derive(Debug, Clone, Copy, PartialEq, Eq)]
+#[derive(Debug, Clone, Copy, PartialEq, Eq, Hash)]
+#[non_exhaustive]
 pub enum Misuse {
     /// A variant or an element was left without a value.
-    NoValue { record: usize },
-    /// A variant was given a second value.
-    SecondValue { record: usize },
+    NoValue {
+        /// The variant's or the element's.
+        record: usize,
+    },
+    /// A variant, or a whole row, was given a second value.
+    SecondValue {
+        /// The second value's.
+        record: usize,
+    },
     /// A value was put into a list without `item`, or a second one into an element.
-    NoTag { record: usize },
+    NoTag {
+        /// The value's.
+        record: usize,
+    },
     /// `item` was asked for outside of a list.
-    NotInAList { record: usize },
+    NotInAList {
+        /// The element's.
+        record: usize,
+    },
     /// A value is more than 64 levels deep.
-    TooDeep { record: usize },
+    TooDeep {
+        /// The value's.
+        record: usize,
+    },
     /// Records or payload are over 4,294,967,295 bytes.
-    TooLong { record: usize },
+    TooLong {
+        /// The first that has no room.
+        record: usize,
+    },
 }
 
 impl fmt::Display for Misuse {
     fn fmt(&self, out: &mut fmt::Formatter<'_>) -> fmt::Result {
         let (record, words) = match self {
             Self::NoValue { record } => (record, "a variant or an element has no value"),
-            Self::SecondValue { record } => (record, "a variant has a second value"),
+            Self::SecondValue { record } => (record, "a variant or a row has a second value"),
             Self::NoTag { record } => (record, "a value of a list has no tag"),
             Self::NotInAList { record } => (record, "an element stands in no list"),
             Self::TooDeep { record } => (record, "a value is more than 64 levels deep"),
@@ -92,13 +111,24 @@ impl RowBuilder {
     }
 
     /// Begins again, with the memory that there is.
-    pub fn clear(&mut self) {
+    pub fn clear(&mut self) -> &mut Self {
+        self.empty();
+        self.write_record(TUPLE, 0, 0, 0);
+        self.open.push(Open { record: 0, kind: TUPLE, children: 0, tag: None });
+        self
+    }
+
+    /// Begins again with a whole value, whatever its root is; nothing can be put after it.
+    pub fn set(&mut self, value: &Value) -> &mut Self {
+        self.empty();
+        self.value(value)
+    }
+
+    fn empty(&mut self) {
         self.records.clear();
         self.payload.clear();
         self.open.clear();
         self.misuse = None;
-        self.write_record(TUPLE, 0, 0, 0);
-        self.open.push(Open { record: 0, kind: TUPLE, children: 0, tag: None });
     }
 
     /// The row's table; more columns may be put after it was looked at.
@@ -106,7 +136,9 @@ impl RowBuilder {
         if let Some(misuse) = self.misuse {
             return Err(misuse);
         }
-        self.set_count(0);
+        if !self.open.is_empty() {
+            self.set_count(0);
+        }
         Ok(ValueTable { records: &self.records, payload: &self.payload })
     }
 
@@ -219,7 +251,9 @@ impl RowBuilder {
     fn take_tag(&mut self) -> Result<u16, Misuse> {
         let record = self.next_record();
         let levels = self.open.len();
-        let parent = self.open.last_mut().expect("the root stays open");
+        let Some(parent) = self.open.last_mut() else {
+            return if record == 0 { Ok(0) } else { Err(Misuse::SecondValue { record }) };
+        };
         let tag = match (parent.kind, parent.tag.take()) {
             (TUPLE, _) => 0,
             (_, Some(tag)) => tag,
@@ -277,6 +311,7 @@ impl RowBuilder {
 
 /// What is one value of a row by its Rust type.
 pub trait ToValue {
+    /// Puts it.
     fn put(self, row: &mut RowBuilder);
 }
 

@@ -1,11 +1,19 @@
-//! What a reading call may spend on a row.
-
-use crate::Refusal;
+//! What a call may spend on a row.
 
 /// Bounds on one row, so that a few bytes of a hostile stream can't stand for a row that no reader
 /// could hold. The node charge stands for what one value costs beside its bytes: a list of a million
 /// one-byte values is a megabyte on the wire and far more in memory.
-#[derive(Debug, Clone, Copy, PartialEq, Eq)]
+///
+/// Nothing is checked here: a call whose settings are out of bounds answers [`crate::Refusal::Setting`].
+///
+/// ```
+/// use skiff::Settings;
+///
+/// let settings = Settings::default().with_max_blob_bytes(1 << 20).with_max_row_bytes(1 << 24);
+/// assert_eq!(settings.max_blob_bytes(), 1 << 20);
+/// assert_eq!(settings.node_charge(), Settings::DEFAULT_NODE_CHARGE);
+/// ```
+#[derive(Debug, Clone, Copy, PartialEq, Eq, Hash)]
 pub struct Settings {
     node_charge: u64,
     max_blob_bytes: u64,
@@ -13,24 +21,42 @@ pub struct Settings {
 }
 
 impl Settings {
+    /// The node charge where none is given.
     pub const DEFAULT_NODE_CHARGE: u64 = 48;
+    /// The limit of a blob where none is given: 128 MiB.
     pub const DEFAULT_MAX_BLOB_BYTES: u64 = 134_217_728;
+    /// The limit of a row where none is given: 256 MiB.
     pub const DEFAULT_MAX_ROW_BYTES: u64 = 268_435_456;
     /// The node charge is 1 to this.
     pub const MOST_NODE_CHARGE: u64 = 4_096;
-    /// Each limit is at most this.
+    /// Each limit is at most this, and so is the length of each slice that is read.
     pub const MOST_BYTES: u64 = 4_294_967_295;
 
-    /// Refuses what every call would refuse, at the place where it was written down.
-    pub fn new(node_charge: u64, max_blob_bytes: u64, max_row_bytes: u64) -> Result<Self, Refusal> {
-        let good = (1..=Self::MOST_NODE_CHARGE).contains(&node_charge)
-            && max_blob_bytes <= Self::MOST_BYTES
-            && max_row_bytes <= Self::MOST_BYTES;
-        if good {
-            Ok(Self { node_charge, max_blob_bytes, max_row_bytes })
-        } else {
-            Err(Refusal::Setting)
+    /// The defaults.
+    pub const fn new() -> Self {
+        Self {
+            node_charge: Self::DEFAULT_NODE_CHARGE,
+            max_blob_bytes: Self::DEFAULT_MAX_BLOB_BYTES,
+            max_row_bytes: Self::DEFAULT_MAX_ROW_BYTES,
         }
+    }
+
+    /// Another node charge: 1 to [`Settings::MOST_NODE_CHARGE`].
+    #[must_use]
+    pub const fn with_node_charge(self, node_charge: u64) -> Self {
+        Self { node_charge, ..self }
+    }
+
+    /// Another limit of a blob: at most [`Settings::MOST_BYTES`].
+    #[must_use]
+    pub const fn with_max_blob_bytes(self, max_blob_bytes: u64) -> Self {
+        Self { max_blob_bytes, ..self }
+    }
+
+    /// Another limit of a row: at most [`Settings::MOST_BYTES`].
+    #[must_use]
+    pub const fn with_max_row_bytes(self, max_row_bytes: u64) -> Self {
+        Self { max_row_bytes, ..self }
     }
 
     /// What each value of a row costs.
@@ -51,10 +77,6 @@ impl Settings {
 
 impl Default for Settings {
     fn default() -> Self {
-        Self {
-            node_charge: Self::DEFAULT_NODE_CHARGE,
-            max_blob_bytes: Self::DEFAULT_MAX_BLOB_BYTES,
-            max_row_bytes: Self::DEFAULT_MAX_ROW_BYTES,
-        }
+        Self::new()
     }
 }

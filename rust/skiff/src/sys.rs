@@ -1,15 +1,10 @@
 //! The library's C functions, as include/skiff.h has them, behind signatures that can't be misused.
 //!
-//! Nothing checks the declarations below against the library's source; row-diff runs each of them on
-//! millions of inputs for that reason among others. Their contracts ask nothing of a caller but that
-//! each pointer leads to as many bytes as its length says, which a slice guarantees.
+//! include/check-refusals compares the declarations below with the library's source, and the differential
+//! runs put millions of inputs to each. Their contracts ask nothing of a caller but that each pointer leads
+//! to as many bytes as its length says, which a slice guarantees.
 
-use crate::{Format, Settings};
-#[cfg(feature = "encode")]
-use crate::{SchemaBlock, ValueTable};
-
-#[cfg(feature = "double")]
-extern crate double as _;
+use crate::{Format, SchemaBlock, Settings, ValueTable};
 
 /// A shorter answer slice is left as it is, and so are all others; the call returns 1.
 pub const ANSWER_SIZE: usize = 88;
@@ -61,7 +56,6 @@ reading_calls! {
     "skiff1_run_window" fn skiff_run_window(rows: u64, bytes: u64);
 }
 
-#[cfg(feature = "encode")]
 extern "C" {
     #[link_name = "skiff1_encode"]
     fn skiff_encode(
@@ -93,154 +87,6 @@ extern "C" {
         answer: *mut u8,
         answer_len: usize,
     ) -> u32;
-}
-
-/// The three settings as numbers, unchecked: the library checks them.
-#[derive(Debug, Clone, Copy, PartialEq, Eq)]
-pub struct Numbers {
-    pub node_charge: u64,
-    pub max_blob_bytes: u64,
-    pub max_row_bytes: u64,
-}
-
-impl From<&Settings> for Numbers {
-    #[inline]
-    fn from(settings: &Settings) -> Self {
-        Self {
-            node_charge: settings.node_charge(),
-            max_blob_bytes: settings.max_blob_bytes(),
-            max_row_bytes: settings.max_row_bytes(),
-        }
-    }
-}
-
-/// The call of a C function, with each slice as pointer and length.
-macro_rules! lend {
-    (
-        $function:ident, $numbers:ident, $format:ident, $input:ident;
-        $($number:ident),*; $($written:ident),+
-    ) => {
-        $function(
-            $numbers.node_charge,
-            $numbers.max_blob_bytes,
-            $numbers.max_row_bytes,
-            $format.records.as_ptr(),
-            $format.records.len(),
-            $format.names.as_ptr(),
-            $format.names.len(),
-            $format.references.as_ptr(),
-            $format.references.len(),
-            $format.registry.as_ptr(),
-            $format.registry.len(),
-            $input.as_ptr(),
-            $input.len(),
-            $($number,)*
-            $($written.as_mut_ptr(), $written.len(),)+
-        )
-    };
-}
-
-/// `skiff_skip`: the refusal's number, 0 where there is none.
-#[inline]
-pub fn skip(numbers: Numbers, format: &Format, input: &[u8], position: u64, answer: &mut [u8]) -> u32 {
-    // SAFETY: each pointer and length are those of a slice that is borrowed for the call, and the
-    // answer slice, the only one that is written, is borrowed by nobody else.
-    unsafe { lend!(skiff_skip, numbers, format, input; position; answer) }
-}
-
-/// `skiff_decode`: the refusal's number, 0 where there is none.
-#[inline]
-pub fn decode(
-    numbers: Numbers,
-    format: &Format,
-    input: &[u8],
-    position: u64,
-    records: &mut [u8],
-    payload: &mut [u8],
-    answer: &mut [u8],
-) -> u32 {
-    // SAFETY: as in `skip`; the three slices that are written are each borrowed by nobody else, so none
-    // of them overlaps another.
-    unsafe { lend!(skiff_decode, numbers, format, input; position; records, payload, answer) }
-}
-
-/// `skiff_run`: the refusal's number, 0 where the run came to the end.
-#[inline]
-pub fn run(numbers: Numbers, format: &Format, input: &[u8], answer: &mut [u8]) -> u32 {
-    // SAFETY: as in `skip`.
-    unsafe { lend!(skiff_run, numbers, format, input;; answer) }
-}
-
-/// `skiff_run_window`: the refusal's number, 0 where the run came to the window's end.
-#[inline]
-pub fn run_window(
-    numbers: Numbers,
-    format: &Format,
-    window: &[u8],
-    rows: u64,
-    bytes: u64,
-    answer: &mut [u8],
-) -> u32 {
-    // SAFETY: as in `skip`.
-    unsafe { lend!(skiff_run_window, numbers, format, window; rows, bytes; answer) }
-}
-
-/// `skiff_encode`: the refusal's number, 0 where the row was written.
-#[cfg(feature = "encode")]
-#[inline]
-pub fn encode(
-    numbers: Numbers,
-    block: &SchemaBlock,
-    value: &ValueTable,
-    output: &mut [u8],
-    position: u64,
-    answer: &mut [u8],
-) -> u32 {
-    // SAFETY: each pointer and length are those of a slice that is borrowed for the call; the two that are
-    // written are each borrowed by nobody else.
-    unsafe {
-        skiff_encode(
-            numbers.node_charge,
-            numbers.max_blob_bytes,
-            numbers.max_row_bytes,
-            block.records.as_ptr(),
-            block.records.len(),
-            block.names.as_ptr(),
-            block.names.len(),
-            block.first,
-            block.count,
-            value.records.as_ptr(),
-            value.records.len(),
-            value.payload.as_ptr(),
-            value.payload.len(),
-            output.as_mut_ptr(),
-            output.len(),
-            position,
-            answer.as_mut_ptr(),
-            answer.len(),
-        )
-    }
-}
-
-/// `skiff_check_value_table`: the refusal's number, 0 where it is a table.
-#[cfg(feature = "encode")]
-#[inline]
-pub fn check_value_table(value: &ValueTable, answer: &mut [u8]) -> u32 {
-    // SAFETY: as in `encode`; only the answer slice is written.
-    unsafe {
-        skiff_check_value_table(
-            value.records.as_ptr(),
-            value.records.len(),
-            value.payload.as_ptr(),
-            value.payload.len(),
-            answer.as_mut_ptr(),
-            answer.len(),
-        )
-    }
-}
-
-// The checks, and the value of one record.
-extern "C" {
     #[link_name = "skiff1_check_format"]
     fn skiff_check_format(
         records: *const u8,
@@ -277,24 +123,136 @@ extern "C" {
     ) -> u32;
 }
 
+/// The three settings as numbers, unchecked: the library checks them.
+#[derive(Debug, Clone, Copy, PartialEq, Eq)]
+pub struct Numbers {
+    /// What each value of a row costs.
+    pub node_charge: u64,
+    /// How long a blob may be.
+    pub max_blob_bytes: u64,
+    /// How much a row may cost.
+    pub max_row_bytes: u64,
+}
+
+impl From<&Settings> for Numbers {
+    #[inline]
+    fn from(settings: &Settings) -> Self {
+        Self {
+            node_charge: settings.node_charge(),
+            max_blob_bytes: settings.max_blob_bytes(),
+            max_row_bytes: settings.max_row_bytes(),
+        }
+    }
+}
+
+/// The call of a C function: each slice, read or written, as pointer and length.
+macro_rules! lend {
+    ($function:ident: $($arguments:tt)*) => { lend!(@ $function [] $($arguments)*) };
+    (@ $function:ident [$($done:expr,)*]) => { $function($($done),*) };
+    (@ $function:ident [$($done:expr,)*] number $number:expr; $($rest:tt)*) => {
+        lend!(@ $function [$($done,)* $number,] $($rest)*)
+    };
+    (@ $function:ident [$($done:expr,)*] read $slice:expr; $($rest:tt)*) => {
+        lend!(@ $function [$($done,)* $slice.as_ptr(), $slice.len(),] $($rest)*)
+    };
+    (@ $function:ident [$($done:expr,)*] written $slice:expr; $($rest:tt)*) => {
+        lend!(@ $function [$($done,)* $slice.as_mut_ptr(), $slice.len(),] $($rest)*)
+    };
+    (@ $function:ident [$($done:expr,)*] settings $numbers:expr; $($rest:tt)*) => {
+        lend!(@ $function [
+            $($done,)* $numbers.node_charge, $numbers.max_blob_bytes, $numbers.max_row_bytes,
+        ] $($rest)*)
+    };
+    (@ $function:ident [$($done:expr,)*] format $format:expr; $($rest:tt)*) => {
+        lend!(@ $function [$($done,)*]
+            read $format.records; read $format.names; read $format.references; read $format.registry;
+            $($rest)*)
+    };
+}
+
+/// `skiff_skip`: the refusal's number, 0 where there is none.
+#[inline]
+pub fn skip(numbers: Numbers, format: &Format, input: &[u8], position: u64, answer: &mut [u8]) -> u32 {
+    // SAFETY: each pointer and length are those of a slice that is borrowed for the call, and the
+    // answer slice, the only one that is written, is borrowed by nobody else.
+    unsafe {
+        lend!(skiff_skip: settings numbers; format format; read input; number position; written answer;)
+    }
+}
+
+/// `skiff_decode`: the refusal's number, 0 where there is none.
+#[inline]
+pub fn decode(
+    numbers: Numbers,
+    format: &Format,
+    input: &[u8],
+    position: u64,
+    records: &mut [u8],
+    payload: &mut [u8],
+    answer: &mut [u8],
+) -> u32 {
+    // SAFETY: as in `skip`; the three slices that are written are each borrowed by nobody else, so none
+    // of them overlaps another.
+    unsafe {
+        lend!(skiff_decode: settings numbers; format format; read input; number position;
+            written records; written payload; written answer;)
+    }
+}
+
+/// `skiff_run`: the refusal's number, 0 where the run came to the end.
+#[inline]
+pub fn run(numbers: Numbers, format: &Format, input: &[u8], answer: &mut [u8]) -> u32 {
+    // SAFETY: as in `skip`.
+    unsafe { lend!(skiff_run: settings numbers; format format; read input; written answer;) }
+}
+
+/// `skiff_run_window`: the refusal's number, 0 where the run came to the window's end.
+#[inline]
+pub fn run_window(
+    numbers: Numbers,
+    format: &Format,
+    window: &[u8],
+    rows: u64,
+    bytes: u64,
+    answer: &mut [u8],
+) -> u32 {
+    // SAFETY: as in `skip`.
+    unsafe {
+        lend!(skiff_run_window: settings numbers; format format; read window; number rows; number bytes;
+            written answer;)
+    }
+}
+
+/// `skiff_encode`: the refusal's number, 0 where the row was written.
+#[inline]
+pub fn encode(
+    numbers: Numbers,
+    block: &SchemaBlock,
+    value: &ValueTable,
+    output: &mut [u8],
+    position: u64,
+    answer: &mut [u8],
+) -> u32 {
+    // SAFETY: as in `decode`: output and answer are written.
+    unsafe {
+        lend!(skiff_encode: settings numbers; read block.records; read block.names;
+            number block.first; number block.count; read value.records; read value.payload;
+            written output; number position; written answer;)
+    }
+}
+
+/// `skiff_check_value_table`: the refusal's number, 0 where it is a table.
+#[inline]
+pub fn check_value_table(value: &ValueTable, answer: &mut [u8]) -> u32 {
+    // SAFETY: as in `skip`.
+    unsafe { lend!(skiff_check_value_table: read value.records; read value.payload; written answer;) }
+}
+
 /// `skiff_check_format`: the refusal's number, 0 where it is a format.
 #[inline]
 pub fn check_format(format: &Format, answer: &mut [u8]) -> u32 {
     // SAFETY: as in `skip`.
-    unsafe {
-        skiff_check_format(
-            format.records.as_ptr(),
-            format.records.len(),
-            format.names.as_ptr(),
-            format.names.len(),
-            format.references.as_ptr(),
-            format.references.len(),
-            format.registry.as_ptr(),
-            format.registry.len(),
-            answer.as_mut_ptr(),
-            answer.len(),
-        )
-    }
+    unsafe { lend!(skiff_check_format: format format; written answer;) }
 }
 
 /// `skiff_check_encoder_schema`: the refusal's number, 0 where an encoder may write by the block.
@@ -302,16 +260,8 @@ pub fn check_format(format: &Format, answer: &mut [u8]) -> u32 {
 pub fn check_encoder_schema(records: &[u8], names: &[u8], first: u64, count: u64, answer: &mut [u8]) -> u32 {
     // SAFETY: as in `skip`.
     unsafe {
-        skiff_check_encoder_schema(
-            records.as_ptr(),
-            records.len(),
-            names.as_ptr(),
-            names.len(),
-            first,
-            count,
-            answer.as_mut_ptr(),
-            answer.len(),
-        )
+        lend!(skiff_check_encoder_schema: read records; read names; number first; number count;
+            written answer;)
     }
 }
 
@@ -319,12 +269,12 @@ pub fn check_encoder_schema(records: &[u8], names: &[u8], first: u64, count: u64
 #[inline]
 pub fn parse(name: &[u8], answer: &mut [u8]) -> u32 {
     // SAFETY: as in `skip`.
-    unsafe { skiff_parse(name.as_ptr(), name.len(), answer.as_mut_ptr(), answer.len()) }
+    unsafe { lend!(skiff_parse: read name; written answer;) }
 }
 
 /// `skiff_value`: the refusal's number, 0 where the record's value is in the answer.
 #[inline]
 pub fn value(records: &[u8], index: u64, answer: &mut [u8]) -> u32 {
     // SAFETY: as in `skip`.
-    unsafe { skiff_value(records.as_ptr(), records.len(), index, answer.as_mut_ptr(), answer.len()) }
+    unsafe { lend!(skiff_value: read records; number index; written answer;) }
 }

@@ -1,18 +1,15 @@
 //! Views of a decoded row. The records stay where the library wrote them; a view is a place among them,
 //! so that looking at a value copies nothing and allocates nothing.
 
-use std::fmt;
-
 use crate::sys::VALUE_RECORD_BYTES;
-use crate::Row;
 
 /// A row's value records and payload bytes, as the library wrote them: exactly one tree. That is why
 /// the views below index without a way to fail, and why only a decoded row, or one that was refused for what
 /// it holds, can begin one.
 #[derive(Clone, Copy, PartialEq, Eq)]
 pub(crate) struct Table<'a> {
-    records: &'a [u8],
-    payload: &'a [u8],
+    pub(crate) records: &'a [u8],
+    pub(crate) payload: &'a [u8],
 }
 
 /// A record's fields.
@@ -20,7 +17,7 @@ pub(crate) struct Table<'a> {
 pub(crate) struct Record {
     pub(crate) kind: u8,
     pub(crate) tag: u16,
-    size: u32,
+    pub(crate) size: u32,
     data: [u8; 8],
 }
 
@@ -29,7 +26,7 @@ pub(crate) const REPEATED: u8 = 16;
 pub(crate) const TUPLE: u8 = 17;
 
 impl Record {
-    fn children(&self) -> usize {
+    pub(crate) fn children(&self) -> usize {
         match self.kind {
             VARIANT..=TUPLE => self.size as usize,
             _ => 0,
@@ -43,8 +40,8 @@ impl Record {
 }
 
 impl<'a> Table<'a> {
-    pub(crate) fn new(records: &'a [u8], payload: &'a [u8]) -> Self {
-        Self { records, payload }
+    pub(crate) fn count(&self) -> usize {
+        self.records.len() / VALUE_RECORD_BYTES
     }
 
     pub(crate) fn record(&self, at: usize) -> Record {
@@ -70,28 +67,28 @@ impl<'a> Table<'a> {
         at
     }
 
-    fn value(self, at: usize) -> Value<'a> {
+    pub(crate) fn value(self, at: usize) -> ValueRef<'a> {
         let record = self.record(at);
         let wide = "the library writes as many bytes as the type has";
         match record.kind {
-            0 => Value::Nothing,
-            1 => Value::Boolean(record.data[0] != 0),
-            2 => Value::Int8(i8::from_le_bytes(record.wire())),
-            3 => Value::Int16(i16::from_le_bytes(record.wire())),
-            4 => Value::Int32(i32::from_le_bytes(record.wire())),
-            5 => Value::Int64(i64::from_le_bytes(record.wire())),
-            6 => Value::Int128(i128::from_le_bytes(self.payload_of(&record).try_into().expect(wide))),
-            7 => Value::Int256(self.payload_of(&record).try_into().expect(wide)),
-            8 => Value::Uint8(u8::from_le_bytes(record.wire())),
-            9 => Value::Uint16(u16::from_le_bytes(record.wire())),
-            10 => Value::Uint32(u32::from_le_bytes(record.wire())),
-            11 => Value::Uint64(u64::from_le_bytes(record.wire())),
-            12 => Value::Double(f64::from_le_bytes(record.wire())),
-            13 => Value::Bytes(self.payload_of(&record)),
-            14 => Value::Yson(self.payload_of(&record)),
-            VARIANT => Value::Variant(Variant { table: self, at: at + 1 }),
-            REPEATED => Value::RepeatedVariants(Variants(self.below(at, &record))),
-            TUPLE => Value::Tuple(Values(self.below(at, &record))),
+            0 => ValueRef::Nothing,
+            1 => ValueRef::Boolean(record.data[0] != 0),
+            2 => ValueRef::Int8(i8::from_le_bytes(record.wire())),
+            3 => ValueRef::Int16(i16::from_le_bytes(record.wire())),
+            4 => ValueRef::Int32(i32::from_le_bytes(record.wire())),
+            5 => ValueRef::Int64(i64::from_le_bytes(record.wire())),
+            6 => ValueRef::Int128(i128::from_le_bytes(self.payload_of(&record).try_into().expect(wide))),
+            7 => ValueRef::Int256(self.payload_of(&record).try_into().expect(wide)),
+            8 => ValueRef::Uint8(u8::from_le_bytes(record.wire())),
+            9 => ValueRef::Uint16(u16::from_le_bytes(record.wire())),
+            10 => ValueRef::Uint32(u32::from_le_bytes(record.wire())),
+            11 => ValueRef::Uint64(u64::from_le_bytes(record.wire())),
+            12 => ValueRef::Double(f64::from_le_bytes(record.wire())),
+            13 => ValueRef::Bytes(self.payload_of(&record)),
+            14 => ValueRef::Yson(self.payload_of(&record)),
+            VARIANT => ValueRef::Variant(VariantRef { table: self, at: at + 1 }),
+            REPEATED => ValueRef::RepeatedVariants(Variants(self.below(at, &record))),
+            TUPLE => ValueRef::Tuple(Values(self.below(at, &record))),
             other => panic!("the library wrote a record of kind {other}"),
         }
     }
@@ -101,93 +98,90 @@ impl<'a> Table<'a> {
     }
 }
 
-/// A row and its value, in the slices that [`crate::Format::next_row`] was lent.
-#[derive(Clone, Copy, PartialEq)]
-pub struct DecodedRow<'a> {
-    pub row: Row,
-    table: Table<'a>,
-}
-
-impl<'a> DecodedRow<'a> {
-    pub(crate) fn new(row: Row, table: Table<'a>) -> Self {
-        Self { row, table }
-    }
-
-    /// The row's value: a tuple of its table's columns.
-    pub fn value(&self) -> Value<'a> {
-        self.table.value(0)
-    }
-
-    /// The value records, 16 bytes each, in preorder; include/skiff.h has their layout.
-    pub fn records(&self) -> &'a [u8] {
-        self.table.records
-    }
-
-    /// The payload bytes, in the order of the records that point at them.
-    pub fn payload(&self) -> &'a [u8] {
-        self.table.payload
-    }
-}
-
-impl fmt::Debug for DecodedRow<'_> {
-    fn fmt(&self, out: &mut fmt::Formatter<'_>) -> fmt::Result {
-        out.debug_struct("DecodedRow").field("row", &self.row).field("value", &self.value()).finish()
-    }
-}
-
-/// One value of a row. Whether a tag had one byte or two is no part of it.
-#[derive(Debug, Clone, PartialEq)]
-pub enum Value<'a> {
+/// One value of a row, looked at where the library wrote it. Whether a tag had one byte or two is no part
+/// of it. [`ValueRef::to_value`] makes a [`crate::Value`] of it, which lives by itself.
+///
+/// `Debug` shows text as text, and `Display` is the value as a listing has it: a number in decimal, a
+/// boolean as 0 or 1, a double as its bits in hex, blobs, int128 and int256 in hex as they are stored, and
+/// of a compound value the count of its children.
+///
+/// ```
+/// # use skiff::{Decoder, FormatBuilder, Schema, Value, WireType};
+/// # let name = Schema::leaf(WireType::String32).named("name");
+/// # let list = Schema::node(WireType::RepeatedVariant8, [Schema::leaf(WireType::Uint8)]).named("list");
+/// # let tables = FormatBuilder::new().table(Schema::tuple([name, list])).build()?;
+/// # let mut decoder = Decoder::from_slice(b"\0\0\x02\0\0\0hi\0\x07\0\x08\xff", &tables)?;
+/// # let row = decoder.next_row()?.expect("there is one");
+/// let (name, list) = (row.at(0).expect("a name"), row.at(1).expect("a list"));
+/// assert_eq!((name.as_str(), name.as_u64()), (Some("hi"), None));
+/// assert_eq!((format!("{name:?}"), name.to_string()), ("Bytes(\"hi\")".to_owned(), "6869".to_owned()));
+/// let numbers: Vec<_> = list.as_list().expect("it is one").map(|item| item.value().as_u64()).collect();
+/// assert_eq!(numbers, [Some(7), Some(8)]);
+/// assert_eq!(name.to_value(), Value::text("hi"));
+/// # Ok::<(), Box<dyn std::error::Error>>(())
+/// ```
+#[derive(Clone, PartialEq)]
+pub enum ValueRef<'a> {
+    /// A nothing.
     Nothing,
+    /// A boolean.
     Boolean(bool),
+    /// An int8.
     Int8(i8),
+    /// An int16.
     Int16(i16),
+    /// An int32.
     Int32(i32),
+    /// An int64.
     Int64(i64),
+    /// An int128.
     Int128(i128),
-    /// Two's complement, the lowest byte first.
+    /// An int256: two's complement, the lowest byte first.
     Int256(&'a [u8; 32]),
+    /// A uint8.
     Uint8(u8),
+    /// A uint16.
     Uint16(u16),
+    /// A uint32.
     Uint32(u32),
+    /// A uint64.
     Uint64(u64),
-    /// With the bits of the wire, those of a NaN too.
+    /// A double, with the bits of the wire, those of a NaN too.
     Double(f64),
     /// A string32, which need not be UTF-8.
     Bytes(&'a [u8]),
     /// A yson32. Its bytes are not looked into.
     Yson(&'a [u8]),
-    Variant(Variant<'a>),
+    /// A variant8 or variant16.
+    Variant(VariantRef<'a>),
+    /// A repeated_variant8 or repeated_variant16.
     RepeatedVariants(Variants<'a>),
+    /// A tuple.
     Tuple(Values<'a>),
 }
 
 /// A value and the tag by which it was chosen.
 #[derive(Clone, Copy)]
-pub struct Variant<'a> {
+pub struct VariantRef<'a> {
     table: Table<'a>,
     at: usize,
 }
 
-impl<'a> Variant<'a> {
+impl<'a> VariantRef<'a> {
+    /// The tag.
     pub fn tag(&self) -> u16 {
         self.table.record(self.at).tag
     }
 
-    pub fn value(&self) -> Value<'a> {
+    /// The value that it chose.
+    pub fn value(&self) -> ValueRef<'a> {
         self.table.value(self.at)
     }
 }
 
-impl PartialEq for Variant<'_> {
+impl PartialEq for VariantRef<'_> {
     fn eq(&self, other: &Self) -> bool {
         self.tag() == other.tag() && self.value() == other.value()
-    }
-}
-
-impl fmt::Debug for Variant<'_> {
-    fn fmt(&self, out: &mut fmt::Formatter<'_>) -> fmt::Result {
-        out.debug_struct("Variant").field("tag", &self.tag()).field("value", &self.value()).finish()
     }
 }
 
@@ -239,25 +233,19 @@ macro_rules! children {
                 Iterator::eq(self.clone(), other.clone())
             }
         }
-
-        impl fmt::Debug for $name<'_> {
-            fn fmt(&self, out: &mut fmt::Formatter<'_>) -> fmt::Result {
-                out.debug_list().entries(self.clone()).finish()
-            }
-        }
     };
 }
 
 children!(
     /// The values of a tuple that are left, in the schema's order.
     Values,
-    Value<'a>,
+    ValueRef<'a>,
     Table::value
 );
 
 children!(
     /// The elements of a repeated variant that are left, in the stream's order.
     Variants,
-    Variant<'a>,
-    |table, at| Variant { table, at }
+    VariantRef<'a>,
+    |table, at| VariantRef { table, at }
 );

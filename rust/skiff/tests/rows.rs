@@ -1,8 +1,7 @@
 //! The front end through the library: document 01's rows, and what the types make of the answers.
 
 use skiff::{
-    Context, FormatBuilder, FormatTables, Refusal, Row, Run, Schema, Settings, Skipped, Stop, WindowRun,
-    WireType,
+    Context, Extent, FormatBuilder, FormatTables, Refusal, Run, Schema, Settings, Stop, WindowRun, WireType,
 };
 
 /// tuple("page" uint8, "name" variant8(nothing, string32)).
@@ -22,11 +21,11 @@ fn one_table(schema: Schema) -> FormatTables {
 }
 
 fn limits(max_blob_bytes: u64, max_row_bytes: u64) -> Settings {
-    Settings::new(48, max_blob_bytes, max_row_bytes).expect("good limits")
+    Settings::default().with_max_blob_bytes(max_blob_bytes).with_max_row_bytes(max_row_bytes)
 }
 
-fn row(bytes: usize, records: u64, payload: u64) -> Result<Skipped, Refusal> {
-    Ok(Skipped::Row(Row { table: 0, bytes, records, payload }))
+fn row(bytes: usize, records: u64, payload: u64) -> Result<Option<Extent>, Refusal> {
+    Ok(Some(Extent { table: 0, bytes, records, payload }))
 }
 
 const FULL: [u8; 10] = [0, 0, 0x25, 1, 2, 0, 0, 0, 0xD1, 0xC5];
@@ -39,7 +38,7 @@ fn the_table_of_rows() {
     };
     let usual = Settings::default();
     let cut = |context, place| Err(Refusal::Truncated { context, place });
-    assert_eq!(skip(&a, usual, &[]), Ok(Skipped::End));
+    assert_eq!(skip(&a, usual, &[]), Ok(None));
     assert_eq!(skip(&a, usual, &[0]), cut(Context::TableTag, 0));
     assert_eq!(skip(&a, usual, &[1, 0]), Err(Refusal::MissingTableSchema { index: 1, place: 0 }));
     assert_eq!(skip(&a, usual, &[0, 0]), cut(Context::Fixed(WireType::Uint8), 2));
@@ -71,7 +70,7 @@ fn a_row_is_where_the_one_before_it_ends() {
     let stream = [&FULL[..], &[1, 0, 0, 7, 0xFF], &[0, 0, 0x25, 0]].concat();
     let mut position = 0;
     let mut found = Vec::new();
-    while let Skipped::Row(row) = format.skip_row(&usual, &stream, position).expect("good rows") {
+    while let Some(row) = format.skip_row(&usual, &stream, position).expect("good rows") {
         found.push((row.table, row.bytes, row.records, row.payload));
         position += row.bytes;
     }
@@ -94,10 +93,10 @@ fn a_stream_in_windows_is_run_as_a_whole() {
     let refused = [&FULL[..], &FULL[..], &[0, 0, 0x25, 2], &FULL[..]].concat();
     for stream in [FULL.repeat(3), FULL.repeat(3)[..25].to_vec(), refused] {
         for step in [1, 3, 7, 11] {
-            let (mut rows, mut bytes) = (0, 0);
+            let (mut rows, mut bytes) = (0, 0_u64);
             for end in (0..stream.len()).step_by(step).chain([stream.len()]) {
                 let WindowRun { run, may_change } =
-                    format.run_window(&usual, rows, bytes, &stream[bytes..end]);
+                    format.run_window(&usual, rows, bytes, &stream[bytes as usize..end]);
                 assert_eq!(run, format.run(&usual, &stream[..end]));
                 let open = matches!(run.stop, Stop::End | Stop::Refused(Refusal::Truncated { .. }));
                 assert_eq!(may_change, open);
@@ -148,14 +147,24 @@ fn bad_formats_are_refused_with_their_reasons() {
 
 #[test]
 fn settings_are_bounded() {
-    let most = Settings::MOST_BYTES;
-    assert!(Settings::new(1, 0, 0).is_ok());
-    assert!(Settings::new(4_096, most, most).is_ok());
-    for (charge, blob, row) in [(0, 0, 0), (4_097, 0, 0), (1, most + 1, 0), (1, 0, most + 1)] {
-        assert_eq!(Settings::new(charge, blob, row), Err(Refusal::Setting));
+    let tables = one_table(schema_a());
+    let run = |settings: Settings| tables.format().run(&settings, &FULL).to_end();
+    let (least, most) = (Settings::default().with_node_charge(1), Settings::MOST_BYTES);
+    assert_eq!(run(least), Ok((1, 10)));
+    assert_eq!(
+        run(least.with_max_blob_bytes(most).with_max_row_bytes(most).with_node_charge(4_096)),
+        Ok((1, 10))
+    );
+    for bad in [
+        least.with_node_charge(0),
+        least.with_node_charge(Settings::MOST_NODE_CHARGE + 1),
+        least.with_max_blob_bytes(most + 1),
+        least.with_max_row_bytes(most + 1),
+    ] {
+        assert_eq!(run(bad), Err(Refusal::Setting));
     }
-    let usual = Settings::new(48, 134_217_728, 268_435_456);
-    assert_eq!(usual, Ok(Settings::default()));
+    let named = Settings::new().with_node_charge(48).with_max_blob_bytes(134_217_728);
+    assert_eq!(named.with_max_row_bytes(268_435_456), Settings::default());
 }
 
 #[test]
@@ -182,5 +191,5 @@ fn the_delivery() {
     let tables = FormatTables { records, names, references, registry };
     assert_eq!(tables, one_table(schema_a()));
     let rows = read("rows.skf");
-    assert_eq!(tables.format().run(&Settings::default(), &rows).to_end(), Ok((5, rows.len())));
+    assert_eq!(tables.format().run(&Settings::default(), &rows).to_end(), Ok((5, rows.len() as u64)));
 }

@@ -1,8 +1,7 @@
 //! Rows decoded through the library: values of every kind, room, and the bytes that stay.
 
 use skiff::{
-    sys, Context, Decoded, FormatBuilder, FormatTables, Refusal, Row, Schema, Settings, Skipped, Value,
-    WireType,
+    sys, Context, Extent, FormatBuilder, FormatTables, Refusal, Schema, Settings, ValueRef, WireType,
 };
 
 /// What the slices hold before a call, so that a byte that was written shows.
@@ -30,18 +29,18 @@ const FULL: [u8; 10] = [0, 0, 0x25, 1, 2, 0, 0, 0, 0xD1, 0xC5];
 
 /// Decodes the row that is `wire` after a table tag 0 and hands its value on. Both slices have room to
 /// spare, and what is spare has to stay.
-fn with_row<T>(tables: &FormatTables, wire: &[u8], look: impl FnOnce(Value) -> T) -> T {
+fn with_row<T>(tables: &FormatTables, wire: &[u8], look: impl FnOnce(ValueRef) -> T) -> T {
     let stream = [&[0, 0], wire].concat();
     let usual = Settings::default();
-    let Ok(Skipped::Row(skipped)) = tables.format().skip_row(&usual, &stream, 0) else {
+    let Ok(Some(skipped)) = tables.format().skip_row(&usual, &stream, 0) else {
         panic!("what decodes also skips");
     };
     let written = (skipped.records as usize * 16, skipped.payload as usize);
     let (mut records, mut payload) = (vec![STALE; written.0 + 33], vec![STALE; written.1 + 7]);
     let decoded = tables.format().next_row(&usual, &stream, 0, &mut records, &mut payload);
-    let Ok(Decoded::Row(row)) = decoded else { panic!("it is a good row: {decoded:?}") };
-    assert_eq!(row.row, skipped);
-    assert_eq!(row.row.bytes, stream.len());
+    let Ok(Some(row)) = decoded else { panic!("it is a good row: {decoded:?}") };
+    assert_eq!(row.extent(), skipped);
+    assert_eq!(row.extent().bytes, stream.len());
     assert_eq!((row.records().len(), row.payload().len()), written);
     let seen = look(row.value());
     assert!(records[written.0..].iter().chain(&payload[written.1..]).all(|byte| *byte == STALE));
@@ -50,9 +49,9 @@ fn with_row<T>(tables: &FormatTables, wire: &[u8], look: impl FnOnce(Value) -> T
 
 /// The only column's value is as it should be.
 #[track_caller]
-fn one(schema: Schema, wire: &[u8], expected: Value) {
+fn one(schema: Schema, wire: &[u8], expected: ValueRef) {
     with_row(&one_column(schema), wire, |value| {
-        let Value::Tuple(mut columns) = value else { panic!("a tuple: {value:?}") };
+        let ValueRef::Tuple(mut columns) = value else { panic!("a tuple: {value:?}") };
         assert_eq!(columns.len(), 1);
         assert_eq!(columns.next(), Some(expected));
         assert_eq!(columns.next(), None);
@@ -61,35 +60,35 @@ fn one(schema: Schema, wire: &[u8], expected: Value) {
 
 #[test]
 fn scalars_in_the_record() {
-    one(leaf(WireType::Nothing), &[], Value::Nothing);
-    one(leaf(WireType::Boolean), &[0], Value::Boolean(false));
+    one(leaf(WireType::Nothing), &[], ValueRef::Nothing);
+    one(leaf(WireType::Boolean), &[0], ValueRef::Boolean(false));
     // Every byte but 0 is true, and the record then holds a 1.
     for byte in [1, 2, 0x80, 0xFF] {
-        one(leaf(WireType::Boolean), &[byte], Value::Boolean(true));
+        one(leaf(WireType::Boolean), &[byte], ValueRef::Boolean(true));
     }
     for number in [0, 1, -1, i8::MIN, i8::MAX] {
-        one(leaf(WireType::Int8), &number.to_le_bytes(), Value::Int8(number));
+        one(leaf(WireType::Int8), &number.to_le_bytes(), ValueRef::Int8(number));
     }
     for number in [0, 0x0102, -1, i16::MIN, i16::MAX] {
-        one(leaf(WireType::Int16), &number.to_le_bytes(), Value::Int16(number));
+        one(leaf(WireType::Int16), &number.to_le_bytes(), ValueRef::Int16(number));
     }
     for number in [0, 0x0102_0304, -1, i32::MIN, i32::MAX] {
-        one(leaf(WireType::Int32), &number.to_le_bytes(), Value::Int32(number));
+        one(leaf(WireType::Int32), &number.to_le_bytes(), ValueRef::Int32(number));
     }
     for number in [0, 0x0102_0304_0506_0708, -1, i64::MIN, i64::MAX] {
-        one(leaf(WireType::Int64), &number.to_le_bytes(), Value::Int64(number));
+        one(leaf(WireType::Int64), &number.to_le_bytes(), ValueRef::Int64(number));
     }
     for number in [0, 0x25, u8::MAX] {
-        one(leaf(WireType::Uint8), &number.to_le_bytes(), Value::Uint8(number));
+        one(leaf(WireType::Uint8), &number.to_le_bytes(), ValueRef::Uint8(number));
     }
     for number in [0, 0x0102, u16::MAX] {
-        one(leaf(WireType::Uint16), &number.to_le_bytes(), Value::Uint16(number));
+        one(leaf(WireType::Uint16), &number.to_le_bytes(), ValueRef::Uint16(number));
     }
     for number in [0, 0x0102_0304, u32::MAX] {
-        one(leaf(WireType::Uint32), &number.to_le_bytes(), Value::Uint32(number));
+        one(leaf(WireType::Uint32), &number.to_le_bytes(), ValueRef::Uint32(number));
     }
     for number in [0, 0x0102_0304_0506_0708, u64::MAX] {
-        one(leaf(WireType::Uint64), &number.to_le_bytes(), Value::Uint64(number));
+        one(leaf(WireType::Uint64), &number.to_le_bytes(), ValueRef::Uint64(number));
     }
 }
 
@@ -101,8 +100,8 @@ fn a_double_keeps_its_bits() {
     for bits in all {
         let bits: u64 = bits;
         with_row(&tables, &bits.to_le_bytes(), |value| {
-            let Value::Tuple(mut columns) = value else { panic!("a tuple") };
-            let Some(Value::Double(number)) = columns.next() else { panic!("a double") };
+            let ValueRef::Tuple(mut columns) = value else { panic!("a tuple") };
+            let Some(ValueRef::Double(number)) = columns.next() else { panic!("a double") };
             assert_eq!(number.to_bits(), bits);
         });
     }
@@ -111,14 +110,14 @@ fn a_double_keeps_its_bits() {
 #[test]
 fn scalars_in_the_payload() {
     for number in [0, 1, -1, i128::MIN, i128::MAX, 0x0102_0304_0506_0708_090A_0B0C_0D0E_0F10] {
-        one(leaf(WireType::Int128), &number.to_le_bytes(), Value::Int128(number));
+        one(leaf(WireType::Int128), &number.to_le_bytes(), ValueRef::Int128(number));
     }
     let bytes: [u8; 32] = std::array::from_fn(|index| 7 * index as u8 + 3);
-    one(leaf(WireType::Int256), &bytes, Value::Int256(&bytes));
+    one(leaf(WireType::Int256), &bytes, ValueRef::Int256(&bytes));
     for blob in [&[][..], &[0xD1, 0xC5], &[0; 300]] {
         let wire = [&(blob.len() as u32).to_le_bytes(), blob].concat();
-        one(leaf(WireType::String32), &wire, Value::Bytes(blob));
-        one(leaf(WireType::Yson32), &wire, Value::Yson(blob));
+        one(leaf(WireType::String32), &wire, ValueRef::Bytes(blob));
+        one(leaf(WireType::Yson32), &wire, ValueRef::Yson(blob));
     }
 }
 
@@ -127,20 +126,20 @@ fn a_variant_has_its_tag_and_value() {
     let choices = || [leaf(WireType::Nothing), leaf(WireType::Int16), leaf(WireType::String32)];
     let seen = |wire_type, wire: &[u8]| {
         with_row(&one_column(Schema::node(wire_type, choices())), wire, |value| {
-            let Value::Tuple(mut columns) = value else { panic!("a tuple") };
-            let Some(Value::Variant(variant)) = columns.next() else { panic!("a variant") };
+            let ValueRef::Tuple(mut columns) = value else { panic!("a tuple") };
+            let Some(ValueRef::Variant(variant)) = columns.next() else { panic!("a variant") };
             (variant.tag(), format!("{:?}", variant.value()))
         })
     };
     assert_eq!(seen(WireType::Variant8, &[0]), (0, "Nothing".to_owned()));
     assert_eq!(seen(WireType::Variant8, &[1, 0xFE, 0xFF]), (1, "Int16(-2)".to_owned()));
-    assert_eq!(seen(WireType::Variant16, &[2, 0, 1, 0, 0, 0, 9]), (2, "Bytes([9])".to_owned()));
+    assert_eq!(seen(WireType::Variant16, &[2, 0, 1, 0, 0, 0, 9]), (2, "Bytes(\"\\t\")".to_owned()));
     // The widest tags of both.
     let many = |wire_type, count| Schema::node(wire_type, vec![leaf(WireType::Nothing); count]);
     let tag = |schema, wire: &[u8]| {
         with_row(&one_column(schema), wire, |value| {
-            let Value::Tuple(mut columns) = value else { panic!("a tuple") };
-            let Some(Value::Variant(variant)) = columns.next() else { panic!("a variant") };
+            let ValueRef::Tuple(mut columns) = value else { panic!("a tuple") };
+            let Some(ValueRef::Variant(variant)) = columns.next() else { panic!("a variant") };
             variant.tag()
         })
     };
@@ -153,8 +152,8 @@ fn a_repeated_variant_has_its_elements_in_order() {
     let items = || [leaf(WireType::Boolean), Schema::tuple([leaf(WireType::Int8), leaf(WireType::Yson32)])];
     let seen = |wire_type, wire: &[u8]| {
         with_row(&one_column(Schema::node(wire_type, items())), wire, |value| {
-            let Value::Tuple(mut columns) = value else { panic!("a tuple") };
-            let Some(Value::RepeatedVariants(variants)) = columns.next() else { panic!("repeated") };
+            let ValueRef::Tuple(mut columns) = value else { panic!("a tuple") };
+            let Some(ValueRef::RepeatedVariants(variants)) = columns.next() else { panic!("repeated") };
             let length = variants.len();
             let all: Vec<_> = variants.map(|item| (item.tag(), format!("{:?}", item.value()))).collect();
             assert_eq!(all.len(), length);
@@ -165,7 +164,7 @@ fn a_repeated_variant_has_its_elements_in_order() {
     assert_eq!(seen(WireType::RepeatedVariant16, &[255, 255]), []);
     let expected = [
         (0, "Boolean(true)".to_owned()),
-        (1, "Tuple([Int8(-2), Yson([8, 9])])".to_owned()),
+        (1, "Tuple([Int8(-2), Yson(\"\\u{8}\\t\")])".to_owned()),
         (0, "Boolean(false)".to_owned()),
     ];
     let narrow = [0, 7, 1, 0xFE, 2, 0, 0, 0, 8, 9, 0, 0, 255];
@@ -199,12 +198,12 @@ fn trees_in_trees() {
         format!("{value:?}")
     });
     let a = "Tuple([RepeatedVariants([Variant { tag: 0, value: Int128(-5) }, \
-             Variant { tag: 1, value: Bytes([97, 98, 99]) }]), \
-             Variant(Variant { tag: 0, value: Nothing }), Tuple([])])";
-    let b = "Variant(Variant { tag: 1, value: Tuple([RepeatedVariants([]), \
-             Variant(Variant { tag: 1, value: Uint8(102) }), Tuple([])]) })";
+             Variant { tag: 1, value: Bytes(\"abc\") }]), \
+             Variant { tag: 0, value: Nothing }, Tuple([])])";
+    let b = "Variant { tag: 1, value: Tuple([RepeatedVariants([]), \
+             Variant { tag: 1, value: Uint8(102) }, Tuple([])]) }";
     let c = "RepeatedVariants([Variant { tag: 0, value: Int128(1267650600228229401496703205376) }])";
-    let c = c.replace("([", "([Variant { tag: 1, value: Bytes([]) }, ");
+    let c = c.replace("([", "([Variant { tag: 1, value: Bytes(\"\") }, ");
     assert_eq!(printed, format!("Tuple([{a}, {b}, {c}, Uint16(4660)])"));
 }
 
@@ -216,11 +215,11 @@ fn the_deepest_schema_is_decoded() {
     }
     with_row(&one_table(deep), &[0x80], |mut value| {
         let mut levels = 1;
-        while let Value::Tuple(mut columns) = value {
+        while let ValueRef::Tuple(mut columns) = value {
             value = columns.next().expect("one column");
             levels += 1;
         }
-        assert_eq!((levels, value), (64, Value::Int8(-128)));
+        assert_eq!((levels, value), (64, ValueRef::Int8(-128)));
     });
 }
 
@@ -231,8 +230,8 @@ fn records_and_payload_byte_by_byte() {
     let (mut records, mut payload) = ([STALE; 80], [STALE; 3]);
     let usual = Settings::default();
     let decoded = tables.format().next_row(&usual, &FULL, 0, &mut records, &mut payload);
-    let Ok(Decoded::Row(row)) = decoded else { panic!("a row: {decoded:?}") };
-    assert_eq!(row.row, Row { table: 0, bytes: 10, records: 4, payload: 2 });
+    let Ok(Some(row)) = decoded else { panic!("a row: {decoded:?}") };
+    assert_eq!(row.extent(), Extent { table: 0, bytes: 10, records: 4, payload: 2 });
     let mut expected = [0; 64];
     expected[0] = 17;
     expected[4] = 2;
@@ -258,16 +257,13 @@ fn room_is_refused_with_the_whole_need() {
         let (mut records, mut payload) = (vec![STALE; record_bytes], vec![STALE; payload_bytes]);
         let usual = Settings::default();
         let answer = tables.format().next_row(&usual, &stream, 4, &mut records, &mut payload);
-        let answer = answer.map(|decoded| match decoded {
-            Decoded::Row(row) => row.row,
-            Decoded::End => panic!("there is a row"),
-        });
+        let answer = answer.map(|row| row.expect("there is a row").extent());
         if answer.is_err() {
             assert!(records.iter().chain(&payload).all(|byte| *byte == STALE));
         }
         answer
     };
-    let row = Ok(Row { table: 0, bytes: 10, records: 4, payload: 2 });
+    let row = Ok(Extent { table: 0, bytes: 10, records: 4, payload: 2 });
     let no_node_room = Err(Refusal::NoNodeRoom { needed: 4, place: 4 });
     let no_payload_room = Err(Refusal::NoPayloadRoom { needed: 2, place: 4 });
     assert_eq!(decode(64, 2), row);
@@ -290,7 +286,7 @@ fn room_is_refused_with_the_whole_need() {
 #[test]
 fn a_refused_row_writes_nothing() {
     let tables = schema_a();
-    let tight = Settings::new(48, 2, 193).expect("good limits");
+    let tight = Settings::default().with_max_blob_bytes(2).with_max_row_bytes(193);
     let usual = Settings::default();
     let cases = [
         (usual, &FULL[..9], 0, Refusal::Truncated { context: Context::BlobPayload, place: 8 }),
@@ -322,7 +318,7 @@ fn an_end_needs_no_room() {
         for (input, position) in [(&FULL[..], 10), (&[], 0)] {
             let usual = Settings::default();
             let answer = tables.format().next_row(&usual, input, position, &mut records, &mut payload);
-            assert_eq!(answer, Ok(Decoded::End));
+            assert_eq!(answer, Ok(None));
         }
         assert!(records.iter().chain(&payload).all(|byte| *byte == STALE));
     }
@@ -361,10 +357,10 @@ fn the_delivery() {
     loop {
         let usual = Settings::default();
         let decoded = tables.format().next_row(&usual, &stream, position, &mut records, &mut payload);
-        let Decoded::Row(row) = decoded.expect("good rows") else { break };
-        let Value::Tuple(columns) = row.value() else { panic!("a tuple") };
+        let Some(row) = decoded.expect("good rows") else { break };
+        let ValueRef::Tuple(columns) = row.value() else { panic!("a tuple") };
         assert_eq!(columns.len(), 2);
-        position += row.row.bytes;
+        position += row.extent().bytes;
         rows += 1;
     }
     assert_eq!((rows, position), (5, stream.len()));

@@ -1,9 +1,7 @@
 //! Rows written and read back through the front end.
 
-#![cfg(feature = "encode")]
-
 use skiff::{
-    Decoded, Encoder, FormatBuilder, Misuse, Refusal, RowBuilder, Schema, Settings, ValueTable, WireType,
+    Encoder, FormatBuilder, Misuse, Refusal, RowBuilder, Schema, SchemaBlock, Settings, ValueTable, WireType,
 };
 
 /// Ends a chain of calls.
@@ -36,60 +34,64 @@ const BYTES: [u8; 31] = [
 #[test]
 fn a_row_is_written_and_read_back() {
     let tables = schema().tables().expect("short names");
-    let encoder = Encoder::new(tables.block(), Settings::default()).expect("a table's schema");
+    let (block, usual) = (tables.block(), Settings::default());
     let mut builder = RowBuilder::new();
     row(&mut builder);
     let value = builder.finish().expect("no misuse");
     assert_eq!(value.check(), Ok(()));
 
     let mut slice = [0xEE; 31];
-    let written = encoder.write(value, &mut slice, 0).expect("it fits");
+    let written = block.encode(&usual, value, &mut slice, 0).expect("it fits");
     assert_eq!((written.table, written.bytes, written.records, written.payload), (0, 30, 9, 2));
     assert_eq!(slice, BYTES);
 
     let mut stream = vec![7, 7];
-    assert_eq!(encoder.append(value, &mut stream), Ok(written));
+    assert_eq!(block.append(&usual, value, &mut stream), Ok(written));
     assert_eq!(stream[2..], BYTES[..30]);
 
     // What is read is handed to `write` as it is.
     let format = FormatBuilder::new().table(schema()).build().expect("short names");
     let (mut records, mut payload) = ([0; 16 * 9], [0; 2]);
     let read = format.format().next_row(&Settings::default(), &stream, 2, &mut records, &mut payload);
-    let Ok(Decoded::Row(decoded)) = read else { panic!("no row: {read:?}") };
+    let Ok(Some(decoded)) = read else { panic!("no row: {read:?}") };
     assert_eq!(decoded.records(), value.records);
     assert_eq!(decoded.payload(), value.payload);
     let mut again = Vec::new();
-    assert_eq!(encoder.append(decoded, &mut again), Ok(written));
+    assert_eq!(block.append(&usual, decoded, &mut again), Ok(written));
     assert_eq!(again, stream[2..]);
 }
 
 #[test]
 fn room_is_refused_with_the_whole_need() {
     let tables = schema().tables().expect("short names");
-    let encoder = Encoder::new(tables.block(), Settings::default()).expect("a table's schema");
+    let (block, usual) = (tables.block(), Settings::default());
     let mut builder = RowBuilder::new();
     row(&mut builder);
     let value = builder.finish().expect("no misuse");
     for (room, position) in [(29, 0), (31, 2), (0, 0), (5, 5)] {
         let mut slice = vec![0xEE; room];
-        let error = encoder.write(value, &mut slice, position).expect_err("it does not fit");
+        let error = block.encode(&usual, value, &mut slice, position).expect_err("it does not fit");
         assert_eq!(error.refusal, Refusal::NoOutputRoom { needed: 30, place: position as u64 });
         assert_eq!(error.to_string(), format!("refused 21 NoOutputRoom (needed 30) at {position}"));
         assert!(slice.iter().all(|byte| *byte == 0xEE));
     }
     let mut slice = [0xEE; 4];
-    assert_eq!(encoder.write(value, &mut slice, 5).map_err(|error| error.refusal), Err(Refusal::Setting));
+    assert_eq!(
+        block.encode(&usual, value, &mut slice, 5).map_err(|error| error.refusal),
+        Err(Refusal::Setting)
+    );
 }
 
 #[test]
 fn errors_say_which_value() {
     let tables = schema().tables().expect("short names");
-    let encoder = Encoder::new(tables.block(), Settings::new(48, 3, 0).expect("settings")).expect("a schema");
+    let (block, settings) = (tables.block(), Settings::default().with_max_blob_bytes(3));
     let mut stream = vec![1, 2, 3];
     let mut refused = |build: &dyn Fn(&mut RowBuilder)| {
         let mut builder = RowBuilder::new();
         build(&mut builder);
-        let error = encoder.append(builder.finish().expect("no misuse"), &mut stream).expect_err("no fit");
+        let error =
+            block.append(&settings, builder.finish().expect("no misuse"), &mut stream).expect_err("no fit");
         assert_eq!(stream, [1, 2, 3]);
         error.to_string()
     };
@@ -125,10 +127,10 @@ fn errors_say_which_value() {
 #[test]
 fn a_table_by_hand_is_judged_first() {
     let tables = schema().tables().expect("short names");
-    let encoder = Encoder::new(tables.block(), Settings::default()).expect("a table's schema");
+    let (block, usual) = (tables.block(), Settings::default());
     let table = ValueTable { records: &[1; 16], payload: &[] };
     assert_eq!(table.check(), Err(Refusal::BadValueTable));
-    let error = encoder.append(table, &mut Vec::new()).expect_err("no table");
+    let error = block.append(&usual, table, &mut Vec::new()).expect_err("no table");
     assert_eq!(error.to_string(), "refused 18 BadValueTable at 0");
 }
 
@@ -136,7 +138,10 @@ fn a_table_by_hand_is_judged_first() {
 fn bad_schemas_are_refused() {
     let refused = |schema: Schema| {
         let tables = schema.tables().expect("short names");
-        Encoder::new(tables.block(), Settings::default()).map(drop).expect_err("no table's schema")
+        let refusal = tables.block().check().expect_err("no table's schema");
+        let error = Encoder::to_writer(Vec::new(), &tables).map(drop).expect_err("no table's schema");
+        assert_eq!(error.refusal(), Some(refusal));
+        refusal
     };
     assert_eq!(
         refused(Schema::leaf(WireType::Int8)),
@@ -145,8 +150,8 @@ fn bad_schemas_are_refused() {
     let nameless = Schema::tuple([Schema::leaf(WireType::Int8)]);
     assert_eq!(refused(nameless), Refusal::TableSchemaChildMissingName { index: 0, place: 1 });
     let tables = schema().tables().expect("short names");
-    let block = skiff::SchemaBlock { count: 3, ..tables.block() };
-    assert_eq!(Encoder::new(block, Settings::default()), Err(Refusal::BadSchemaTable));
+    let block = SchemaBlock { count: 3, ..tables.block() };
+    assert_eq!(block.check(), Err(Refusal::BadSchemaTable));
 }
 
 #[test]
@@ -203,5 +208,15 @@ fn misuses_are_errors() {
     }
     assert_eq!(misuse(&|row| done(deep(row, 63))), Ok(()));
     assert_eq!(misuse(&|row| done(deep(row, 64))), Err(Misuse::TooDeep { record: 64 }));
+    // What the builder keeps from being written, the library would refuse.
+    let levels = |count: usize| {
+        let mut records = vec![0; 16 * count];
+        for (index, record) in records.chunks_mut(16).enumerate() {
+            record[0] = 17;
+            record[4] = u8::from(index + 1 < count);
+        }
+        ValueTable { records: &records, payload: &[] }.check()
+    };
+    assert_eq!((levels(64), levels(65)), (Ok(()), Err(Refusal::BadValueTable)));
     assert!(Misuse::TooDeep { record: 64 }.to_string().starts_with("value record 64: "));
 }
