@@ -114,7 +114,7 @@ fn parent_ok(kind: u8, size: u64, content: u64) -> bool
 }
 
 // What a record says is right where it stands, but for its children.
-fn record_ok(r: ValueRecord, tagged: bool, from: usize, store: usize) -> bool
+pub fn record_ok(r: ValueRecord, tagged: bool, from: usize, store: usize) -> bool
     requires { ⌜ from ≤ store ⌝ }
     ensures { λ b. ⌜ b ≡ recordOk r tagged from store ⌝ }
 {
