@@ -18,7 +18,7 @@ use Rattle.rules.specs.ValueTable.{Parsed, Whole, Broken, tableValue}
 use Rattle.rules.specs.ValueCheck.{formChecked, tableForm}
 use Rattle.rules.specs.Walk.{Limits}
 use Rattle.rules.specs.Reading.{limits, room, whenAccepted}
-use Rattle.rules.specs.Writing.{unwritten, encodeValue, encodeOk, encodeRule}
+use Rattle.rules.specs.Writing.{Encoded, unwritten, encodeValue, encodeOk, encodeRule}
 use Rattle.rules.specs.declared.settings.Settings.{Settings}
 use Rattle.rules.specs.declared.refusal.Refusal.{Refusal}
 use Rattle.rules.specs.declared.answer.Checked.{Checked}
@@ -30,7 +30,9 @@ use Rattle.block_laws.proofs.Good.{FormedBlock, form-accepts}
 use Rattle.read.proofs.Nodes.{formed-sound}
 use Rattle.write.specs.Table.{IsWhole, wholeValue}
 use Rattle.write.specs.Judging.{RowJudgeable}
+use Rattle.write.specs.Flat.{RowFlat}
 use Rattle.write.specs.Row.{placedRow}
+use Rattle.write.proofs.Columns.{accepted-whole}
 
 -- a place that is at most m lies below the less of n and m just if it lies below n
 pub within-both : (p n m : ℕ) → p ≤ m → leb p n ≡ leb p (min n m)
@@ -55,12 +57,6 @@ accepted-tuple table names first n e =
     let rules = pick-accepted _ _ _ (pick-accepted _ _ _ e .1) .1 in
     eqb-true _ _ (pick-accepted _ _ _ (then-both _ _ (then-both _ _ rules .1) .0) .0)
 
--- an accepted value table is whole
-accepted-whole : (p : Parsed Value) → formChecked p ≡ Accepted → IsWhole p
-unfolding formChecked IsWhole
-accepted-whole (Whole v q) e = tt
-accepted-whole Broken e = refused-not _ e
-
 -- the row of a whole one
 whole-value : (sch : List ℕ) (lim : Limits) (recs pay out : List ℕ) (at : ℕ) → (p : Parsed Value) → tableValue recs pay ≡ p → IsWhole p → placedRow sch lim recs pay out at ≡ encodeValue sch lim (tableValue recs pay) out at
 unfolding placedRow encodeValue IsWhole wholeValue
@@ -73,41 +69,54 @@ unfolding formChecked encodeValue
 broken-value sch lim out at (Whole v q) r e = absurd (refused-not r (sym e))
 broken-value sch lim out at Broken r e = let z : r ≡ BadValueTable = cc in rw z
 
+-- ---- by a checked block
+
+module _ (sch : List ℕ) (s : Settings) (recs pay out : List ℕ) (at : ℕ) where
+  -- a value table that is refused
+  pub form-refused : (c : Checked) → c ≡ tableForm recs pay → (r : Refusal) → c ≡ Refused r → unwritten out r ≡ encodeValue sch (limits s) (tableValue recs pay) out at
+  unfolding tableForm
+  form-refused c is r e = broken-value sch (limits s) out at (tableValue recs pay) r (sym is ∙ e)
+
+  module _ (k : RowFlat sch recs pay) (c : Checked) (is : c ≡ tableForm recs pay) (e : c ≡ Accepted) where
+    whole : IsWhole (tableValue recs pay)
+    unfolding tableForm
+    whole = accepted-whole (tableValue recs pay) (sym is ∙ e)
+
+    -- one that is accepted can be judged,
+    pub judgeable : RowJudgeable sch recs pay
+    judgeable = record { sound = k .sound; root = k .root; tuple = k .tuple; whole = whole; short = k .short; small = k .small }
+
+    -- and what is answered and left is the rule's
+    pub row-encoded : (x : Written) (out′ : List ℕ) → x ≡ placedRow sch (limits s) recs pay out at .answer → out′ ≡ placedRow sch (limits s) recs pay out at .output →
+        record { answer = x; output = out′ } ≡ encodeValue sch (limits s) (tableValue recs pay) out at
+    row-encoded x out′ g h = rw (g, h) (whole-value sch (limits s) recs pay out at (tableValue recs pay) refl whole)
+
+-- ---- from the start on
+
 module _ (s : Settings) (table names : List ℕ) (first n : ℕ) (recs pay out : List ℕ) (at : ℕ) where
   -- settings, slices or position out of bounds
   pub out-of-bounds : encodeOk s table names recs pay out at ≡ false → unwritten out Setting ≡ encodeRule s table names first n recs pay out at
   unfolding encodeRule pick
   out-of-bounds e = rw e
 
-  module _ (ok : encodeOk s table names recs pay out at ≡ true) (c : Checked) (is : c ≡ encoderRules table names first n then tableForm recs pay) where
-    -- a schema or a value table that is refused
-    pub form-refused : (r : Refusal) → c ≡ Refused r → unwritten out r ≡ encodeRule s table names first n recs pay out at
-    unfolding encodeRule pick _then_ whenAccepted tableForm
-    form-refused r e = rw ok (by (encoderRules table names first n) (sym is ∙ e))
-      where
-        by : (a : Checked) → a then tableForm recs pay ≡ Refused r → unwritten out r ≡ whenAccepted (unwritten out) a (encodeValue (block table first n) (limits s) (tableValue recs pay) out at)
-        by Accepted h = broken-value _ _ out at (tableValue recs pay) r h
-        by (Refused x) h = let z : r ≡ x = cc in rw z
+  module _ (ok : encodeOk s table names recs pay out at ≡ true) (c : Checked) (is : c ≡ encoderRules table names first n) where
+    -- a schema that is refused
+    pub schema-refused : (r : Refusal) → c ≡ Refused r → unwritten out r ≡ encodeRule s table names first n recs pay out at
+    unfolding encodeRule pick whenAccepted
+    schema-refused r e = rw (ok, ← is, e)
 
     module _ (e : c ≡ Accepted) where
-      accepted : (encoderRules table names first n ≡ Accepted) × (tableForm recs pay ≡ Accepted)
-      accepted = then-both _ _ (sym is ∙ e)
-
       formed : FormedBlock table names first n
-      formed = accepted-formed table names first n (accepted .0)
-
-      whole : IsWhole (tableValue recs pay)
-      unfolding tableForm
-      whole = accepted-whole (tableValue recs pay) (accepted .1)
+      formed = accepted-formed table names first n (sym is ∙ e)
 
       -- so the block can be cut out,
       pub within : first + n ≤ records table
       within = formed .inside
 
-      -- the row judged,
-      pub judgeable : RowJudgeable (block table first n) recs pay
+      -- the row looked at,
+      pub flat-row : RowFlat (block table first n) recs pay
       unfolding encodeOk
-      judgeable =
+      flat-row =
           let a = and-both _ _ ok in
           let b = and-both _ _ (a .0) in
           let d = and-both _ _ (b .0) in
@@ -116,8 +125,7 @@ module _ (s : Settings) (table names : List ℕ) (first n : ℕ) (recs pay out :
           record {
             sound = formed-sound (block table first n) (length names) (formed .formed);
             root = omega (arith, formed .formed .order .size);
-            tuple = accepted-tuple table names first n (accepted .0);
-            whole = whole;
+            tuple = accepted-tuple table names first n (sym is ∙ e);
             short = omega arith;
             small = omega arith;
           }
@@ -127,7 +135,6 @@ module _ (s : Settings) (table names : List ℕ) (first n : ℕ) (recs pay out :
       placeable = leb-true _ _ (and-both _ _ ok .1)
 
       -- and what is answered and left is the rule's
-      pub row-encoded : (x : Written) (out′ : List ℕ) → x ≡ placedRow (block table first n) (limits s) recs pay out at .answer → out′ ≡ placedRow (block table first n) (limits s) recs pay out at .output →
-          record { answer = x; output = out′ } ≡ encodeRule s table names first n recs pay out at
+      pub encoded : (x : Encoded) → x ≡ encodeValue (block table first n) (limits s) (tableValue recs pay) out at → x ≡ encodeRule s table names first n recs pay out at
       unfolding encodeRule pick whenAccepted
-      row-encoded x out′ g h = rw (g, h, ok, accepted .0) (whole-value (block table first n) (limits s) recs pay out at (tableValue recs pay) refl whole)
+      encoded x g = rw (ok, ← is, e) g

@@ -1,9 +1,11 @@
 // Encode: what the call is given (1), the schema, the value table's form, and only then the row, judged, given room, written.
 ghost use mathlib.Core.Path.{_≡_};
-ghost use Rattle.rules.specs.Refusals.{_then_};
-ghost use Rattle.rules.specs.Format.{encoderRules};
-ghost use Rattle.rules.specs.ValueCheck.{tableForm};
-ghost use Rattle.rules.specs.Writing.{encodeOk, encodeRule};
+ghost use Prim.Native.Nat.{_≤_, min};
+ghost use lib.ListN.{length};
+ghost use Rattle.rules.specs.ValueTable.{tableValue};
+ghost use Rattle.rules.specs.Reading.{limits};
+ghost use Rattle.rules.specs.Writing.{encodeValue, encodeOk, encodeRule};
+ghost use Rattle.write.specs.Flat.{RowFlat};
 use block::table::block_of;
 use rules::Checked;
 use rules::LONGEST;
@@ -12,6 +14,9 @@ use rules::Settings;
 use rules::Written;
 use schema::encoder_rules;
 use value::table_form;
+use write::flat::flat_row;
+use write::judge::AtOnce;
+use write::row::place_row;
 use write::row::write_row;
 
 // Settings and slices are inside document 01's bounds, and the position in what counts of the output.
@@ -48,22 +53,28 @@ fn writing_within_bounds(
     position <= output.len() as u64
 }
 
-// The schema, then the form of the value table.
-fn check_forms(
-    table: &[u8],
-    names: &[u8],
-    first: u64,
-    count: u64,
+// The value of a value table by a checked block: at once where the row is flat, else the form of the table first, and then the row.
+fn encode_by(
+    block: &[u8],
+    settings: Settings,
     records: &[u8],
     payload: &[u8],
-) -> Checked
-    ensures { λ r. ⌜ r ≡ encoderRules (now (table .entry)) (now (names .entry)) first count then tableForm (now (records .entry)) (now (payload .entry)) ⌝ }
+    output: &mut [u8],
+    at: usize,
+) -> Written
+    requires { ⌜ RowFlat (now block) (now records) (now payload) × (at ≤ min (length (now output)) 4294967295) ⌝ }
+    ensures { λ r. ⌜ record { answer = r; output = now (output .exit) } ≡ encodeValue (now (block .entry)) (limits settings)
+        (tableValue (now (records .entry)) (now (payload .entry))) (now (output .entry)) at ⌝ }
 {
-    let schema = encoder_rules(table, names, first, count);
-    let Checked::Accepted = schema else {
-        return schema;
-    };
-    table_form(records, payload)
+    let now = flat_row(block, settings, records, payload);
+    if let AtOnce::Fits(p) = now {
+        return place_row(block, settings, p, records, payload, output, at);
+    }
+    let form = table_form(records, payload);
+    match form {
+        Checked::Refused(why) => Written::Refused(why),
+        Checked::Accepted => write_row(block, settings, records, payload, output, at),
+    }
 }
 
 // The value of a value table, written as a row of the block's schema from a position of the output on; or why it is refused, and
@@ -85,10 +96,10 @@ pub fn encode(
     if !writing_within_bounds(settings, table, names, records, payload, output, position) {
         return Written::Refused(Refusal::SETTING);
     }
-    let checked = check_forms(table, names, first, count, records, payload);
-    match checked {
+    let schema = encoder_rules(table, names, first, count);
+    match schema {
         Checked::Refused(why) => Written::Refused(why),
-        Checked::Accepted => write_row(
+        Checked::Accepted => encode_by(
             block_of(table, first, count),
             settings,
             records,

@@ -151,7 +151,7 @@ pub fn record_alone(r: ValueRecord) -> bool
 }
 
 // What a record says is right where it stands, but for its children.
-fn record_ok(r: ValueRecord, tagged: bool, from: usize, store: usize) -> bool
+pub fn record_ok(r: ValueRecord, tagged: bool, from: usize, store: usize) -> bool
     requires { ⌜ from ≤ store ⌝ }
     ensures { λ b. ⌜ b ≡ recordOk r tagged from store ⌝ }
 {

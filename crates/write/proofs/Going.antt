@@ -67,7 +67,7 @@ tag-short code t = by (ltb code 17) (ltb code 19)
     by false true = unfold pick tagBytes in rw length-le (widest code)
     by false false = unfold pick tagBytes in omega arith
 
-tag-of : (s : Shape) (code t : ℕ) → s ≡ shapeOf code → length (tagBytes s t) ≤ 32
+pub tag-of : (s : Shape) (code t : ℕ) → s ≡ shapeOf code → length (tagBytes s t) ≤ 32
 tag-of s code t e = rw e (tag-short code t)
 
 closing-length : (s : Shape) → length (closing s) ≡ closingBytes s
@@ -143,6 +143,11 @@ compound-kind code l h = by (ltb code 17) (ltb code 19) refl refl
     by true b e f = rw (form-choice code l (ltb-true _ _ e)) (omega arith)
     by false true e f = rw (form-series code (ltb-false _ _ e) (ltb-true _ _ f)) (omega arith)
     by false false e f = rw (form-fields code (ltb-false _ _ f) h) (omega arith)
+
+-- and a variant's node kind 15
+pub variant-kind : (code : ℕ) → 14 < code → code < 17 → kindFor code (form code) ≡ 15
+unfolding kindFor
+variant-kind code l h = rw (form-choice code l h)
 
 module _ (sch : List ℕ) (blob i : ℕ) (table store : List ℕ) where
   -- after j children: those that are left, and that they come to the whole

@@ -17,7 +17,6 @@ use Rattle.rules.specs.declared.table_record.ValueRecord.{ValueRecord}
 use Rattle.rules.proofs.Over.{length-over, over-none}
 use Rattle.read.specs.Children.{shapeOf}
 use Rattle.read.specs.Ready.{HasNode}
-use Rattle.read.proofs.Codes.{form-choice}
 use Rattle.write.specs.Table.{wholeValue, wholeEnd, valueStandingAt}
 use Rattle.write.specs.Putting.{tagBytes, closing, childOf, leafKept, leafSize, leafBytes, putOf, written, Writable, Parted, Placed}
 use Rattle.write.specs.Leads.{Left, LeadsToPut}
@@ -25,6 +24,7 @@ use Rattle.write.specs.declared.put.WritePos.{WritePos}
 use Rattle.write.specs.declared.put.ToPut.{ToPut}
 use Rattle.write.specs.declared.put.ToPut.the-variants.{Leaf, Children}
 use Rattle.write.proofs.Codes.{fixed-range, raw-range, sized-range, no-end}
+use Rattle.write.proofs.Going.{variant-kind}
 use Rattle.write.proofs.Putting.{Filling, reads-whole, right-kind, is-size, fill-first, placed, record-there, sums, tag-room, may-write, fill-next}
 use Rattle.write.proofs.Stored.{parted-node, leaf-room, leaf-placed}
 
@@ -66,12 +66,8 @@ module _ (sch : List ℕ) (i depth : ℕ) (table store : List ℕ) (p : WritePos
     first-turn : Filling sch i table store (shapeOf code) (depth - 1) (own .size) (wholeEnd (valueStandingAt table store depth (p .at) (p .from))) (p .to) (putOf (written sch i depth table store (p .at) (p .from))) out out (record { at = p .at + 1; from = p .from; to = p .to }) 0
     first-turn = fill-first sch i depth table store p (length out) k code (own .size) parts out
 
-    takes : 15 ≡ kindFor code (form code)
-    unfolding kindFor
-    takes = rw (form-choice code l (omega arith))
-
     one : own .size ≡ 1
-    one = is-size sch i depth table store p (length out) k code (own .size) parts ∙ one-child _ (reads-whole sch i depth table store p (length out) k .fits) (right-kind sch i depth table store p (length out) k ∙ sym (takes ∙ ap (λ (x : ℕ). kindFor x (form x)) is))
+    one = is-size sch i depth table store p (length out) k code (own .size) parts ∙ one-child _ (reads-whole sch i depth table store p (length out) k .fits) (right-kind sch i depth table store p (length out) k ∙ sym (sym (variant-kind code l (omega arith)) ∙ ap (λ (x : ℕ). kindFor x (form x)) is))
 
     some : 0 < own .size
     some = omega (arith, one)

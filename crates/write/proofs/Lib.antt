@@ -12,3 +12,4 @@ pub mod Leads
 pub mod Once
 pub mod Unlimited
 pub mod Rows
+pub mod Columns

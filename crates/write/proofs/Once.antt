@@ -7,14 +7,12 @@ use mathlib.Core.List.{List}
 use native.Mathlib.Omega.{arith}
 use native.Mathlib.Nat.{add-zero}
 use lib.ListN.{length}
-use Rattle.rules.specs.Wire.{form}
 use Rattle.rules.specs.Block.{nodeAt}
 use Rattle.rules.specs.ValueRecord.{valueRecordAt, ValueRecordIn}
-use Rattle.rules.specs.Writing.{kindFor}
 use Rattle.rules.specs.declared.table_record.ValueRecord.{ValueRecord}
 use Rattle.read.specs.Children.{shapeOf}
 use Rattle.read.specs.Ready.{HasNode}
-use Rattle.read.proofs.Codes.{form-choice, shape-variant}
+use Rattle.read.proofs.Codes.{shape-variant}
 use Rattle.write.specs.Table.{wholeEnd, valueStandingAt}
 use Rattle.write.specs.Judging.{judgePos, leafOf, chosenOf, countOk, closingBytes, Judgeable, Opened, judgedAt}
 use Rattle.write.specs.declared.judge.JudgePos.{JudgePos}
@@ -27,7 +25,7 @@ use Rattle.write.specs.declared.judge.Chosen.the-variants as chosen-is
 use Rattle.write.proofs.Codes.{leaf-kind, uncounted}
 use Rattle.write.proofs.Standing.{kind-told}
 use Rattle.write.proofs.Leads.{one-child}
-use Rattle.write.proofs.Going.{Going, whole-reads, is-size, begins, bounds, ends-there, there, asks, narrow, child, goes-on}
+use Rattle.write.proofs.Going.{variant-kind, Going, whole-reads, is-size, begins, bounds, ends-there, there, asks, narrow, child, goes-on}
 use Rattle.write.proofs.Leaves.{leaf-bounds, leaf-answer}
 
 -- nothing is said yet
@@ -39,14 +37,10 @@ pub fits-on : (p q : JudgePos) → at-once.Fits p ≡ at-once.Fits q → Fits p 
 fits-on p q e = let h : p ≡ q = cc in ap Fits h
 
 module _ (sch : List ℕ) (blob i depth : ℕ) (table store : List ℕ) (p : JudgePos) (k : Judgeable sch i depth table store p) (code size : ℕ) (o : Opened sch i code table p size) (l : code ≤ 16) (first count : ℕ) (the-first : first ≡ nodeAt sch i .first) (the-count : count ≡ nodeAt sch i .children) where
-  takes : kindFor code (form code) ≡ 15
-  unfolding kindFor
-  takes = rw (form-choice code (o .compound) (omega arith))
-
   one : size ≡ 1
   one =
       let w = whole-reads sch blob i table store depth p k in
-      is-size sch blob i table store depth p k code size o ∙ one-child _ (w .fits) (sym (kind-told table store (omega (arith, k .short)) w) ∙ o .kind ∙ takes)
+      is-size sch blob i table store depth p k code size o ∙ one-child _ (w .fits) (sym (kind-told table store (omega (arith, k .short)) w) ∙ o .kind ∙ variant-kind code (o .compound) (omega arith))
 
   counts : true ≡ countOk (shapeOf code) size count
   counts = uncounted code size count (omega arith)

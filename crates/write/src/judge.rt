@@ -87,7 +87,7 @@ fn kind_of(code: u8) -> u8
 }
 
 // A value of a fixed width, or a blob within its limit.
-fn judge_leaf(code: u8, size: u64, max_blob_bytes: u64, p: JudgePos) -> Judged
+pub fn judge_leaf(code: u8, size: u64, max_blob_bytes: u64, p: JudgePos) -> Judged
     requires { ⌜ (code < 15) × (size < 2 ^ 32) × (p .at < 2 ^ 32) × (p .from < 2 ^ 32) × (p .bytes < 2 ^ 40) ⌝ }
     ensures { λ r. ⌜ r ≡ leafOf «max_blob_bytes» code size p ⌝ }
 {
@@ -123,7 +123,7 @@ fn judge_leaf(code: u8, size: u64, max_blob_bytes: u64, p: JudgePos) -> Judged
 // ---- nodes with children
 
 // The child after i others, whose record bears `tag` and is the one at `at`.
-fn next_child(code: u8, first: u64, count: u64, i: u64, tag: u64, at: usize) -> Chosen
+pub fn next_child(code: u8, first: u64, count: u64, i: u64, tag: u64, at: usize) -> Chosen
     requires { ⌜ (14 < code) × (code ≤ 19) × (first + count < 2 ^ 64) × (first + i < 2 ^ 64) ⌝ }
     ensures { λ r. ⌜ r ≡ chosenOf code first count (shapeOf code) i tag at ⌝ }
 {

@@ -4,8 +4,9 @@ ghost use mathlib.Core.Path.{_≡_};
 ghost use Prim.Native.Nat.{_≤_, _<_, min};
 ghost use lib.ListN.{length};
 ghost use Rattle.rules.specs.Reading.{limits};
-ghost use Rattle.write.specs.Judging.{RowJudgeable};
+ghost use Rattle.write.specs.Judging.{RowJudgeable, judgedRow};
 ghost use Rattle.write.specs.Row.{roomFor, placedRow};
+use super::judge::JudgePos;
 use super::judge::Judged;
 use super::judge::judge_row;
 use super::put::put_row;
@@ -50,6 +51,34 @@ fn not_written(value: Judged) -> Written
     }
 }
 
+// A judged row from place `at` of the output on; or 21, and then the output is as it was.
+pub fn place_row(
+    block: &[u8],
+    settings: Settings,
+    p: JudgePos,
+    records: &[u8],
+    payload: &[u8],
+    out: &mut [u8],
+    at: usize,
+) -> Written
+    requires { ⌜ RowJudgeable (now block) (now records) (now payload) × (Judged.Fits p ≡ judgedRow (now block) (limits settings) (now records) (now payload)) × (at ≤ min (length (now out)) 4294967295) ⌝ }
+    ensures answer { λ r. ⌜ r ≡ placedRow (now (block .entry)) (limits settings) (now (records .entry)) (now (payload .entry)) (now (out .entry)) at .answer ⌝ }
+    ensures out { λ _. ⌜ now (out .exit) ≡ placedRow (now (block .entry)) (limits settings) (now (records .entry)) (now (payload .entry)) (now (out .entry)) at .output ⌝ }
+{
+    let row = Extent {
+        table: 0,
+        bytes: p.bytes,
+        records: p.at as u64,
+        payload: p.from as u64,
+    };
+    let placed = room_for(row, at, out.len());
+    let Written::Row(own) = placed else {
+        return placed;
+    };
+    put_row(block, records, payload, out, at);
+    Written::Row(own)
+}
+
 // The row of the table's value from place `at` of the output on; or why it is refused, and then the output is as it was.
 pub fn write_row(
     block: &[u8],
@@ -67,16 +96,5 @@ pub fn write_row(
     let Judged::Fits(p) = judged else {
         return not_written(judged);
     };
-    let row = Extent {
-        table: 0,
-        bytes: p.bytes,
-        records: p.at as u64,
-        payload: p.from as u64,
-    };
-    let placed = room_for(row, at, out.len());
-    let Written::Row(own) = placed else {
-        return placed;
-    };
-    put_row(block, records, payload, out, at);
-    Written::Row(own)
+    place_row(block, settings, p, records, payload, out, at)
 }
