@@ -16,6 +16,7 @@ fn the_projects_snippets_are_compiled() {
     let own = include_str!("../README.md");
     assert_eq!(snippets(own).len(), 3);
     let project = std::fs::read_to_string(format!("{FOLDER}/../../README.md")).expect("it is there");
+    assert!(!snippets(&project).is_empty());
     for snippet in snippets(&project) {
         assert!(snippets(own).contains(&snippet), "rust/skiff/README.md does not have:\n{snippet}");
     }
