@@ -22,3 +22,4 @@ pub mod Writing
 pub mod Lines
 pub mod RoundTrip
 pub mod Rows
+pub mod Listing
