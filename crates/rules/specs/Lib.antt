@@ -11,6 +11,9 @@ pub mod Value
 pub mod ValueRecord
 pub mod ValueTable
 pub mod ValueCheck
+pub mod Query
+pub mod View
+pub mod Preorder
 pub mod Grammar
 pub mod Walk
 pub mod Reading

@@ -1,6 +1,8 @@
-// The types that all crates share, a file for each topic: wire types, records of the flat tables, settings, refusals, answers.
+// The types that all crates share, a file for each topic: wire types, records of the flat tables, settings, refusals, answers, what
+// a host is told of a value record.
 // What is right is written down in specs/, as definitions that read beside document 01.
 pub mod answer;
+pub mod query;
 pub mod refusal;
 pub mod settings;
 pub mod table_record;
@@ -15,6 +17,10 @@ pub use answer::Ran;
 pub use answer::Read;
 pub use answer::Stop;
 pub use answer::Written;
+pub use query::Queried;
+pub use query::Scalar;
+pub use query::Seen;
+pub use query::Viewed;
 pub use refusal::Refusal;
 pub use refusal::RefusalLine;
 pub use refusal::Report;

@@ -285,6 +285,11 @@ impl Refusal {
         place: 0,
     };
 
+    pub const BAD_VALUE_TABLE: Refusal = Refusal {
+        why: Why::BadValueTable,
+        place: 0,
+    };
+
     // The refusal in numbers, for hosts that take no enum.
     pub fn in_numbers(self) -> Report
         ensures { λ r. ⌜ r ≡ reportOf self ⌝ }

@@ -21,7 +21,8 @@ use Rattle.rules.proofs.Tests.{and-both, and-false, span-leb}
 use Rattle.rules.proofs.Stands.{leAt-lt, length-part}
 use Rattle.value_laws.proofs.Codes.{empty-code, truth-code}
 use Rattle.value_laws.proofs.Parse.{Holds, holds, fails, then, when}
-use Rattle.value.specs.Records.{tagOk, storedOk, scalarOk, parentOk, recordOk}
+use Rattle.rules.specs.Query.{scalarAlone, parentAlone}
+use Rattle.value.specs.Records.{tagOk, storedOk, hasPayload, scalarOk, recordOk}
 use Rattle.value.specs.Walk.{_>>=_, past, next, children, onward, walk}
 use Rattle.value.specs.declared.TablePos.{TablePos}
 use Rattle.value.specs.declared.Walked.{Walked}
@@ -198,14 +199,14 @@ module _ (table store : List ℕ) (bs : Bytes table) (short : length store < 2 ^
           none false = refl
 
       scalar-is : (f : Form) → form (r .kind) ≡ f → Scalar f
-      unfolding scalarAt scalarOk storedOk _and_ forgot headOf valueKind sizeOf contentOf
+      unfolding scalarAt scalarAlone hasPayload scalarOk storedOk pick _and_ forgot headOf valueKind sizeOf contentOf
       scalar-is empty e = record {
         size = 0;
         content = 0;
         size-fits = omega arith;
         content-fits = omega arith;
         each = holds {a = nothing} (rw (empty-code (r .kind) e));
-        same = rw (no-more (r .content)) (both _ _ _ _ refl (no-size (ltb (r .content) 1)));
+        same = rw (no-more (r .content), and-right (eqb (r .size) 0 and ltb (r .content) 1)) (both _ _ _ _ refl (no-size (ltb (r .content) 1)));
       }
       scalar-is truth e = record {
         size = 0;
@@ -213,15 +214,15 @@ module _ (table store : List ℕ) (bs : Bytes table) (short : length store < 2 ^
         size-fits = omega arith;
         content-fits = bit-lt (ltb 0 (r .content));
         each = holds {a = boolean (ltb 0 (r .content))} (rw (truth-code (r .kind) e));
-        same = rw (bit-test (r .content)) (both _ _ _ _ refl (no-size (ltb (r .content) 2)));
+        same = rw (bit-test (r .content), and-right (eqb (r .size) 0 and ltb (r .content) 2)) (both _ _ _ _ refl (no-size (ltb (r .content) 2)));
       }
       scalar-is (fixed w) e = record {
         size = 0;
         content = r .content;
         size-fits = omega arith;
         content-fits = content-lt (p .at);
-        each = when _ (λ t. holds {a = number (r .kind) (r .content)} refl);
-        same = rw (eq-eqb (r .content) (r .content) refl, and-right (eqb (r .size) 0)) (nested (eqb (r .size) 0) (ltb (r .content) (256 ^ w)) _ _ ∙ both _ _ _ _ refl (no-size (ltb (r .content) (256 ^ w))));
+        each = when {x = Whole (number (r .kind) (r .content)) (rule.next table store p)} (ltb (r .content) (256 ^ w)) (λ t. holds {a = number (r .kind) (r .content)} refl);
+        same = rw (eq-eqb (r .content) (r .content) refl, and-right (eqb (r .size) 0), and-right (eqb (r .size) 0 and ltb (r .content) (256 ^ w))) (nested (eqb (r .size) 0) (ltb (r .content) (256 ^ w)) _ _ ∙ both _ _ _ _ refl (no-size (ltb (r .content) (256 ^ w))));
       }
       scalar-is (raw w) e = record {
         size = w;
@@ -294,13 +295,13 @@ module _ (table store : List ℕ) (bs : Bytes table) (short : length store < 2 ^
       -- one with children: size and content are tested, and its children follow
       parent-node : {A : Type 0} (s : ℕ) (x : Parsed A) (f : A → Value) → s < 256 ^ 4 → 15 ≤ r .kind → nodeValue table store (valueAt table store d) (kindOf (r .kind)) r p ≡ rule._>>=_ x (λ z. Whole (f (z .0)) (z .1)) →
           Holds (λ a q. headOf (f a) (tagFor b (p .at)) (p .from) ≡ valueRecord (r .kind) (tagFor b (p .at)) s 0) x →
-          pick (eqb (r .size) s and eqb (r .content) 0) (forgot x) Broken ≡ pick (parentOk (r .kind) (r .size) (r .content)) (children (walk table (length store) d (ltb (r .kind) 17)) (r .size) (next (spot p))) Broken → Node
+          pick (eqb (r .size) s and eqb (r .content) 0) (forgot x) Broken ≡ pick (parentAlone (r .kind) (r .size) (r .content)) (children (walk table (length store) d (ltb (r .kind) 17)) (r .size) (next (spot p))) Broken → Node
       unfolding Node recordOk onward pick
       parent-node s x f l h e each same = rw (e, le-ltb (r .kind) 15 h)
           (heads s 0 l (omega arith) (rule._>>=_ x (λ z. Whole (f (z .0)) (z .1))) (then each (λ z g. holds {a = f (z .0)} g)) ∙ under _ _ _ _ _ (under _ _ _ _ _ (rw (wraps x f) same)))
 
       variant-node : r .kind ≡ 15 → Node
-      unfolding nodeValue kindOf parentOk pick _and_ headOf valueKind sizeOf contentOf
+      unfolding nodeValue kindOf parentAlone pick _and_ headOf valueKind sizeOf contentOf
       variant-node k =
           let t = tagAt table store (p .at + 1) in
           let q = rule.next table store p in
@@ -312,7 +313,7 @@ module _ (table store : List ℕ) (bs : Bytes table) (short : length store < 2 ^
           each rule.Broken = fails
 
       repeated-node : r .kind ≡ 16 → Node
-      unfolding nodeValue kindOf parentOk pick _and_ headOf valueKind sizeOf contentOf
+      unfolding nodeValue kindOf parentAlone pick _and_ headOf valueKind sizeOf contentOf
       repeated-node k =
           let q = rule.next table store p in
           parent-node (r .size) (itemsAt table store (valueAt table store d) (r .size) q) repeated (size-lt (p .at)) (omega (arith, k)) (rw k) (each _ (items-count (r .size) q))
@@ -323,7 +324,7 @@ module _ (table store : List ℕ) (bs : Bytes table) (short : length store < 2 ^
           each rule.Broken h = fails
 
       tuple-node : r .kind ≡ 17 → Node
-      unfolding nodeValue kindOf parentOk pick _and_ headOf valueKind sizeOf contentOf
+      unfolding nodeValue kindOf parentAlone pick _and_ headOf valueKind sizeOf contentOf
       tuple-node k =
           let q = rule.next table store p in
           parent-node (r .size) (valuesAt table store (valueAt table store d) (r .size) q) tuple (size-lt (p .at)) (omega (arith, k)) (rw k) (each _ (values-count (r .size) q))
@@ -334,7 +335,7 @@ module _ (table store : List ℕ) (bs : Bytes table) (short : length store < 2 ^
           each rule.Broken h = fails
 
       other-node : 17 < r .kind → Node
-      unfolding rule._>>=_ nodeValue kindOf parentOk pick _and_ forgot
+      unfolding rule._>>=_ nodeValue kindOf parentAlone pick _and_ forgot
       other-node h = parent-node 0 rule.Broken (λ (v : Value). v) (omega arith) (omega arith)
           (rw (le-ltb (r .kind) 15 (omega arith), ne-eqb (r .kind) 15 (λ e. omega arith), ne-eqb (r .kind) 16 (λ e. omega arith), ne-eqb (r .kind) 17 (λ e. omega arith)))
           fails

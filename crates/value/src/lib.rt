@@ -6,7 +6,8 @@ ghost use lib.Dec.{ltb};
 ghost use Rattle.rules.specs.Wire.{form};
 ghost use Rattle.rules.specs.Refusals.{BadValueTable};
 ghost use Rattle.rules.specs.ValueCheck.{tableForm, valueTableRule};
-ghost use Rattle.value.specs.Records.{tagOk, storedOk, scalarOk, parentOk, recordOk};
+ghost use Rattle.rules.specs.Query.{scalarAlone, parentAlone, recordAlone};
+ghost use Rattle.value.specs.Records.{tagOk, storedOk, hasPayload, scalarOk, recordOk};
 ghost use Rattle.value.specs.Walk.{children, walk};
 use record::value::records_in;
 use record::value::value_record_at;
@@ -77,19 +78,16 @@ fn stored_ok(size: u64, content: u64, from: usize, store: usize) -> bool
 }
 
 // A blob has any length, int128 and int256 have their own, and all else is in the record.
-fn scalar_ok(kind: u8, size: u64, content: u64, from: usize, store: usize) -> bool
-    requires { ⌜ (kind < 15) × (from ≤ store) ⌝ }
-    ensures { λ b. ⌜ b ≡ scalarOk (form kind) size content from store ⌝ }
+fn scalar_alone(kind: u8, size: u64, content: u64) -> bool
+    requires { ⌜ kind < 15 ⌝ }
+    ensures { λ b. ⌜ b ≡ scalarAlone (form kind) size content ⌝ }
 {
     if 12 < kind {
-        return stored_ok(size, content, from, store);
+        return true;
     }
     let width = fixed_width(kind);
     if 8 < width {
-        if size != width as u64 {
-            return false;
-        }
-        return stored_ok(size, content, from, store);
+        return size == width as u64;
     }
     if size != 0 {
         return false;
@@ -100,10 +98,34 @@ fn scalar_ok(kind: u8, size: u64, content: u64, from: usize, store: usize) -> bo
     fits(content, width)
 }
 
+// Blobs, and what is wider than the record's eight bytes.
+fn has_payload(kind: u8) -> bool
+    requires { ⌜ kind < 15 ⌝ }
+    ensures { λ b. ⌜ b ≡ hasPayload (form kind) ⌝ }
+{
+    if 12 < kind {
+        return true;
+    }
+    8 < fixed_width(kind)
+}
+
+fn scalar_ok(kind: u8, size: u64, content: u64, from: usize, store: usize) -> bool
+    requires { ⌜ (kind < 15) × (from ≤ store) ⌝ }
+    ensures { λ b. ⌜ b ≡ scalarOk (form kind) size content from store ⌝ }
+{
+    if !scalar_alone(kind, size, content) {
+        return false;
+    }
+    if !has_payload(kind) {
+        return true;
+    }
+    stored_ok(size, content, from, store)
+}
+
 // A variant has one child, the other two any number.
-fn parent_ok(kind: u8, size: u64, content: u64) -> bool
+fn parent_alone(kind: u8, size: u64, content: u64) -> bool
     requires { ⌜ 15 ≤ kind ⌝ }
-    ensures { λ b. ⌜ b ≡ parentOk kind size content ⌝ }
+    ensures { λ b. ⌜ b ≡ parentAlone kind size content ⌝ }
 {
     if 17 < kind {
         return false;
@@ -115,6 +137,21 @@ fn parent_ok(kind: u8, size: u64, content: u64) -> bool
         return size == 1;
     }
     true
+}
+
+// What a record says is right as far as it can be judged alone.
+pub fn record_alone(r: ValueRecord) -> bool
+    ensures { λ b. ⌜ b ≡ recordAlone r ⌝ }
+{
+    let spare = r.spare;
+    if spare != 0 {
+        return false;
+    }
+    let kind = r.kind;
+    if kind < 15 {
+        return scalar_alone(kind, r.size, r.content);
+    }
+    parent_alone(kind, r.size, r.content)
 }
 
 // What a record says is right where it stands, but for its children.
@@ -133,7 +170,7 @@ fn record_ok(r: ValueRecord, tagged: bool, from: usize, store: usize) -> bool
     if kind < 15 {
         return scalar_ok(kind, r.size, r.content, from, store);
     }
-    parent_ok(kind, r.size, r.content)
+    parent_alone(kind, r.size, r.content)
 }
 
 // ---- a value

@@ -23,12 +23,12 @@ returns-3 : tie.Need-returns-3
 unfolding recordOk pick _and_
 returns-3 c = rw (eq-eqb _ _ (c .before .before .before .before .if1 .left), ← c .before .before .before .tag-ok .ensures, not-false (c .before .before .before .tag-ok .result) (c .before .before .if2 .left), lt-ltb _ _ (c .before .if3 .taken)) (c .scalar-ok .ensures)
 
-parent-ok-requires : tie.Need-parent-ok-requires
-parent-ok-requires c κs = search needs
+parent-alone-requires : tie.Need-parent-alone-requires
+parent-alone-requires c κs = search needs
 
 returns-4 : tie.Need-returns-4
 unfolding recordOk pick _and_
-returns-4 c = rw (eq-eqb _ _ (c .before .before .before .before .if1 .left), ← c .before .before .before .tag-ok .ensures, not-false (c .before .before .before .tag-ok .result) (c .before .before .if2 .left), le-ltb _ _ (c .before .if3 .left)) (c .parent-ok .ensures)
+returns-4 c = rw (eq-eqb _ _ (c .before .before .before .before .if1 .left), ← c .before .before .before .tag-ok .ensures, not-false (c .before .before .before .tag-ok .result) (c .before .before .if2 .left), le-ltb _ _ (c .before .if3 .left)) (c .parent-alone .ensures)
 
 pub record-ok-spec : {M : Type 1} → statement M
-record-ok-spec = tie.close (tie.spec returns tag-ok-requires returns-2 scalar-ok-requires returns-3 parent-ok-requires returns-4)
+record-ok-spec = tie.close (tie.spec returns tag-ok-requires returns-2 scalar-ok-requires returns-3 parent-alone-requires returns-4)
