@@ -1,6 +1,6 @@
 -- The listing of a delivery of one inline table: a line for each value record of its rows, and a last line.
 -- Assumes nothing: these are definitions.
-use Prim.Native.Nat.{ℕ, zero, suc, _+_, _-_, _*_, _/_, _%_, _^_}
+use Prim.Native.Nat.{ℕ, zero, suc, _+_, _-_, _/_, _%_}
 use Prim.Native.String.{String}
 use mathlib.Core.List.{List, [], _∷_, _++_}
 use mathlib.Core.Bool.{Bool}
@@ -17,6 +17,7 @@ use Rattle.rules.specs.Format.{Format}
 use Rattle.rules.specs.Value.{Value, nothing, boolean, number, wide, blob, variant, repeated, tuple, Items, done, item, Values, none, more, items, values}
 use Rattle.rules.specs.ValueRecord.{valueRecordStart}
 use Rattle.rules.specs.ValueTable.{bit, valueKind}
+use Rattle.rules.specs.Query.{signed}
 use Rattle.rules.specs.Walk.{Answer, Got, Refused}
 use Rattle.rules.specs.Reading.{defaults, limits, door, through, rowAt, extent, roomFor}
 use Rattle.rules.specs.Rows.{oneTable, B}
@@ -57,10 +58,6 @@ parentWords = ascii "variant" ∷ ascii "repeated_variant" ∷ ascii "tuple" ∷
 
 unfoldable pub kindWord : ℕ → List ℕ
 kindWord kind = pick (ltb kind 15) (codeWord kind) (getD parentWords (kind - 15) [])
-
--- the number that w bytes hold in two's complement
-unfoldable pub signed : ℕ → ℕ → ℤ
-signed w x = pick (ltb (2 * x) (256 ^ w)) (pos x) (negsuc (256 ^ w - (x + 1)))
 
 -- the bits of a kind: int8 to int64, uint8 to uint64, double
 unfoldable pub numberText : ℕ → ℕ → List ℕ
@@ -142,23 +139,26 @@ rowPiece n at (Refused r) = last-piece (refusalLine r)
 unfoldable pub pieceAt : Format → List ℕ → ℕ → ℕ → Piece
 pieceAt f inp n at = through (door f defaults inp at) (λ r. last-piece (refusalLine r)) (last-piece (endLine n at)) (rowPiece n at (rowAt f inp (limits defaults) at))
 
+-- a file has at most 65,536 bytes
+unfoldable pub filesOk : List ℕ → List ℕ → List ℕ → Bool
+filesOk schema names stream = leb (length schema) 65536 and leb (length names) 65536 and leb (length stream) 65536
+
+-- the piece of three files at a position of the stream, after n rows
+unfoldable pub filesPiece : List ℕ → List ℕ → List ℕ → ℕ → ℕ → Piece
+filesPiece schema names stream n at = pick (filesOk schema names stream) (pieceAt (oneTable (records schema) schema names) stream n at) (last-piece (refusalLine Setting))
+
 unfoldable pub andThen : (ℕ → List (List ℕ)) → ℕ → Piece → List (List ℕ)
 andThen rest at (row-piece text bytes) = text ∷ rest (at + bytes)
 andThen rest at (last-piece text) = text ∷ []
 
 -- each row has at least its tag's two bytes, so as many pieces as there are bytes left, and one more, are enough
-unfoldable pub piecesFrom : Format → List ℕ → ℕ → ℕ → ℕ → List (List ℕ)
-piecesFrom f inp zero n at = []
-piecesFrom f inp (suc enough) n at = andThen (piecesFrom f inp enough (n + 1)) at (pieceAt f inp n at)
-
--- a file has at most 65,536 bytes
-unfoldable pub filesOk : List ℕ → List ℕ → List ℕ → Bool
-filesOk schema names stream = leb (length schema) 65536 and leb (length names) 65536 and leb (length stream) 65536
+unfoldable pub piecesFrom : List ℕ → List ℕ → List ℕ → ℕ → ℕ → ℕ → List (List ℕ)
+piecesFrom schema names stream zero n at = []
+piecesFrom schema names stream (suc enough) n at = andThen (piecesFrom schema names stream enough (n + 1)) at (filesPiece schema names stream n at)
 
 -- the texts that three files are told in, one after another
 unfoldable pub pieces : List ℕ → List ℕ → List ℕ → List (List ℕ)
-pieces schema names stream =
-    pick (filesOk schema names stream) (piecesFrom (oneTable (records schema) schema names) stream (suc (length stream)) 0 0) (refusalLine Setting ∷ [])
+pieces schema names stream = piecesFrom schema names stream (suc (length stream)) 0 0
 
 unfoldable pub joined : List (List ℕ) → List ℕ
 joined [] = []
