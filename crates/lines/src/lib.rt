@@ -180,7 +180,7 @@ fn put_standing(buffer: &mut [u8], at: usize, place: u64, rows: u64, bytes: u64)
 }
 
 // The line of a run that came to the stream's end.
-fn put_end_line(buffer: &mut [u8], rows: u64, bytes: u64) -> usize
+pub fn put_end_line(buffer: &mut [u8], rows: u64, bytes: u64) -> usize
     requires { ⌜ 64 ≤ length (now buffer) ⌝ }
     ensures { λ r. ⌜ TextPut (now (buffer .entry)) 0 (endLine rows bytes) (now (buffer .exit)) r ⌝ }
     ensures { λ r. ⌜ r ≤ 64 ⌝ }

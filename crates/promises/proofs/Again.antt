@@ -78,9 +78,9 @@ module _ (f : Format) (s : Settings) (inp : List ℕ) (at : ℕ) (e : Extent) (v
       let p : part inp at (e .bytes) ≡ b = ap (part inp at) (bytes-are ∙ sym l) ∙ stands-part inp at b st in
       let i : place + length b ≤ length out = omega (arith, fits, bytes-are, l) in (
         λ h.
-        let y : over out place (encodedRow (schemaOf f 0) v) ≡ over out place b = sym o ∙ (h ∙ ap (over out place) p) in
-        let z : encodedRow (schemaOf f 0) v ≡ b = sym (over-part (encodedRow (schemaOf f 0) v) out place (omega (arith, i, l))) ∙ (ap (λ u. part u place (length (encodedRow (schemaOf f 0) v))) y ∙ (ap (part (over out place b) place) (sym l) ∙ over-part b out place i)) in
-        plain-exactly r .0 (sym z ∙ ap (encodedRow (schemaOf f 0)) same),
+            let y : over out place (encodedRow (schemaOf f 0) v) ≡ over out place b = sym o ∙ (h ∙ ap (over out place) p) in
+            let z : encodedRow (schemaOf f 0) v ≡ b = sym (over-part (encodedRow (schemaOf f 0) v) out place (omega (arith, i, l))) ∙ (ap (λ u. part u place (length (encodedRow (schemaOf f 0) v))) y ∙ (ap (part (over out place b) place) (sym l) ∙ over-part b out place i)) in
+            plain-exactly r .0 (sym z ∙ ap (encodedRow (schemaOf f 0)) same),
         λ h. o ∙ ap (over out place) (ap (encodedRow (schemaOf f 0)) same ∙ (sym (plain-exactly r .1 h) ∙ sym p)),
       )
 

@@ -84,7 +84,7 @@ row-table : {n t : ℕ} {schema : ℕ → Schema} {v : Value} {b : List ℕ} →
 row-table (table-row h l r e) = l
 
 -- what is written at the start of a slice is its beginning, and the rest stays
-written-first : (xs s : List ℕ) (n : ℕ) → n ≡ length xs → length xs ≤ length s → (take n (over s 0 xs) ≡ xs) × (drop n (over s 0 xs) ≡ drop n s)
+pub written-first : (xs s : List ℕ) (n : ℕ) → n ≡ length xs → length xs ≤ length s → (take n (over s 0 xs) ≡ xs) × (drop n (over s 0 xs) ≡ drop n s)
 written-first xs s n e h =
     let z : 0 + length xs ≡ length xs = omega arith in
     let o : over s 0 xs ≡ xs ++ drop (length xs) s = rw z at (over-is xs s 0 (omega arith)) in

@@ -61,7 +61,7 @@ fn largest(width: usize) -> u64
 
 // The number that so many bytes are in two's complement. What the largest lacks to it, and one more, is what a negative one lacks to
 // nothing: so the lowest of each width needs no larger type.
-fn signed(x: u64, width: usize) -> i64
+pub fn signed(x: u64, width: usize) -> i64
     requires { ⌜ (width ≤ 8) × (x < 256 ^ width) ⌝ }
     ensures { λ r. ⌜ r ≡ rule.signed width x ⌝ }
 {

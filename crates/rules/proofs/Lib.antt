@@ -6,3 +6,4 @@ pub mod Over
 pub mod Stands
 pub mod Codes
 pub mod Answers
+pub mod Listing

@@ -25,3 +25,4 @@ pub mod Writing
 pub mod Lines
 pub mod RoundTrip
 pub mod Rows
+pub mod Listing

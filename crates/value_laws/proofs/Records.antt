@@ -185,7 +185,7 @@ module _ (table : List ℕ) where
       stands-both table (valueRecordStart i) (layout r) (layouts rs) (h .0) (rw e (shows-stand (i + 1) rs (omega (arith, record-in table i r (h .0))) (h .1)))
 
   -- and where their bytes stand, they are
-  stand-shows : (i : ℕ) (rs : List ValueRecord) → Stands table (valueRecordStart i) (layouts rs) → Shows table i rs
+  pub stand-shows : (i : ℕ) (rs : List ValueRecord) → Stands table (valueRecordStart i) (layouts rs) → Shows table i rs
   unfolding Shows layouts RecordIs
   stand-shows i [] h = tt
   stand-shows i (r ∷ rs) h =

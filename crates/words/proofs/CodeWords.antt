@@ -10,6 +10,7 @@ use Rattle.rules.specs.Choice.{pick}
 use Rattle.rules.specs.Wire.{wireTypes}
 use Rattle.rules.specs.declared.wire_type.WireType.{WireType}
 use Rattle.rules.specs.Lines.{codeWords, codeWord, contextWords, contextWord}
+use Rattle.rules.specs.Listing.{parentWords, kindWord}
 
 past-codes : (ts : List WireType) (code : ℕ) → length ts ≤ code → codeWords ts code ≡ []
 unfolding codeWords
@@ -36,3 +37,20 @@ namedContext i = getD contextWords i []
 pub table-context-word : (c : ℕ) → 13 ≤ c → contextWord c ≡ namedContext (c - 13)
 unfolding contextWord pick
 table-context-word c h = rw (le-ltb c 13 h)
+
+-- ---- kinds, from 15 on by the table of those with children
+
+pub scalar-kind-word : (k : ℕ) → k < 15 → kindWord k ≡ codeWord k
+unfolding kindWord pick
+scalar-kind-word k h = rw (lt-ltb k 15 h)
+
+pub no-kind-word : (k : ℕ) → 18 ≤ k → kindWord k ≡ []
+unfolding kindWord parentWords pick
+no-kind-word k h = rw (le-ltb k 15 (omega arith)) (List·getD-eq-default {A = List ℕ} parentWords [] {n = k - 15} (omega arith))
+
+abbrev pub namedParent : ℕ → List ℕ
+namedParent i = getD parentWords i []
+
+pub table-kind-word : (k : ℕ) → 15 ≤ k → kindWord k ≡ namedParent (k - 15)
+unfolding kindWord pick
+table-kind-word k h = rw (le-ltb k 15 h)

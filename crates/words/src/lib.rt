@@ -4,6 +4,7 @@ ghost use mathlib.Core.Path.{_≡_};
 ghost use lib.ListN.{length};
 ghost use Rattle.rules.specs.Bytes.{part};
 ghost use Rattle.rules.specs.Lines.{word, codeWord, contextWord, labelled, wordOf};
+ghost use Rattle.rules.specs.Listing.{kindWord};
 use rules::Label;
 
 // The word of a table at an index.
@@ -70,6 +71,24 @@ fn context_word(context: u64) -> [u8; 20]
           variant16-tag       \
           table-tag           ",
         (context - 13) as usize,
+    )
+}
+
+// The name of a value record's kind. A scalar's and a blob's is its wire type's.
+pub fn kind_word(kind: u8) -> [u8; 20]
+    ensures { λ r. ⌜ (word r ≡ kindWord kind) × (length r ≡ 20) ⌝ }
+{
+    if kind < 15 {
+        return code_word(kind as u64);
+    }
+    if 18 <= kind {
+        return *b"                    ";
+    }
+    word_at(
+        b"variant             \
+          repeated_variant    \
+          tuple               ",
+        (kind - 15) as usize,
     )
 }
 

@@ -1,0 +1,3 @@
+pub mod Tells
+pub mod Walks
+pub mod FromDecode
