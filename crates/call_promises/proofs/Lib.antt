@@ -3,3 +3,4 @@ pub mod Steps
 pub mod Host
 pub mod Charge
 pub mod Demand3
+pub mod Listing

@@ -36,7 +36,7 @@ slice-write-buffer c = search needs
 
 -- src/lib.rt:54:28
 hex-digit-requires-2 : tie.Need-hex-digit-requires-2 Inv-loop μ-loop
-hex-digit-requires-2 c κs = search needs
+hex-digit-requires-2 c κs = omega (arith, c .before .shared-slice-known2 .given (c .before .before .before .before .before .before .args .from + c .before .before .before .loop .k))
 
 -- src/lib.rt:54:16
 add-buffer : tie.Need-add-buffer Inv-loop μ-loop
