@@ -25,6 +25,7 @@ use Rattle.rules.specs.Windows.{movedAnswer, WasCut, goesOn, continued, added, 
 use Rattle.rules.specs.Writing.{encodeRule, encodeFrom}
 use Rattle.rules.specs.RoundTrip.{EncodeAsked, Encodable, encodedInto, EncodeRefuses, SkipAsked, HasRoom, decodedAs, PlainRow}
 use Rattle.rules.specs.Rows.{outcome, lines, outcomes}
+use Rattle.rules.specs.Listing.{joined, exampleListing, exampleLines}
 use Rattle.rules.specs.declared.settings.Settings.{Settings}
 use Rattle.rules.specs.declared.refusal.Refusal.{Refusal}
 use Rattle.rules.specs.declared.table_record.Located.the-variants.{Block}
@@ -35,6 +36,7 @@ use Rattle.rules.specs.declared.answer.Read.{Read}
 use Rattle.rules.specs.declared.answer.Stop.{Stop}
 use Rattle.rules.specs.declared.answer.Written.{Written}
 use Rattle.rules.proofs.Rows.{rows-hold}
+use Rattle.rules.proofs.Listing.{listing-holds}
 use Rattle.rules.proofs.Answers.{check-number}
 use Rattle.block_laws.proofs.Form.{formed}
 use Rattle.block_laws.proofs.Levels.{block-denotes, deep-shallow}
@@ -70,6 +72,10 @@ use Rattle.value_laws.proofs.Subtrees as subtrees
 -- ---- the document's own examples: its table of rows, computed on the rules of the whole calls
 pub the-documents-rows : map outcome lines ≡ outcomes
 the-documents-rows = rows-hold
+
+-- its example of a listing, computed on the rule of the three files
+pub the-documents-listing : exampleListing ≡ joined exampleLines
+the-documents-listing = listing-holds
 
 -- ---- answers: number, place and values fix each
 pub refusal-by-numbers : (r r′ : Refusal) → said r ≡ said r′ → r ≡ r′

@@ -1,3 +1,5 @@
+-- Those of a sixteenth, and then the last.
+-- Assumes nothing.
 use Prim.Native.Nat.{ℕ, _<_}
 use native.Mathlib.Omega.{arith}
 use borrow.Author.Needs.{needs}
@@ -30,7 +32,6 @@ put-hex-number-below t =
     (falls 1 put-hex-number-kinds.ps _<_ μ-put-hex-number t)
     put-hex-number.Pre
 
--- src/lib.rt:80:9
 put-hex-number-returns : (t : ℕ) → put-hex-number-lts.Need-returns (
   put-hex-number-below t,
   put-hex-number.Post,
@@ -39,7 +40,6 @@ put-hex-number-returns : (t : ℕ) → put-hex-number-lts.Need-returns (
 ) (put-hex-number-at t) put-hex-number.Post
 put-hex-number-returns t c = (put-no-digits _ _ _ _ (c .if1 .taken), omega (arith, c .if1 .taken))
 
--- src/lib.rt:82:43
 put-hex-number-sub-put-hex-number : (t : ℕ) → put-hex-number-lts.Need-sub-put-hex-number (
   put-hex-number-below t,
   put-hex-number.Post,
@@ -48,7 +48,6 @@ put-hex-number-sub-put-hex-number : (t : ℕ) → put-hex-number-lts.Need-sub-pu
 ) (put-hex-number-at t) put-hex-number.Post
 put-hex-number-sub-put-hex-number t c = search needs
 
--- src/lib.rt:82:9
 put-hex-number-put-hex-number-requires : (t : ℕ) → put-hex-number-lts.Need-put-hex-number-requires (
   put-hex-number-below t,
   put-hex-number.Post,
@@ -57,7 +56,6 @@ put-hex-number-put-hex-number-requires : (t : ℕ) → put-hex-number-lts.Need-p
 ) (put-hex-number-at t) put-hex-number.Post
 put-hex-number-put-hex-number-requires t c κs = search needs
 
--- src/lib.rt:83:30
 put-hex-number-cast-hex-digit : (t : ℕ) → put-hex-number-lts.Need-cast-hex-digit (
   put-hex-number-below t,
   put-hex-number.Post,
@@ -66,7 +64,6 @@ put-hex-number-cast-hex-digit : (t : ℕ) → put-hex-number-lts.Need-cast-hex-d
 ) (put-hex-number-at t) put-hex-number.Post
 put-hex-number-cast-hex-digit t c = search needs
 
--- src/lib.rt:83:20
 put-hex-number-hex-digit-requires : (t : ℕ) → put-hex-number-lts.Need-hex-digit-requires (
   put-hex-number-below t,
   put-hex-number.Post,
@@ -75,7 +72,6 @@ put-hex-number-hex-digit-requires : (t : ℕ) → put-hex-number-lts.Need-hex-di
 ) (put-hex-number-at t) put-hex-number.Post
 put-hex-number-hex-digit-requires t c κs = search needs
 
--- src/lib.rt:83:5
 put-hex-number-slice-write-buffer : (t : ℕ) → put-hex-number-lts.Need-slice-write-buffer (
   put-hex-number-below t,
   put-hex-number.Post,
@@ -84,7 +80,6 @@ put-hex-number-slice-write-buffer : (t : ℕ) → put-hex-number-lts.Need-slice-
 ) (put-hex-number-at t) put-hex-number.Post
 put-hex-number-slice-write-buffer t c = search needs
 
--- src/lib.rt:84:5
 put-hex-number-add-result : (t : ℕ) → put-hex-number-lts.Need-add-result (
   put-hex-number-below t,
   put-hex-number.Post,
@@ -93,7 +88,6 @@ put-hex-number-add-result : (t : ℕ) → put-hex-number-lts.Need-add-result (
 ) (put-hex-number-at t) put-hex-number.Post
 put-hex-number-add-result t c = search needs
 
--- src/lib.rt:74:1
 put-hex-number-same-length : (t : ℕ) → put-hex-number-lts.Need-same-length (
   put-hex-number-below t,
   put-hex-number.Post,
@@ -102,7 +96,6 @@ put-hex-number-same-length : (t : ℕ) → put-hex-number-lts.Need-same-length (
 ) (put-hex-number-at t) put-hex-number.Post
 put-hex-number-same-length t c = search needs
 
--- src/lib.rt:74:1
 put-hex-number-returns-2 : (t : ℕ) → put-hex-number-lts.Need-returns-2 (
   put-hex-number-below t,
   put-hex-number.Post,

@@ -1,40 +1,31 @@
+-- By the count.
+-- Assumes nothing.
 use native.Mathlib.Omega.{arith}
 use borrow.Author.Needs.{needs}
 use Rattle.rules.specs.Names.{ascii}
 use Rattle.texts.proofs.Putting.{put-no-bytes, put-some-bytes}
 use Rattle.texts.proofs.put_hex_bytes.Statement.{statement}
 use Rattle.texts.proofs.put_hex_bytes.Tie as tie
-use Rattle.texts.proofs.put_hex_bytes.Reads as reads
-use Rattle.texts.proofs.put_hex_bytes.Lts as lts
-use Rattle.lines.proofs.put_text.Reads as put-text-reads
-use Rattle.texts.proofs.put_hex.Reads as put-hex-reads
 
--- src/lib.rt:79:37
 slice-aggregate-put-text : tie.Need-slice-aggregate-put-text
 slice-aggregate-put-text c = search needs
 
--- src/lib.rt:79:9
 put-text-requires : tie.Need-put-text-requires
 put-text-requires c κs = search needs
 
--- src/lib.rt:79:9
 same-length : tie.Need-same-length
 same-length c = search needs
 
--- src/lib.rt:79:9
 returns : tie.Need-returns
 unfolding ascii
 returns c = (put-no-bytes _ _ _ _ _ _ _ (c .before .before .before .before .before .if1 .taken) (c .before .before .put-text .ensures), omega (arith, c .before .before .put-text .ensures .ends))
 
--- src/lib.rt:81:5
 put-hex-requires : tie.Need-put-hex-requires
 put-hex-requires c κs = search needs
 
--- src/lib.rt:73:1
 same-length-2 : tie.Need-same-length-2
 same-length-2 c = search needs
 
--- src/lib.rt:73:1
 returns-2 : tie.Need-returns-2
 returns-2 c = (put-some-bytes _ _ _ _ _ _ _ (c .before .before .before .before .if1 .left) (c .before .before .put-hex .ensures .0), omega (arith, c .before .before .put-hex .ensures .1))
 
