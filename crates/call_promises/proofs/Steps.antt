@@ -75,13 +75,18 @@ use Rattle.wire.proofs.store.put64 as put64
 use Rattle.record.proofs.value.put_record as put-record
 use Rattle.payload.proofs.copy as copy
 use Rattle.record.proofs.value.whole_records as whole-records
+use Rattle.block.proofs.validation.level_rule as level-rule
+use Rattle.value.proofs.record_ok as record-ok
 use Rattle.value.proofs.table_form as table-form
 use Rattle.fill.proofs.fill_row as fill-row
 use Rattle.decode.proofs.steps.fill_at as fill-at
 use Rattle.decode.proofs.steps.decode_row as decode-row
+use Rattle.write.proofs.judge.judge_leaf as judge-leaf
+use Rattle.write.proofs.judge.next_child as next-judged-child
 use Rattle.write.proofs.judge.judge_row as judge-row
 use Rattle.write.proofs.put.put_row as put-row
 use Rattle.write.proofs.row.room_for as room-for-row
+use Rattle.write.proofs.row.place_row as place-row
 use Rattle.write.proofs.row.write_row as write-row
 use Rattle.wire.proofs.codes.tag_width as tag-width
 use Rattle.windows.proofs.run_on as run-on
@@ -91,6 +96,7 @@ use Rattle.lines.proofs.put_text as put-text
 use Rattle.lines.proofs.put_decimal as put-decimal
 use Rattle.lines.proofs.put_number as put-number
 use Rattle.lines.proofs.put_word as put-word
+use Rattle.lines.proofs.put_end_line as put-end-line
 use Rattle.lines.proofs.put_run_line as put-run-line
 use Rattle.failures.proofs.put_failure_line as put-failure-line
 use Rattle.failures.proofs.put_usage_line as put-usage-line
@@ -318,6 +324,15 @@ pub give-one-answer : OneOutcome give.Kinds.ps give.Kinds.r (λ κs (s, _). s .n
 give-one-answer κs a x y s t p q = (p .0 ∙ sym (q .0), rw (p .1, q .1))
 
 -- ---- rows that are written
+pub record-ok-one-answer : OneAnswer record-ok.Kinds.ps record-ok.Kinds.r record-ok.Reads.Post
+record-ok-one-answer κs a x y s t p q = p ∙ sym q
+
+pub judge-leaf-one-answer : OneAnswer judge-leaf.Kinds.ps judge-leaf.Kinds.r judge-leaf.Reads.Post
+judge-leaf-one-answer κs a x y s t p q = p ∙ sym q
+
+pub next-judged-child-one-answer : OneAnswer next-judged-child.Kinds.ps next-judged-child.Kinds.r next-judged-child.Reads.Post
+next-judged-child-one-answer κs a x y s t p q = p ∙ sym q
+
 pub judge-row-one-answer : OneAnswer judge-row.Kinds.ps judge-row.Kinds.r judge-row.Reads.Post
 judge-row-one-answer κs a x y s t p q = p ∙ sym q
 
@@ -327,8 +342,14 @@ room-for-row-one-answer κs a x y s t p q = p ∙ sym q
 pub put-row-one-answer : OneOutcome put-row.Kinds.ps put-row.Kinds.r (λ κs (block, (records, (payload, (out, _)))). out .now ∷ []) put-row.Reads.Post
 put-row-one-answer κs a x y s t p q = (p .0 ∙ sym (q .0), rw (p .1, q .1))
 
+pub place-row-one-answer : OneOutcome place-row.Kinds.ps place-row.Kinds.r (λ κs (block, (settings, (p, (records, (payload, (out, _)))))). out .now ∷ []) place-row.Reads.Post
+place-row-one-answer κs a x y s t p q = (p .0 ∙ sym (q .0), rw (p .1, q .1))
+
 pub write-row-one-answer : OneOutcome write-row.Kinds.ps write-row.Kinds.r (λ κs (block, (settings, (records, (payload, (out, _))))). out .now ∷ []) write-row.Reads.Post
 write-row-one-answer κs a x y s t p q = (p .0 ∙ sym (q .0), rw (p .1, q .1))
+
+pub level-rule-one-answer : OneAnswer level-rule.Kinds.ps level-rule.Kinds.r level-rule.Reads.Post
+level-rule-one-answer κs a x y s t p q = p ∙ sym q
 
 pub tag-width-one-answer : OneAnswer tag-width.Kinds.ps tag-width.Kinds.r tag-width.Reads.Post
 tag-width-one-answer κs a x y s t p q = p ∙ sym q
@@ -355,6 +376,9 @@ put-number-one-answer κs a x y s t p q = (p .0 .ends ∙ sym (q .0 .ends), rw (
 
 pub put-word-one-answer : OneOutcome put-word.Kinds.ps put-word.Kinds.r (λ κs (buffer, _). buffer .now ∷ []) put-word.Reads.Post
 put-word-one-answer κs a x y s t p q = (p .0 .ends ∙ sym (q .0 .ends), rw (p .0 .holds, q .0 .holds))
+
+pub put-end-line-one-answer : OneOutcome put-end-line.Kinds.ps put-end-line.Kinds.r (λ κs (buffer, _). buffer .now ∷ []) put-end-line.Reads.Post
+put-end-line-one-answer κs a x y s t p q = (p .0 .ends ∙ sym (q .0 .ends), rw (p .0 .holds, q .0 .holds))
 
 pub put-run-line-one-answer : OneOutcome put-run-line.Kinds.ps put-run-line.Kinds.r (λ κs (buffer, _). buffer .now ∷ []) put-run-line.Reads.Post
 put-run-line-one-answer κs a x y s t p q = (p .0 .ends ∙ sym (q .0 .ends), rw (p .0 .holds, q .0 .holds))
