@@ -13,6 +13,7 @@ pub mod generate;
 #[cfg(feature = "library")]
 pub mod in_process;
 pub mod judge;
+pub mod listing;
 pub mod original;
 pub mod plan;
 pub mod program;

@@ -13,7 +13,8 @@ use std::fmt;
 use oracle::{CodecError, Encoder, Format, Schema, SchemaError, SchemaRef, WireType};
 use plain::answer::number::{BAD_VALUE_TABLE, NO_NODE_ROOM, NO_OUTPUT_ROOM, NO_PAYLOAD_ROOM};
 use plain::decoding::ValueTable;
-use plain::tables::{entries, references, schema_record, Block, Reference, Span};
+use plain::tables::{entries, record_count, references, schema_record, Block, Reference, Span};
+use plain::value_table::{value, Said as Scalar};
 
 use crate::case::{op, Answer, Case};
 use crate::judge::lone_block;
@@ -48,8 +49,8 @@ fn code(wire_type: WireType) -> u64 {
     TYPES.iter().position(|known| *known == wire_type).expect("all twenty are listed") as u64
 }
 
-/// Number and carried values; the table of a row; a run's rows and bytes; what a decoded row is; what was
-/// written of a value, and where it has to stand.
+/// Number and carried values; the table of a row; a run's rows and bytes; what a decoded row is, and each value
+/// in it; what was written of a value, and where it has to stand.
 #[derive(Debug, Clone, PartialEq, Eq)]
 pub struct Said {
     pub number: u64,
@@ -57,12 +58,13 @@ pub struct Said {
     pub values: [u64; 3],
     pub run: Option<[u64; 2]>,
     pub row: Option<ValueTable>,
+    pub scalars: Vec<Scalar>,
     pub wrote: Option<(u64, Vec<u8>)>,
 }
 
 impl Said {
     fn new(number: u64, values: [u64; 3]) -> Self {
-        Self { number, table: None, values, run: None, row: None, wrote: None }
+        Self { number, table: None, values, run: None, row: None, scalars: Vec::new(), wrote: None }
     }
 
     fn accepted() -> Self {
@@ -83,7 +85,7 @@ impl Said {
                     && self.table.is_none_or(|table| table == answer.place)
                     && self.values == answer.values
                     && self.run == answer.run
-                    && row.as_ref().is_none_or(|row| stands_in(row, answer))
+                    && row.as_ref().is_none_or(|row| stands_in(row, answer) && are_told(&self.scalars, row))
                     && self.wrote.as_ref().is_none_or(|(at, bytes)| stands_at(*at, bytes, answer))
             }
         }
@@ -96,6 +98,12 @@ fn stands_in(row: &ValueTable, answer: &Answer) -> bool {
         records.starts_with(&row.records) && payload.starts_with(&row.payload)
     };
     answer.lent.as_ref().is_some_and(begins)
+}
+
+/// The plain reading's value query tells just these values, record by record.
+fn are_told(scalars: &[Scalar], row: &ValueTable) -> bool {
+    let told = (0..record_count(&row.records)).map(|index| value(&row.records, index));
+    told.eq(scalars.iter().map(|scalar| Ok(*scalar)))
 }
 
 /// The output has what was written where it has to stand.

@@ -1,7 +1,9 @@
-//! The program under test: cases in on stdin, an answer line for each out on stdout.
+//! The program under test: cases in on stdin, an answer line for each out on stdout; or one that reads the
+//! files of a folder.
 
 use std::io::{self, Read, Write};
-use std::process::{Command, ExitStatus, Stdio};
+use std::path::Path;
+use std::process::{Command, ExitStatus, Output, Stdio};
 use std::thread;
 
 use crate::case::Case;
@@ -46,6 +48,11 @@ impl Program {
         });
         let status = child.wait()?;
         Ok((Ran { lines: lines(&output?), status }, result))
+    }
+
+    /// What the program leaves, run in a folder without any input.
+    pub fn output_in(&self, folder: &Path) -> io::Result<Output> {
+        self.command().current_dir(folder).stdin(Stdio::null()).output()
     }
 
     /// The answers to some cases: none for those that the program left without one.

@@ -123,6 +123,11 @@ fn what_decoding_leaves_in_the_slices() {
 }
 
 #[test]
+fn a_value_without_its_sign() {
+    found("value_loses_its_sign", ONE_COLUMN + 40, &["THE VALUE OF A RECORD IS ANSWERED OTHERWISE"]);
+}
+
+#[test]
 fn values_that_are_decoded() {
     found("boolean_is_its_byte", ONE_COLUMN + 48, &["decode the row", "original: number 0"]);
     found("repeated_counts_its_end", ONE_COLUMN + 48, &["decode the row", "original: number 0"]);

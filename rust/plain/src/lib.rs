@@ -7,7 +7,7 @@
 //! The format side: [`wire_type`], [`tables`], [`forms`], [`depth`], [`rules`] and the calls in
 //! [`format`]. Reading: [`settings`], the [`walk`] over a row, the calls in [`reading`] and
 //! [`decoding`], and the [`report`] that the C functions write. Writing: [`value_table`] and
-//! [`encoding`].
+//! [`encoding`]. What the listing program prints: [`listing`].
 
 pub mod answer;
 pub mod decoding;
@@ -15,6 +15,7 @@ pub mod depth;
 pub mod encoding;
 pub mod format;
 pub mod forms;
+pub mod listing;
 pub mod reading;
 pub mod report;
 pub mod rules;

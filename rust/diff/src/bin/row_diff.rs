@@ -10,8 +10,9 @@ use diff::shrink::shrink;
 
 const USAGE: &str = "\
 usage: row-diff [--count N] [--seed N] [--save FILE]
-  puts N cases (5,000,000 by default) to skiff_skip and skiff_run, and more than N to skiff_decode, and
-  compares the number returned and every byte of the answer slice and of the slices lent. --save writes the smallest differing case found, for schema-diff show";
+  puts N cases (5,000,000 by default) to skiff_skip and skiff_run, more than N to skiff_decode, and every record
+  that was decoded to skiff_value, and compares the number returned and every byte of the answer slice and of the
+  slices lent. --save writes the smallest differing case found, for schema-diff show";
 
 struct Options {
     count: u64,
@@ -92,6 +93,9 @@ fn report(options: &Options, asked: Asked) -> Result<(), String> {
     }
     if !verdict.as_checked {
         println!("  THE CHECK OF THE FORMAT IS ANSWERED OTHERWISE");
+    }
+    if verdict.queried.is_none() {
+        println!("  THE VALUE OF A RECORD IS ANSWERED OTHERWISE");
     }
     if !verdict.expected.is_one() {
         println!("  THE ORIGINAL DIFFERS FROM THE PLAIN READING");

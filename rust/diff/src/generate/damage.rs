@@ -34,7 +34,7 @@ fn other_u32(rng: &mut Rng, value: u32) -> u32 {
     }
 }
 
-fn damage_record(rng: &mut Rng, case: &mut Case) {
+pub fn damage_record(rng: &mut Rng, case: &mut Case) {
     let index = rng.below(case.records.len() / 16);
     let store = case.names.len() as u32;
     let at = index * 16;

@@ -1,6 +1,7 @@
 //! Where cases come from: fixed ones that every run goes through, and random ones that fill it up.
 
 pub mod damage;
+pub mod deliveries;
 pub mod edges;
 pub mod exhaustive;
 pub mod formats;

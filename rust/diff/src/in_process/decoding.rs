@@ -1,9 +1,11 @@
 //! The decoding call: what it leaves in its answer slice and in the two slices that it is lent.
 
 use plain::answer::number::{NO_NODE_ROOM, NO_PAYLOAD_ROOM};
-use plain::report::REPORT_BYTES;
+use plain::report::{what, REPORT_BYTES};
+use plain::tables::RECORD_BYTES;
 use skiff::sys;
 
+use super::values::{self, Queried};
 use super::{filling, given, Asked, Reply, Verdict, LENT_FILLING};
 use crate::case::{op, Case};
 use crate::compare::Expected;
@@ -42,7 +44,13 @@ pub fn verdict(asked: &Asked) -> Verdict {
         NO_NODE_ROOM | NO_PAYLOAD_ROOM => skipped == Reply::expected(&plain_report(case), *answer_size),
         _ => skipped.returned == got.returned && skipped.answer == got.answer,
     };
+    // Of what the library has written; a row, if there was room for its answer.
+    let queried = if report.what == what::ROW && *answer_size >= REPORT_BYTES && got == wanted {
+        values::ask(&after[0][..report.records as usize * RECORD_BYTES], *answer_size)
+    } else {
+        Some(Queried::default())
+    };
     let expected = Expected::with(case, decoded_line(&report, after));
     // Each case is asked as a skip or a run too, and its format checked there.
-    Verdict { expected, as_skipped, as_checked: true, wanted, got }
+    Verdict { expected, as_skipped, as_checked: true, queried, wanted, got }
 }

@@ -1,8 +1,9 @@
-//! The reading calls of the library, linked into this process.
+//! The reading calls of the library and the value query, linked into this process.
 
 pub mod checks;
 pub mod decoding;
 pub mod huge;
+pub mod values;
 
 use std::collections::BTreeSet;
 use std::fmt;
@@ -19,6 +20,7 @@ use crate::generate::{rows, Kind};
 use crate::judge::{line, plain_report};
 use crate::rng::Rng;
 use crate::room::Room;
+use values::Queried;
 
 /// Answer slices come in these lengths, in turn: too short ones, just long enough, and longer ones.
 const ANSWER_SIZES: [usize; 16] = [88, 89, 200, 88, 96, 88, 200, 89, 87, 88, 88, 200, 0, 89, 88, 120];
@@ -140,6 +142,8 @@ pub struct Verdict {
     pub as_skipped: bool,
     /// The library's check of the format answers as the plain reading's.
     pub as_checked: bool,
+    /// What it was asked of a decoded row's values; none where it answers otherwise than the plain reading.
+    pub queried: Option<Queried>,
     pub wanted: Reply,
     pub got: Reply,
 }
@@ -155,11 +159,13 @@ impl Verdict {
         let wanted = Reply::expected(&report, *answer_size);
         let got = Reply::of_library(case.op, case, *answer_size);
         let as_checked = checks::format_is_right(case, *answer_size);
-        Self { expected, as_skipped: true, as_checked, wanted, got }
+        let queried = Some(Queried::default());
+        Self { expected, as_skipped: true, as_checked, queried, wanted, got }
     }
 
     pub fn is_good(&self) -> bool {
-        self.expected.is_one() && self.as_skipped && self.as_checked && self.wanted == self.got
+        let also = self.as_skipped && self.as_checked && self.queried.is_some();
+        self.expected.is_one() && also && self.wanted == self.got
     }
 }
 
@@ -188,11 +194,12 @@ pub enum Stop {
 pub struct Tallies {
     pub reading: Tally,
     pub decoding: Tally,
+    pub queried: Queried,
 }
 
 impl fmt::Display for Tallies {
     fn fmt(&self, formatter: &mut fmt::Formatter<'_>) -> fmt::Result {
-        write!(formatter, "skip and run: {} decode: {}", self.reading, self.decoding)
+        write!(formatter, "skip and run: {} decode: {} {}", self.reading, self.decoding, self.queried)
     }
 }
 
@@ -224,6 +231,7 @@ impl Run {
         let verdict = Verdict::of(&asked);
         if verdict.is_good() {
             tally.add(kind, &verdict.expected);
+            verdict.queried.iter().for_each(|more| self.tallies.queried.add(more));
         } else {
             self.found = Some(asked);
         }

@@ -8,6 +8,7 @@ use oracle::{CodecError, Decoder, Format, Value};
 use plain::answer::context::BLOB_PAYLOAD;
 use plain::answer::number::TRUNCATED;
 use plain::decoding::ValueTable;
+use plain::value_table::{case as told, Said as Scalar};
 use plain::wire_type::NAMES;
 
 use super::{code, format, refused, Said};
@@ -137,7 +138,9 @@ pub fn decode(case: &Case, plain: &Answer) -> Option<Said> {
             let mut flat = ValueTable::default();
             flatten(&row, 0, &mut flat);
             let values = [bytes, flat.records.len() / 16, flat.payload.len()].map(|value| value as u64);
-            Said { table: Some(table as u64), row: Some(flat), ..Said::new(0, values) }
+            let mut scalars = Vec::new();
+            tell(&row, &mut 0, &mut scalars);
+            Said { table: Some(table as u64), row: Some(flat), scalars, ..Said::new(0, values) }
         }
         Err(error) => row_refused(case, error),
     })
@@ -190,6 +193,38 @@ pub fn flatten(value: &Value, tag: u16, flat: &mut ValueTable) {
             put(flat, 17, tag, values.len(), &[]);
             values.iter().for_each(|value| flatten(value, 0, flat));
         }
+    }
+}
+
+/// What the value query has to tell of each node in preorder: the original's own numbers, and where a payload
+/// is stored after all that was before.
+fn tell(value: &Value, stored: &mut u64, scalars: &mut Vec<Scalar>) {
+    let (case, number, length) = match value {
+        Value::Nothing => (told::NOTHING, 0, 0),
+        Value::Boolean(truth) => (told::TRUTH, u64::from(*truth), 0),
+        Value::Int8(number) => (told::SIGNED, i64::from(*number) as u64, 0),
+        Value::Int16(number) => (told::SIGNED, i64::from(*number) as u64, 0),
+        Value::Int32(number) => (told::SIGNED, i64::from(*number) as u64, 0),
+        Value::Int64(number) => (told::SIGNED, *number as u64, 0),
+        Value::Uint8(number) => (told::UNSIGNED, u64::from(*number), 0),
+        Value::Uint16(number) => (told::UNSIGNED, u64::from(*number), 0),
+        Value::Uint32(number) => (told::UNSIGNED, u64::from(*number), 0),
+        Value::Uint64(number) => (told::UNSIGNED, *number, 0),
+        Value::Double(number) => (told::DOUBLE, number.to_bits(), 0),
+        Value::Int128(_) => (told::PAYLOAD, *stored, 16),
+        Value::Int256(_) => (told::PAYLOAD, *stored, 32),
+        Value::Bytes(bytes) | Value::Yson(bytes) => (told::PAYLOAD, *stored, bytes.len() as u64),
+        Value::Variant { .. } => (told::CHILDREN, 1, 0),
+        Value::RepeatedVariants(items) => (told::CHILDREN, items.len() as u64, 0),
+        Value::Tuple(values) => (told::CHILDREN, values.len() as u64, 0),
+    };
+    *stored += length;
+    scalars.push(Scalar { case, number, length });
+    match value {
+        Value::Variant { value, .. } => tell(value, stored, scalars),
+        Value::RepeatedVariants(items) => items.iter().for_each(|item| tell(&item.value, stored, scalars)),
+        Value::Tuple(values) => values.iter().for_each(|value| tell(value, stored, scalars)),
+        _ => {}
     }
 }
 

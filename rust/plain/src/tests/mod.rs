@@ -3,6 +3,7 @@
 mod decoding;
 mod encoding;
 mod format;
+mod listing;
 mod reading;
 
 use crate::tables::Block;

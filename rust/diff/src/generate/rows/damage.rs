@@ -9,28 +9,33 @@ use crate::generate::{damage, formats};
 use crate::rng::Rng;
 
 /// Bytes that tags and lengths turn on.
-const TELLING: [u8; 8] = [0, 1, 2, 3, 0x7F, 0x80, 0xFE, 0xFF];
+pub const TELLING: [u8; 8] = [0, 1, 2, 3, 0x7F, 0x80, 0xFE, 0xFF];
 
-/// A few bytes of the input changed, taken out, put in or moved.
-pub fn changed(rng: &mut Rng) -> Case {
-    let (mut case, stream) = good(rng);
+/// A few bytes changed, taken out, put in or moved.
+pub fn change(rng: &mut Rng, input: &mut Vec<u8>) {
     for _ in 0..rng.between(1, 3) {
-        if case.input.is_empty() {
-            case.input.push(rng.byte());
+        if input.is_empty() {
+            input.push(rng.byte());
         }
-        let at = rng.below(case.input.len());
+        let at = rng.below(input.len());
         match rng.below(6) {
-            0 => case.input[at] = rng.byte(),
-            1 => case.input[at] ^= 1 << rng.below(8),
-            2 => case.input[at] = *rng.pick(&TELLING),
-            3 => case.input.insert(at, *rng.pick(&TELLING)),
-            4 => drop(case.input.remove(at)),
+            0 => input[at] = rng.byte(),
+            1 => input[at] ^= 1 << rng.below(8),
+            2 => input[at] = *rng.pick(&TELLING),
+            3 => input.insert(at, *rng.pick(&TELLING)),
+            4 => drop(input.remove(at)),
             _ => {
-                let other = rng.below(case.input.len());
-                case.input.swap(at, other);
+                let other = rng.below(input.len());
+                input.swap(at, other);
             }
         }
     }
+}
+
+/// The input of a good case changed.
+pub fn changed(rng: &mut Rng) -> Case {
+    let (mut case, stream) = good(rng);
+    change(rng, &mut case.input);
     if case.op == op::SKIP && !stream.starts.is_empty() {
         case.a = (*rng.pick(&stream.starts)).min(case.input.len() as u64);
     }

@@ -15,14 +15,17 @@ fn position(number: u64, case: &Case) -> u64 {
     }
 }
 
-/// The call with any room and, where the row is accepted, before it one with room enough. `number` is the
-/// case's own, by which rows and rooms come round.
+/// The call with any room and, where the row is accepted, before it one with room enough; and where that row
+/// stands elsewhere, the row at the start with room enough. `number` is the case's own, by which rows and rooms
+/// come round.
 pub fn calls(number: u64, case: &Case) -> Vec<(Case, Room)> {
-    let decoding = Case { op: op::DECODE, a: position(number, case), ..case.clone() };
+    let at = |a: u64| Case { op: op::DECODE, a, ..case.clone() };
+    let decoding = at(position(number, case));
     // A run's numbers and those of its rooms are not to go in step.
     let turn = number / 2 + number / 168;
-    let roomy = need(&decoding).map(|_| (decoding.clone(), Room::enough(turn)));
-    roomy.into_iter().chain([(decoding, Room::any(turn))]).collect()
+    let roomy = |decoding: &Case| need(decoding).map(|_| (decoding.clone(), Room::enough(turn)));
+    let first = if decoding.a == 0 { None } else { roomy(&at(0)) };
+    first.into_iter().chain(roomy(&decoding)).chain([(decoding, Room::any(turn))]).collect()
 }
 
 /// Just enough, and one byte less or some bytes more of either slice.

@@ -34,7 +34,7 @@ pub struct Taste {
 }
 
 /// Short rows that have a bit of everything.
-const SHORT: Taste = Taste {
+pub const SHORT: Taste = Taste {
     blob_bytes: |rng| match rng.below(20) {
         0 => rng.between(200, 300),
         1..=4 => 0,
