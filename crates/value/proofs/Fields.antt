@@ -1,11 +1,12 @@
 -- What the tests of a record's fields come to, by the ranges that the code tells apart.
 -- Assumes nothing.
-use Prim.Native.Nat.{ℕ, _+_, _-_, _^_, _≤_, _<_}
-use mathlib.Core.Path.{_≡_, refl, sym}
+use Prim.Native.Nat.{ℕ, zero, suc, _+_, _-_, _^_, _≤_, _<_}
+use mathlib.Core.Path.{_≡_, refl, sym, ap, _∙_}
 use mathlib.Core.Bool.{Bool, true, false}
 use mathlib.Core.Logic.{⊎-elim}
 use native.Mathlib.Omega.{arith}
-use borrow.Author.Tests.{eqb-true, ltb-true, leb-true, lt-ltb, le-ltb, ne-eqb}
+use native.Mathlib.Nat.{pow-suc}
+use borrow.Author.Tests.{eqb-true, ltb-true, leb-true, leb-false, lt-ltb, le-ltb, le-leb, ne-eqb}
 use lib.Dec.{ltb, leb, eqb}
 use Rattle.rules.specs.Choice.{pick, _and_, all}
 use Rattle.rules.specs.Wire.{Form, empty, truth, fixed, raw, sized, variant-form, repeated-form, tuple-form, unknown, form, widthOf, wireTypes, typeIn, typeOf, written, writtenIf}
@@ -14,9 +15,15 @@ use Rattle.rules.proofs.Tests.{all-each, and-both}
 use Rattle.rules.proofs.Codes.{every-form}
 use Rattle.wire.proofs.CodeTable.{two}
 use Rattle.rules.specs.Query.{scalarAlone}
-use Rattle.value.specs.Records.{storedOk, hasPayload, scalarOk, recordOk}
+use Rattle.value.specs.Records.{storedOk, ownSize, mostContent, hasPayload, scalarOk, recordOk}
 
 -- ---- scalars
+
+-- a test joined with one that holds
+and-all : (b : Bool) → b and true ≡ b
+unfolding _and_
+and-all true = refl
+and-all false = refl
 
 -- the codes below 13: what is wider than a record's eight bytes is payload, all else a number, the boolean being code 1
 unfoldable heldOk : Form → ℕ → Bool
@@ -91,78 +98,63 @@ pub blob-form : (k : ℕ) → 12 < k → k < 15 → form k ≡ sized
 unfolding wireTypes typeIn typeOf written writtenIf form
 blob-form k h l = ⊎-elim (λ e. rw (← e)) (λ e. rw (← e)) (two 13 k h (omega arith))
 
+-- of the codes below 13 only 6 and 7 have payload
+unfoldable lengthOk : ℕ → Bool
+lengthOk k = pick (eqb k 6) true (pick (eqb k 7) true (eqb (ownSize (form k)) 0))
+
+pub no-length : (k : ℕ) → k < 13 → (k ≡ 6 → ⊥) → (k ≡ 7 → ⊥) → ownSize (form k) ≡ 0
+unfolding lengthOk ownSize pick all _and_ wireTypes typeIn typeOf written writtenIf form
+no-length k h m n = eqb-true _ 0 (rw (ne-eqb k 6 m, ne-eqb k 7 n) at (all-each lengthOk 13 k refl h))
+
+-- below a bound is up to the number before it
+up-to : (x n : ℕ) → ltb x (n + 1) ≡ leb x n
+up-to x n = by (leb x n) refl
+  where
+    by : (b : Bool) → leb x n ≡ b → ltb x (n + 1) ≡ b
+    by true e = lt-ltb x (n + 1) (omega (arith, leb-true x n e))
+    by false e = le-ltb x (n + 1) (omega (arith, leb-false x n e))
+
+power : (w : ℕ) → 0 < 256 ^ w
+power zero = omega arith
+power (suc w) = let h = power w in rw pow-suc (omega (arith, h))
+
 module _ (size content : ℕ) where
-  wide-form : (f : Form) (k : ℕ) → heldOk f k ≡ true → 8 < widthOf f → scalarAlone f size content ≡ eqb size (widthOf f)
-  unfolding heldOk widthOf scalarAlone
-  wide-form empty k c l = absurd (omega arith)
-  wide-form truth k c l = absurd (omega arith)
-  wide-form (fixed w) k c l = absurd (omega (arith, leb-true w 8 c))
-  wide-form (raw w) k c l = refl
-  wide-form sized k c l = false-not c
-  wide-form (variant-form w) k c l = false-not c
-  wide-form (repeated-form w) k c l = false-not c
-  wide-form tuple-form k c l = false-not c
-  wide-form unknown k c l = false-not c
+  -- every scalar below 13 has its own length, and a number that is not too large
+  alone-form : (f : Form) (k : ℕ) → heldOk f k ≡ true → content < 2 ^ 64 → scalarAlone f size content ≡ eqb size (ownSize f) and leb content (mostContent f)
+  unfolding heldOk scalarAlone ownSize mostContent
+  alone-form empty k c h = ap (λ b. eqb size 0 and b) (up-to content 0)
+  alone-form truth k c h = ap (λ b. eqb size 0 and b) (up-to content 1)
+  alone-form (fixed w) k c h =
+      let e : 256 ^ w ≡ (256 ^ w - 1) + 1 = omega (arith, power w) in
+      ap (λ b. eqb size 0 and b) (ap (ltb content) e ∙ up-to content (256 ^ w - 1))
+  alone-form (raw w) k c h = rw (le-leb content (2 ^ 64 - 1) (omega (arith, h))) (sym (and-all (eqb size w)))
+  alone-form sized k c h = false-not c
+  alone-form (variant-form w) k c h = false-not c
+  alone-form (repeated-form w) k c h = false-not c
+  alone-form tuple-form k c h = false-not c
+  alone-form unknown k c h = false-not c
 
-  narrow-form : (f : Form) (k : ℕ) → heldOk f k ≡ true → widthOf f ≤ 8 → (k ≡ 1 → ⊥) → scalarAlone f size content ≡ eqb size 0 and ltb content (256 ^ widthOf f)
-  unfolding heldOk widthOf scalarAlone
-  narrow-form empty k c l n = refl
-  narrow-form truth k c l n = absurd (n (eqb-true k 1 c))
-  narrow-form (fixed w) k c l n = refl
-  narrow-form (raw w) k c l n = absurd (omega (arith, ltb-true 8 w c))
-  narrow-form sized k c l n = false-not c
-  narrow-form (variant-form w) k c l n = false-not c
-  narrow-form (repeated-form w) k c l n = false-not c
-  narrow-form tuple-form k c l n = false-not c
-  narrow-form unknown k c l n = false-not c
+  -- one that has a length, and no other, has payload
+  kept-form : (f : Form) (k : ℕ) → heldOk f k ≡ true → scalarAlone f size content ≡ true → hasPayload f ≡ ltb 0 size
+  unfolding heldOk scalarAlone hasPayload
+  kept-form empty k c a = sym (le-ltb 0 size (omega (arith, eqb-true size 0 (and-both _ _ a .0))))
+  kept-form truth k c a = sym (le-ltb 0 size (omega (arith, eqb-true size 0 (and-both _ _ a .0))))
+  kept-form (fixed w) k c a = sym (le-ltb 0 size (omega (arith, eqb-true size 0 (and-both _ _ a .0))))
+  kept-form (raw w) k c a = sym (lt-ltb 0 size (omega (arith, ltb-true 8 w c, eqb-true size w a)))
+  kept-form sized k c a = false-not c
+  kept-form (variant-form w) k c a = false-not c
+  kept-form (repeated-form w) k c a = false-not c
+  kept-form tuple-form k c a = false-not c
+  kept-form unknown k c a = false-not c
 
-  long-form : (f : Form) (k : ℕ) → heldOk f k ≡ true → widthOf f ≤ 8 → eqb size 0 ≡ false → false ≡ scalarAlone f size content
-  unfolding heldOk widthOf scalarAlone _and_
-  long-form empty k c l e = rw e
-  long-form truth k c l e = rw e
-  long-form (fixed w) k c l e = rw e
-  long-form (raw w) k c l e = absurd (omega (arith, ltb-true 8 w c))
-  long-form sized k c l e = false-not c
-  long-form (variant-form w) k c l e = false-not c
-  long-form (repeated-form w) k c l e = false-not c
-  long-form tuple-form k c l e = false-not c
-  long-form unknown k c l e = false-not c
+  module _ (k : ℕ) (l : k ≤ 12) where
+    pub alone-is : content < 2 ^ 64 → scalarAlone (form k) size content ≡ eqb size (ownSize (form k)) and leb content (mostContent (form k))
+    alone-is = alone-form (form k) k (held-ok k (omega arith))
 
-  module _ (k w : ℕ) (h : k ≤ 12) (e : w ≡ widthOf (form k)) where
-    -- int128 and int256: their own length
-    pub wide-is : 8 < w → scalarAlone (form k) size content ≡ eqb size w
-    wide-is l = rw e (wide-form (form k) k (held-ok k (omega arith)) (omega arith))
-
-    -- a number, or nothing
-    pub narrow-is : w ≤ 8 → (k ≡ 1 → ⊥) → scalarAlone (form k) size content ≡ eqb size 0 and ltb content (256 ^ w)
-    narrow-is l n = rw e (narrow-form (form k) k (held-ok k (omega arith)) (omega arith) n)
-
-    -- what its record holds has no size
-    pub long-is : w ≤ 8 → (size ≡ 0 → ⊥) → false ≡ scalarAlone (form k) size content
-    long-is l n = long-form (form k) k (held-ok k (omega arith)) (omega arith) (ne-eqb size 0 n)
-
-  -- a boolean
-  pub truth-is : (k : ℕ) → k ≡ 1 → scalarAlone (form k) size content ≡ eqb size 0 and ltb content 2
-  unfolding scalarAlone wireTypes typeIn typeOf written writtenIf form
-  truth-is k e = rw e
+    pub kept-is : scalarAlone (form k) size content ≡ true → hasPayload (form k) ≡ ltb 0 size
+    kept-is = kept-form (form k) k (held-ok k (omega arith))
 
 -- ---- payload
-
--- of the codes below 13, what is wider than a record's eight bytes
-payload-form : (f : Form) (k : ℕ) → heldOk f k ≡ true → hasPayload f ≡ ltb 8 (widthOf f)
-unfolding heldOk widthOf hasPayload
-payload-form empty k c = refl
-payload-form truth k c = refl
-payload-form (fixed w) k c = sym (le-ltb 8 w (leb-true w 8 c))
-payload-form (raw w) k c = sym c
-payload-form sized k c = false-not c
-payload-form (variant-form w) k c = false-not c
-payload-form (repeated-form w) k c = false-not c
-payload-form tuple-form k c = false-not c
-payload-form unknown k c = false-not c
-
-pub payload-is : (k w : ℕ) → k ≤ 12 → w ≡ widthOf (form k) → ltb 8 w ≡ hasPayload (form k)
-payload-is k w h e = rw e (sym (payload-form (form k) k (held-ok k (omega arith))))
 
 module _ (size content from store : ℕ) where
   -- the payload of a scalar lies in the store

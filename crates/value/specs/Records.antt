@@ -1,6 +1,6 @@
 -- What a value record has to say where it stands, but for its children: of its fields alone, so that no value is built.
 -- Assumes nothing: these are definitions.
-use Prim.Native.Nat.{ℕ, _-_}
+use Prim.Native.Nat.{ℕ, _-_, _^_}
 use mathlib.Core.Bool.{Bool, true, false}
 use lib.Dec.{ltb, leb, eqb}
 use Rattle.rules.specs.Choice.{pick, _and_}
@@ -16,6 +16,30 @@ tagOk false tag = eqb tag 0
 -- a payload of this length and start, with `from` payload bytes before it and `store` in all
 unfoldable pub storedOk : ℕ → ℕ → ℕ → ℕ → Bool
 storedOk size content from store = eqb content from and leb size (store - from)
+
+-- how many payload bytes a scalar has that is no blob
+unfoldable pub ownSize : Form → ℕ
+ownSize empty = 0
+ownSize truth = 0
+ownSize (fixed w) = 0
+ownSize (raw w) = w
+ownSize sized = 0
+ownSize (variant-form w) = 0
+ownSize (repeated-form w) = 0
+ownSize tuple-form = 0
+ownSize unknown = 0
+
+-- the largest number that its data field may hold: a payload's start may be any
+unfoldable pub mostContent : Form → ℕ
+mostContent empty = 0
+mostContent truth = 1
+mostContent (fixed w) = 256 ^ w - 1
+mostContent (raw w) = 2 ^ 64 - 1
+mostContent sized = 2 ^ 64 - 1
+mostContent (variant-form w) = 0
+mostContent (repeated-form w) = 0
+mostContent tuple-form = 0
+mostContent unknown = 0
 
 -- the scalars that have their bytes in the payload store
 unfoldable pub hasPayload : Form → Bool

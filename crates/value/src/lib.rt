@@ -1,13 +1,12 @@
 // The check of a value table: whether records and payload store are the table of some value (18). One walk over the records in
 // preorder, each looked at once; it builds nothing.
 ghost use mathlib.Core.Path.{_≡_};
-ghost use Prim.Native.Nat.{_-_, _^_, _≤_, _<_};
-ghost use lib.Dec.{ltb};
+ghost use Prim.Native.Nat.{_-_, _≤_, _<_};
 ghost use Rattle.rules.specs.Wire.{form};
 ghost use Rattle.rules.specs.Refusals.{BadValueTable};
 ghost use Rattle.rules.specs.ValueCheck.{tableForm, valueTableRule};
 ghost use Rattle.rules.specs.Query.{scalarAlone, parentAlone, recordAlone};
-ghost use Rattle.value.specs.Records.{tagOk, storedOk, hasPayload, scalarOk, recordOk};
+ghost use Rattle.value.specs.Records.{tagOk, storedOk, ownSize, mostContent, scalarOk, recordOk};
 ghost use Rattle.value.specs.Walk.{walkChildren, walkTable};
 use record::value::records_in;
 use record::value::value_record_at;
@@ -17,7 +16,6 @@ use rules::LONGEST;
 use rules::Refusal;
 use rules::ValueRecord;
 use rules::Why;
-use wire::codes::code_width;
 
 // Where the walk stands: the next record, and the next byte of the payload store.
 pub struct TablePos {
@@ -33,22 +31,38 @@ pub enum Walked {
 
 // ---- one record
 
-// Whether so many bytes hold a number: the bytes past a scalar's width are zeros. An arm for every width, from which the compiler makes
-// a jump; a table of the bounds would be written anew at each call.
-fn fits(x: u64, width: usize) -> bool
-    requires { ⌜ width ≤ 8 ⌝ }
-    ensures { λ b. ⌜ b ≡ ltb x (256 ^ width) ⌝ }
+// The largest number that the data field of a scalar may hold. An arm for each kind, of which the compiler makes a table: so a number's
+// bound costs one load and no jump.
+fn most_content(kind: u8) -> u64
+    requires { ⌜ kind < 13 ⌝ }
+    ensures { λ r. ⌜ r ≡ mostContent (form kind) ⌝ }
 {
-    match width {
-        0 => x < 1,
-        1 => x < 256,
-        2 => x < 65536,
-        3 => x < 16777216,
-        4 => x < 4294967296,
-        5 => x < 1099511627776,
-        6 => x < 281474976710656,
-        7 => x < 72057594037927936,
-        _ => true,
+    match kind {
+        0 => 0,
+        1 => 1,
+        2 => 255,
+        3 => 65535,
+        4 => 4294967295,
+        5 => 18446744073709551615,
+        6 => 18446744073709551615,
+        7 => 18446744073709551615,
+        8 => 255,
+        9 => 65535,
+        10 => 4294967295,
+        11 => 18446744073709551615,
+        _ => 18446744073709551615,
+    }
+}
+
+// How many payload bytes a scalar has.
+fn own_size(kind: u8) -> u64
+    requires { ⌜ kind < 13 ⌝ }
+    ensures { λ r. ⌜ r ≡ ownSize (form kind) ⌝ }
+{
+    match kind {
+        6 => 16,
+        7 => 32,
+        _ => 0,
     }
 }
 
@@ -73,7 +87,7 @@ fn stored_ok(size: u64, content: u64, from: usize, store: usize) -> bool
     size <= (store - from) as u64
 }
 
-// A blob has any length, int128 and int256 have their own, and all else is in the record.
+// A blob has any length and start, every other scalar its own length and a number that is not too large.
 fn scalar_alone(kind: u8, size: u64, content: u64) -> bool
     requires { ⌜ kind < 15 ⌝ }
     ensures { λ b. ⌜ b ≡ scalarAlone (form kind) size content ⌝ }
@@ -81,38 +95,24 @@ fn scalar_alone(kind: u8, size: u64, content: u64) -> bool
     if 12 < kind {
         return true;
     }
-    let width = code_width(kind);
-    if 8 < width {
-        return size == width as u64;
-    }
-    if size != 0 {
+    if size != own_size(kind) {
         return false;
     }
-    if kind == 1 {
-        return content < 2;
-    }
-    fits(content, width)
+    content <= most_content(kind)
 }
 
-// Blobs, and what is wider than the record's eight bytes.
-fn has_payload(kind: u8) -> bool
-    requires { ⌜ kind < 15 ⌝ }
-    ensures { λ b. ⌜ b ≡ hasPayload (form kind) ⌝ }
-{
-    if 12 < kind {
-        return true;
-    }
-    8 < code_width(kind)
-}
-
+// Blobs have payload, and of the others those with a length.
 fn scalar_ok(kind: u8, size: u64, content: u64, from: usize, store: usize) -> bool
     requires { ⌜ (kind < 15) × (from ≤ store) ⌝ }
     ensures { λ b. ⌜ b ≡ scalarOk (form kind) size content from store ⌝ }
 {
+    if 12 < kind {
+        return stored_ok(size, content, from, store);
+    }
     if !scalar_alone(kind, size, content) {
         return false;
     }
-    if !has_payload(kind) {
+    if size == 0 {
         return true;
     }
     stored_ok(size, content, from, store)
