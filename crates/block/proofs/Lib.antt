@@ -4,3 +4,4 @@ pub mod Parts
 pub mod Depth
 pub mod Level
 pub mod Stands
+pub mod Passing

@@ -51,7 +51,8 @@ fn children_ok(n: Node, i: u64, next: u64) -> bool
     false
 }
 
-fn record_ok(n: Node, store: u64, i: u64, next: u64) -> bool
+// One record.
+pub fn record_ok(n: Node, store: u64, i: u64, next: u64) -> bool
     ensures { λ r. ⌜ r ≡ recordOk n store i next ⌝ }
 {
     let code = n.code;

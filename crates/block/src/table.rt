@@ -1,16 +1,19 @@
 // A block as a part of the record table, given by first record and record count.
 ghost use mathlib.Core.Path.{_≡_};
+ghost use mathlib.Core.Bool.{true};
 ghost use Prim.Native.Nat.{_+_, _≤_};
 ghost use Rattle.rules.specs.Block.{records, block};
 ghost use Rattle.rules.specs.SchemaRules.{tableRule};
 ghost use Rattle.rules.specs.Format.{blockFormOk, blockDepthOk, blockRule, oneBlock};
 ghost use Rattle.rules.specs.declared.answer.Checked.the-variants.{Accepted};
 ghost use Rattle.block.specs.Sound.{SoundBlock};
+ghost use Rattle.block.specs.Passing.{PassesAtOnce};
 use super::form::block_ok;
 use super::form::depth_of;
 use super::form::span_ok;
 use super::validation::check_root;
 use super::validation::level_rule;
+use super::validation::passes;
 use super::validation::validate;
 use record::node::NODE_SIZE;
 use rules::Checked;
@@ -87,4 +90,20 @@ pub fn block_stands(table: &[u8], names: &[u8], first: u64, count: u64) -> Check
         return Checked::Accepted;
     }
     Checked::Refused(Refusal::TOO_DEEP)
+}
+
+// Whether a block of few records passes form, depth and rules, by one loop; where it says no, the block may pass all the same.
+pub fn block_passes(table: &[u8], names: &[u8], first: u64, count: u64) -> bool
+    ensures { λ r. ⌜ (r ≡ true → PassesAtOnce (now (table .entry)) (now (names .entry)) first count) ⌝ }
+{
+    if table.len() % NODE_SIZE != 0 {
+        return false;
+    }
+    if 64 < count {
+        return false;
+    }
+    if !span_ok(first, count, (table.len() / NODE_SIZE) as u64) {
+        return false;
+    }
+    passes(block_of(table, first, count), names.len() as u64, first)
 }

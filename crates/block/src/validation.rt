@@ -6,6 +6,8 @@ ghost use Rattle.rules.specs.Wire.{form, maximum};
 ghost use Rattle.rules.specs.Block.{nodeSize, NodeIn, records, Closed};
 ghost use Rattle.rules.specs.Refusals.{inOrder};
 ghost use Rattle.rules.specs.SchemaRules.{nodeRule, ruleAt, schemaRule, notTuple, rootRule, nameRule, tableRule};
+ghost use Rattle.block.specs.Passing.{passing};
+use super::form::record_ok;
 use record::node::NODE_SIZE;
 use record::node::node_at;
 use rules::Checked;
@@ -68,6 +70,36 @@ pub fn level_rule(s: &[u8], base: u64) -> Checked
         i += 1;
     }
     Checked::Accepted
+}
+
+// Form and rules in one loop over the records: whether both pass, and not which is refused first.
+pub fn passes(s: &[u8], store: u64, base: u64) -> bool
+    requires { ⌜ base + records (now s) < 2 ^ 64 ⌝ }
+    ensures { λ r. ⌜ r ≡ passing (now (s .entry)) store base ⌝ }
+{
+    if s.len() % NODE_SIZE != 0 {
+        return false;
+    }
+    let m = (s.len() / NODE_SIZE) as u64;
+    if 131072 < m {
+        return false;
+    }
+    let mut i = 0;
+    let mut next = 1;
+    while i < m {
+        let n = node_at(s, i);
+        if !record_ok(n, store, i, next) {
+            return false;
+        }
+        let own = node_rule(base + i, n);
+        let Checked::Accepted = own else {
+            return false;
+        };
+        let children = n.children;
+        next += children;
+        i += 1;
+    }
+    m == next
 }
 
 // The first refusal in preorder: a node before its children, its children in order. `base` is the block's first record in
