@@ -52,7 +52,7 @@ fn children_ok(n: Node, i: u64, next: u64) -> bool
 }
 
 // One record.
-pub fn record_ok(n: Node, store: u64, i: u64, next: u64) -> bool
+pub fn node_ok(n: Node, store: u64, i: u64, next: u64) -> bool
     ensures { λ r. ⌜ r ≡ recordOk n store i next ⌝ }
 {
     let code = n.code;
@@ -81,7 +81,7 @@ pub fn block_ok(s: &[u8], store: u64) -> bool
     let mut next = 1;
     while i < m {
         let n = node_at(s, i);
-        if !record_ok(n, store, i, next) {
+        if !node_ok(n, store, i, next) {
             return false;
         }
         let children = n.children;

@@ -1,13 +1,12 @@
 // A block as a part of the record table, given by first record and record count.
 ghost use mathlib.Core.Path.{_≡_};
-ghost use mathlib.Core.Bool.{true};
 ghost use Prim.Native.Nat.{_+_, _≤_};
 ghost use Rattle.rules.specs.Block.{records, block};
 ghost use Rattle.rules.specs.SchemaRules.{tableRule};
 ghost use Rattle.rules.specs.Format.{blockFormOk, blockDepthOk, blockRule, oneBlock};
 ghost use Rattle.rules.specs.declared.answer.Checked.the-variants.{Accepted};
 ghost use Rattle.block.specs.Sound.{SoundBlock};
-ghost use Rattle.block.specs.Passing.{PassesAtOnce};
+ghost use Rattle.block.specs.Passing.{passesAtOnce};
 use super::form::block_ok;
 use super::form::depth_of;
 use super::form::span_ok;
@@ -94,7 +93,7 @@ pub fn block_stands(table: &[u8], names: &[u8], first: u64, count: u64) -> Check
 
 // Whether a block of few records passes form, depth and rules, by one loop; where it says no, the block may pass all the same.
 pub fn block_passes(table: &[u8], names: &[u8], first: u64, count: u64) -> bool
-    ensures { λ r. ⌜ (r ≡ true → PassesAtOnce (now (table .entry)) (now (names .entry)) first count) ⌝ }
+    ensures { λ r. ⌜ r ≡ passesAtOnce (now (table .entry)) (now (names .entry)) first count ⌝ }
 {
     if table.len() % NODE_SIZE != 0 {
         return false;

@@ -7,7 +7,7 @@ ghost use Rattle.rules.specs.Block.{nodeSize, NodeIn, records, Closed};
 ghost use Rattle.rules.specs.Refusals.{inOrder};
 ghost use Rattle.rules.specs.SchemaRules.{nodeRule, ruleAt, schemaRule, notTuple, rootRule, nameRule, tableRule};
 ghost use Rattle.block.specs.Passing.{passing};
-use super::form::record_ok;
+use super::form::node_ok;
 use record::node::NODE_SIZE;
 use record::node::node_at;
 use rules::Checked;
@@ -87,15 +87,15 @@ pub fn passes(s: &[u8], store: u64, base: u64) -> bool
     let mut i = 0;
     let mut next = 1;
     while i < m {
-        let n = node_at(s, i);
-        if !record_ok(n, store, i, next) {
+        let node = node_at(s, i);
+        if !node_ok(node, store, i, next) {
             return false;
         }
-        let own = node_rule(base + i, n);
+        let own = node_rule(base + i, node);
         let Checked::Accepted = own else {
             return false;
         };
-        let children = n.children;
+        let children = node.children;
         next += children;
         i += 1;
     }

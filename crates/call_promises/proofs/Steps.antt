@@ -76,6 +76,10 @@ use Rattle.record.proofs.value.put_record as put-record
 use Rattle.payload.proofs.copy as copy
 use Rattle.record.proofs.value.whole_records as whole-records
 use Rattle.block.proofs.validation.level_rule as level-rule
+use Rattle.block.proofs.validation.passes as passes
+use Rattle.block.proofs.form.node_ok as node-ok
+use Rattle.block.proofs.table.block_passes as block-passes
+use Rattle.schema.proofs.encoder_rules_at_once as encoder-rules-at-once
 use Rattle.value.proofs.record_ok as record-ok
 use Rattle.value.proofs.table_form as table-form
 use Rattle.fill.proofs.fill_row as fill-row
@@ -350,6 +354,18 @@ write-row-one-answer κs a x y s t p q = (p .0 ∙ sym (q .0), rw (p .1, q .1))
 
 pub level-rule-one-answer : OneAnswer level-rule.Kinds.ps level-rule.Kinds.r level-rule.Reads.Post
 level-rule-one-answer κs a x y s t p q = p ∙ sym q
+
+pub passes-one-answer : OneAnswer passes.Kinds.ps passes.Kinds.r passes.Reads.Post
+passes-one-answer κs a x y s t p q = p ∙ sym q
+
+pub node-ok-one-answer : OneAnswer node-ok.Kinds.ps node-ok.Kinds.r node-ok.Reads.Post
+node-ok-one-answer κs a x y s t p q = p ∙ sym q
+
+pub block-passes-one-answer : OneAnswer block-passes.Kinds.ps block-passes.Kinds.r block-passes.Reads.Post
+block-passes-one-answer κs a x y s t p q = p ∙ sym q
+
+pub encoder-rules-at-once-one-answer : OneAnswer encoder-rules-at-once.Kinds.ps encoder-rules-at-once.Kinds.r encoder-rules-at-once.Reads.Post
+encoder-rules-at-once-one-answer κs a x y s t p q = p ∙ sym q
 
 pub tag-width-one-answer : OneAnswer tag-width.Kinds.ps tag-width.Kinds.r tag-width.Reads.Post
 tag-width-one-answer κs a x y s t p q = p ∙ sym q

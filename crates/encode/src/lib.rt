@@ -12,7 +12,7 @@ use rules::LONGEST;
 use rules::Refusal;
 use rules::Settings;
 use rules::Written;
-use schema::encoder_rules;
+use schema::encoder_rules_at_once;
 use value::table_form;
 use write::flat::flat_row;
 use write::judge::AtOnce;
@@ -96,7 +96,7 @@ pub fn encode(
     if !writing_within_bounds(settings, table, names, records, payload, output, position) {
         return Written::Refused(Refusal::SETTING);
     }
-    let schema = encoder_rules(table, names, first, count);
+    let schema = encoder_rules_at_once(table, names, first, count);
     match schema {
         Checked::Refused(why) => Written::Refused(why),
         Checked::Accepted => encode_by(

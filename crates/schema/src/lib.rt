@@ -9,6 +9,7 @@ pub mod format;
 pub mod forms;
 pub mod order;
 
+use block::table::block_passes;
 use block::table::block_root;
 use block::table::block_rule;
 use block::table::block_stands;
@@ -52,6 +53,20 @@ pub fn encoder_rules(table: &[u8], names: &[u8], first: u64, count: u64) -> Chec
         return own;
     };
     block_root(table, first, count, Purpose::Encoder)
+}
+
+// The same answer, sooner for a block of few records that passes. It is apart from the plain one, so that `encode`, its one caller, has it
+// compiled into it.
+pub fn encoder_rules_at_once(table: &[u8], names: &[u8], first: u64, count: u64) -> Checked
+    ensures { λ r. ⌜ r ≡ encoderRules (now (table .entry)) (now (names .entry)) first count ⌝ }
+{
+    if block_passes(table, names, first, count) {
+        return block_root(table, first, count, Purpose::Encoder);
+    }
+    // What a call lends has to lie in memory: copied here, so that a block that passes is spared that.
+    let block = table;
+    let store = names;
+    encoder_rules(block, store, first, count)
 }
 
 pub fn check_encoder_schema(table: &[u8], names: &[u8], first: u64, count: u64) -> Checked

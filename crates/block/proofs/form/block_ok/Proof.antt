@@ -32,12 +32,12 @@ loop-holds c = (omega arith, (refl, refl))
 node-at-requires : tie.Need-node-at-requires Inv-loop μ-loop
 node-at-requires c κs = omega arith
 
-record-ok-requires : tie.Need-record-ok-requires Inv-loop μ-loop
-record-ok-requires c κs = search needs
+node-ok-requires : tie.Need-node-ok-requires Inv-loop μ-loop
+node-ok-requires c κs = search needs
 
 -- what the test of a record says of the block
-told : (c : tie.After-record-ok Inv-loop μ-loop) → recordAt (c .before .before .before .before .before .before .before .args .s .now) (c .before .before .before .before .before .before .before .args .store) (c .before .before .before .loop .i) ≡ c .record-ok .result
-told c = record-at _ _ _ _ _ (c .before .node-at .ensures) (c .before .before .before .loop .inv .1 .0) _ (c .record-ok .ensures)
+told : (c : tie.After-node-ok Inv-loop μ-loop) → recordAt (c .before .before .before .before .before .before .before .args .s .now) (c .before .before .before .before .before .before .before .args .store) (c .before .before .before .loop .i) ≡ c .node-ok .result
+told c = record-at _ _ _ _ _ (c .before .node-at .ensures) (c .before .before .before .loop .inv .1 .0) _ (c .node-ok .ensures)
 
 returns-3 : tie.Need-returns-3 Inv-loop μ-loop
 unfolding blockOk _and_
@@ -72,7 +72,7 @@ block-ok-spec =
     returns-2
     loop-holds
     node-at-requires
-    record-ok-requires
+    node-ok-requires
     returns-3
     add-next
     add-i

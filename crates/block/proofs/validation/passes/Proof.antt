@@ -40,12 +40,12 @@ loop-holds c = (omega arith, (refl, (refl, in-order-none _ _ _)))
 node-at-requires : tie.Need-node-at-requires Inv-loop μ-loop
 node-at-requires c κs = omega arith
 
-record-ok-requires : tie.Need-record-ok-requires Inv-loop μ-loop
-record-ok-requires c κs = search needs
+node-ok-requires : tie.Need-node-ok-requires Inv-loop μ-loop
+node-ok-requires c κs = search needs
 
 -- what the test of a record says of the block
-told : (c : tie.After-record-ok Inv-loop μ-loop) → recordAt (c .before .before .before .before .before .before .before .args .s .now) (c .before .before .before .before .before .before .before .args .store) (c .before .before .before .loop .i) ≡ c .record-ok .result
-told c = record-at _ _ _ _ _ (c .before .node-at .ensures) (c .before .before .before .loop .inv .1 .0) _ (c .record-ok .ensures)
+told : (c : tie.After-node-ok Inv-loop μ-loop) → recordAt (c .before .before .before .before .before .before .before .args .s .now) (c .before .before .before .before .before .before .before .args .store) (c .before .before .before .loop .i) ≡ c .node-ok .result
+told c = record-at _ _ _ _ _ (c .before .node-at .ensures) (c .before .before .before .loop .inv .1 .0) _ (c .node-ok .ensures)
 
 returns-3 : tie.Need-returns-3 Inv-loop μ-loop
 unfolding blockOk _and_
@@ -81,9 +81,16 @@ loop-less : tie.Need-loop-less Inv-loop μ-loop
 loop-less c = omega arith
 
 loop-again : tie.Need-loop-again Inv-loop μ-loop
-loop-again c = let l = c .before .before .before .before .before .before .before .loop in
-    (omega arith, (next-suc _ _ _ _ (c .before .before .before .before .before .node-at .ensures) (l .inv .1 .0), (all-more _ _ (l .inv .1 .1 .0) (told (c .before .before .before .before) ∙ not-false _ (c .before .before .before .if3 .left)),
-    turn-on _ 0 _ _ (c .before .before .before .before .before .before .loop-test .taken) _ (rule-at _ _ _ _ _ (c .before .before .before .before .before .node-at .ensures) (c .before .before .node-rule .ensures)) (c .enum-told .given .1) ∙ l .inv .1 .1 .1)))
+loop-again c = let l = c .before .before .before .before .before .before .before .loop in (
+  omega arith,
+  (
+    next-suc _ _ _ _ (c .before .before .before .before .before .node-at .ensures) (l .inv .1 .0),
+    (
+      all-more _ _ (l .inv .1 .1 .0) (told (c .before .before .before .before) ∙ not-false _ (c .before .before .before .if3 .left)),
+      turn-on _ 0 _ _ (c .before .before .before .before .before .before .loop-test .taken) _ (rule-at _ _ _ _ _ (c .before .before .before .before .before .node-at .ensures) (c .before .before .node-rule .ensures)) (c .enum-told .given .1) ∙ l .inv .1 .1 .1,
+    ),
+  ),
+)
 
 returns-5 : tie.Need-returns-5 Inv-loop μ-loop
 returns-5 c = let l = c .before .loop in
@@ -101,7 +108,7 @@ passes-spec =
     returns-2
     loop-holds
     node-at-requires
-    record-ok-requires
+    node-ok-requires
     returns-3
     add-node-rule
     node-rule-requires

@@ -2,8 +2,8 @@ use borrow.Author.Needs.{needs}
 use borrow.Author.Tests.{le-leb, lt-leb}
 use Rattle.rules.specs.Choice.{_and_}
 use Rattle.rules.specs.Block.{recordOk}
-use Rattle.block.proofs.form.record_ok.Statement.{statement}
-use Rattle.block.proofs.form.record_ok.Tie as tie
+use Rattle.block.proofs.form.node_ok.Statement.{statement}
+use Rattle.block.proofs.form.node_ok.Tie as tie
 
 returns : tie.Need-returns
 unfolding recordOk _and_
@@ -23,6 +23,6 @@ returns-3 : tie.Need-returns-3
 unfolding recordOk _and_
 returns-3 c = rw (le-leb _ _ (c .before .before .if1 .left), ← c .before .name-ok .ensures, c .if2 .left)
 
-pub record-ok-spec : {M : Type 1} → statement M
-record-ok-spec =
+pub node-ok-spec : {M : Type 1} → statement M
+node-ok-spec =
     tie.close (tie.spec returns name-ok-requires children-ok-requires returns-2 returns-3)
