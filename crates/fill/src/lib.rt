@@ -196,8 +196,10 @@ fn fill_children(
     records: &mut [u8],
     payload: &mut [u8],
 ) -> FillPos
-    requires { ⌜ Closed (now block) × NodeIn node (length (now block)) × (14 < nodeAt (now block) node .code) × RoomToFill (readAt (now block) (now input) depth node (s .at)) s (length (now records)) (length (now payload)) ⌝ }
-    ensures { λ r. ⌜ Filled (readAt (now (block .entry)) (now (input .entry)) depth node (s .at)) tag s r (now (records .entry)) (now (records .exit)) (now (payload .entry)) (now (payload .exit)) ⌝ }
+    requires { ⌜ Closed (now block) × NodeIn node (length (now block)) × (14 < nodeAt (now block) node .code)
+        × RoomToFill (readAt (now block) (now input) depth node (s .at)) s (length (now records)) (length (now payload)) ⌝ }
+    ensures { λ r. ⌜ Filled (readAt (now (block .entry)) (now (input .entry)) depth node (s .at))
+        tag s r (now (records .entry)) (now (records .exit)) (now (payload .entry)) (now (payload .exit)) ⌝ }
 {
     let code = node_code(block, node);
     let first = node_first(block, node) as usize;
@@ -244,8 +246,10 @@ fn leaf_at(
     s: FillPos,
     records: &mut [u8],
 ) -> ToFill
-    requires { ⌜ Closed (now block) × NodeIn node (length (now block)) × (code ≡ nodeAt (now block) node .code) × Held (readAt (now block) (now input) depth node (s .at)) s (length (now records)) ⌝ }
-    ensures { λ r. ⌜ LeadsToFill (readAt (now (block .entry)) (now (input .entry)) depth node (s .at)) (now (input .entry)) code tag s (now (records .entry)) (now (records .exit)) r ⌝ }
+    requires { ⌜ Closed (now block) × NodeIn node (length (now block)) × (code ≡ nodeAt (now block) node .code)
+        × Held (readAt (now block) (now input) depth node (s .at)) s (length (now records)) ⌝ }
+    ensures { λ r. ⌜ LeadsToFill (readAt (now (block .entry)) (now (input .entry)) depth node (s .at)) (now (input .entry))
+        code tag s (now (records .entry)) (now (records .exit)) r ⌝ }
 {
     if code < 15 {
         return ToFill::Leaf(code, tag, s);
@@ -285,8 +289,10 @@ fn fill_value(
     records: &mut [u8],
     payload: &mut [u8],
 ) -> FillPos
-    requires { ⌜ Closed (now block) × NodeIn node (length (now block)) × RoomToFill (readAt (now block) (now input) depth node (s .at)) s (length (now records)) (length (now payload)) ⌝ }
-    ensures { λ r. ⌜ Filled (readAt (now (block .entry)) (now (input .entry)) depth node (s .at)) tag s r (now (records .entry)) (now (records .exit)) (now (payload .entry)) (now (payload .exit)) ⌝ }
+    requires { ⌜ Closed (now block) × NodeIn node (length (now block))
+        × RoomToFill (readAt (now block) (now input) depth node (s .at)) s (length (now records)) (length (now payload)) ⌝ }
+    ensures { λ r. ⌜ Filled (readAt (now (block .entry)) (now (input .entry)) depth node (s .at))
+        tag s r (now (records .entry)) (now (records .exit)) (now (payload .entry)) (now (payload .exit)) ⌝ }
 {
     let code = node_code(block, node);
     let reached = leaf_at(block, node, code, depth, input, tag, s, records);

@@ -61,7 +61,8 @@ pub fn place_row(
     out: &mut [u8],
     at: usize,
 ) -> Written
-    requires { ⌜ RowJudgeable (now block) (now records) (now payload) × (Judged.Fits p ≡ judgedRow (now block) (limits settings) (now records) (now payload)) × (at ≤ min (length (now out)) 4294967295) ⌝ }
+    requires { ⌜ RowJudgeable (now block) (now records) (now payload) × (Judged.Fits p ≡ judgedRow (now block) (limits settings) (now records) (now payload))
+        × (at ≤ min (length (now out)) 4294967295) ⌝ }
     ensures answer { λ r. ⌜ r ≡ placedRow (now (block .entry)) (limits settings) (now (records .entry)) (now (payload .entry)) (now (out .entry)) at .answer ⌝ }
     ensures out { λ _. ⌜ now (out .exit) ≡ placedRow (now (block .entry)) (limits settings) (now (records .entry)) (now (payload .entry)) (now (out .entry)) at .output ⌝ }
 {
