@@ -29,7 +29,7 @@ pub struct RowNode {
     pub from: usize,
 }
 
-// A node and all below it, from a place of the text on. What a record says of its size is a count of children or a length of payload.
+// A node and all below it, from a position of the text on. What a record says of its size is a count of children or a length of payload.
 fn list_value(
     records: &[u8],
     store: &[u8],

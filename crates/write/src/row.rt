@@ -27,7 +27,7 @@ fn room_in(len: usize) -> u64
     len as u64
 }
 
-// Room for a judged row's bytes from place `at` on, in an output of this length.
+// Room for a judged row's bytes from position `at` on, in an output of this length.
 pub fn room_for(row: Extent, at: usize, len: usize) -> Written
     requires { ⌜ at ≤ min len 4294967295 ⌝ }
     ensures { λ r. ⌜ r ≡ roomFor at (min len 4294967295) row ⌝ }
@@ -51,7 +51,7 @@ fn not_written(value: Judged) -> Written
     }
 }
 
-// A judged row from place `at` of the output on; or 21, and then the output is as it was.
+// A judged row from position `at` of the output on; or 21, and then the output is as it was.
 pub fn place_row(
     block: &[u8],
     settings: Settings,
@@ -80,7 +80,7 @@ pub fn place_row(
     Written::Row(own)
 }
 
-// The row of the table's value from place `at` of the output on; or why it is refused, and then the output is as it was.
+// The row of the table's value from position `at` of the output on; or why it is refused, and then the output is as it was.
 pub fn write_row(
     block: &[u8],
     settings: Settings,
