@@ -11,21 +11,11 @@ use super::judge::Judged;
 use super::judge::judge_row;
 use super::put::put_row;
 use rules::Extent;
-use rules::LONGEST;
 use rules::Refusal;
 use rules::Settings;
 use rules::Why;
 use rules::Written;
-
-// Of a slice to be written only so many bytes count.
-fn room_in(len: usize) -> u64
-    ensures { λ r. ⌜ r ≡ min len 4294967295 ⌝ }
-{
-    if LONGEST < len {
-        return LONGEST as u64;
-    }
-    len as u64
-}
+use rules::room_in;
 
 // Room for a judged row's bytes from position `at` on, in an output of this length.
 pub fn room_for(row: Extent, at: usize, len: usize) -> Written
