@@ -76,27 +76,27 @@ module _ (κs : Lfts 5) (settings : Settings) (table names : RefT (List ℕ)) (f
         met ∙ rules.encoded-canonically (format table names references registry) settings first count (records .now) (payload .now) (output .now) position asked v is (rw (ap (λ (d : Encoded). d .answer) met) at h)
 
     -- Those bytes, as they stand in the output, anywhere in a stream of a checked format whose table 0 has that schema:
-    module _ (e : Extent) (yes : writtenSaid answer ≡ rowSaid e) (settings′ : Settings) (table′ names′ references′ registry′ input : RefT (List ℕ)) (place : ℕ)
+    module _ (e : Extent) (yes : writtenSaid answer ≡ rowSaid e) (settings′ : Settings) (table′ names′ references′ registry′ input : RefT (List ℕ)) (position′ : ℕ)
         (checked : formatRule (format table′ names′ references′ registry′) ≡ Checked.Accepted) (below : 0 < tables (format table′ names′ references′ registry′))
         (same : schemaOf (format table′ names′ references′ registry′) 0 ≡ schemaOf (format table names references registry) 0)
-        (ask : SkipAsked settings settings′ v (part (encoded κs answer s .output) position (e .bytes)) (input .now) place) where
+        (ask : SkipAsked settings settings′ v (part (encoded κs answer s .output) position (e .bytes)) (input .now) position′) where
       -- whatever meets skip_row's contract there answers that row,
       pub skips-the-row : (κs′ : Lfts 5) (read : Read) (t : AtExit (endedOf 5 skip-row.Kinds.ps skip-row.Kinds.r) κs′) →
-          skip-row.Reads.Post κs′ (settings′, (table′, (names′, (references′, (registry′, (input, (place, tt))))))) read t → read ≡ Read.Row e
+          skip-row.Reads.Post κs′ (settings′, (table′, (names′, (references′, (registry′, (input, (position′, tt))))))) read t → read ≡ Read.Row e
       skips-the-row κs′ read t p =
           p ∙ rules.skips-the-row (format table names references registry) settings first count (records .now) (payload .now) (output .now) position asked v is e
           (rw (ap (λ (d : Encoded). d .answer) met) at yes) (format table′ names′ references′ registry′) checked below same
-          settings′ (input .now) place (rw (ap (λ (d : Encoded). d .output) met) at ask)
+          settings′ (input .now) position′ (rw (ap (λ (d : Encoded). d .output) met) at ask)
 
       -- and whatever meets next_row's contract there, with room, answers it too, and leaves the very records and payload that were encoded.
       pub decodes-to-the-value : (records′ payload′ : RefT (List ℕ)) → HasRoom e (records′ .now) (payload′ .now) →
           (κs′ : Lfts 7) (read : Read) (t : AtExit (endedOf 7 next-row.Kinds.ps next-row.Kinds.r) κs′) →
-          next-row.Reads.Post κs′ (settings′, (table′, (names′, (references′, (registry′, (input, (place, (records′, (payload′, tt))))))))) read t →
+          next-row.Reads.Post κs′ (settings′, (table′, (names′, (references′, (registry′, (input, (position′, (records′, (payload′, tt))))))))) read t →
           decoded κs′ read t ≡ decodedAs e (records .now) (payload .now) (records′ .now) (payload′ .now)
       decodes-to-the-value records′ payload′ fit κs′ read t p =
           p ∙ rules.decodes-to-the-value (format table names references registry) settings first count (records .now) (payload .now) (output .now) position asked v is e
           (rw (ap (λ (d : Encoded). d .answer) met) at yes) (format table′ names′ references′ registry′) checked below same
-          settings′ (input .now) place (rw (ap (λ (d : Encoded). d .output) met) at ask) (records′ .now) (payload′ .now) fit
+          settings′ (input .now) position′ (rw (ap (λ (d : Encoded). d .output) met) at ask) (records′ .now) (payload′ .now) fit
 
 -- ---- next_row and skip_row
 
@@ -125,36 +125,36 @@ module _ (κs : Lfts 7) (settings : Settings) (table names references registry i
 
   -- A row of table 0, whose table is encoded again under the same settings and with room:
   module _ (bs : Bytes (input .now)) (e : Extent) (row : readSaid answer ≡ rowSaid e) (zero : e .table ≡ 0)
-      (table′ names′ : RefT (List ℕ)) (same-table : table′ .now ≡ table .now) (same-names : names′ .now ≡ names .now) (first count : ℕ) (records′ payload′ output : RefT (List ℕ)) (place : ℕ)
+      (table′ names′ : RefT (List ℕ)) (same-table : table′ .now ≡ table .now) (same-names : names′ .now ≡ names .now) (first count : ℕ) (records′ payload′ output : RefT (List ℕ)) (position′ : ℕ)
       (its-records : records′ .now ≡ take (valueRecordStart (e .records)) (decoded κs answer s .records)) (its-payload : payload′ .now ≡ take (e .payload) (decoded κs answer s .payload))
-      (asked : EncodeAsked (format table names references registry) settings first count (records′ .now) (payload′ .now) (output .now) place) (fits : place + e .bytes ≤ room (output .now))
+      (asked : EncodeAsked (format table names references registry) settings first count (records′ .now) (payload′ .now) (output .now) position′) (fits : position′ + e .bytes ≤ room (output .now))
       (κs′ : Lfts 5) (written : Written) (t : AtExit (endedOf 5 encode.Kinds.ps encode.Kinds.r) κs′)
-      (wrote : encode.Reads.Post κs′ (settings, (table′, (names′, (first, (count, (records′, (payload′, (output, (place, tt))))))))) written t) where
-    rule-wrote : encoded κs′ written t ≡ encodeFrom (format table names references registry) settings first count (records′ .now) (payload′ .now) (output .now) place
+      (wrote : encode.Reads.Post κs′ (settings, (table′, (names′, (first, (count, (records′, (payload′, (output, (position′, tt))))))))) written t) where
+    rule-wrote : encoded κs′ written t ≡ encodeFrom (format table names references registry) settings first count (records′ .now) (payload′ .now) (output .now) position′
     rule-wrote = rw (same-table, same-names) at wrote
 
     -- whatever meets encode's contract answers that row, with its very counts,
     pub encodes-again : written ≡ Written.Row e
     encodes-again =
         ap (λ (d : Encoded). d .answer) rule-wrote ∙ rules.encodes-again (format table names references registry) settings (input .now) position (records .now) (payload .now) bs e (rw (ap (λ (d : Decoded). d .answer) met) at row) zero
-        first count (records′ .now) (payload′ .now) (output .now) place (rw (ap (λ (d : Decoded). d .records) met) at its-records) (rw (ap (λ (d : Decoded). d .payload) met) at its-payload) asked fits
+        first count (records′ .now) (payload′ .now) (output .now) position′ (rw (ap (λ (d : Decoded). d .records) met) at its-records) (rw (ap (λ (d : Decoded). d .payload) met) at its-payload) asked fits
 
     -- leaves in the output the very bytes of the row that stood in the stream, exactly where every boolean byte of it is 0 or 1,
     pub writes-again : (w : Value) (b : List ℕ) (r : TableRow (tables (format table names references registry)) (schemaOf (format table names references registry)) 0 w b) → Stands (input .now) position b →
-        (encoded κs′ written t .output ≡ over (output .now) place (part (input .now) position (e .bytes))) ↔ PlainRow r
+        (encoded κs′ written t .output ≡ over (output .now) position′ (part (input .now) position (e .bytes))) ↔ PlainRow r
     writes-again w b r st =
         rw (ap (λ (d : Encoded). d .output) rule-wrote) (rules.writes-again (format table names references registry) settings (input .now) position (records .now) (payload .now) bs e (rw (ap (λ (d : Decoded). d .answer) met) at row) zero
-        first count (records′ .now) (payload′ .now) (output .now) place (rw (ap (λ (d : Decoded). d .records) met) at its-records) (rw (ap (λ (d : Decoded). d .payload) met) at its-payload) asked fits w b r st)
+        first count (records′ .now) (payload′ .now) (output .now) position′ (rw (ap (λ (d : Decoded). d .records) met) at its-records) (rw (ap (λ (d : Decoded). d .payload) met) at its-payload) asked fits w b r st)
 
     -- and whatever meets next_row's contract on its bytes, anywhere in a stream, leaves the same table.
-    pub reads-again : (table″ names″ references″ registry″ input″ : RefT (List ℕ)) (place″ : ℕ) (records″ payload″ : RefT (List ℕ)) →
+    pub reads-again : (table″ names″ references″ registry″ input″ : RefT (List ℕ)) (position″ : ℕ) (records″ payload″ : RefT (List ℕ)) →
         format table″ names″ references″ registry″ ≡ format table names references registry →
-        Stands (input″ .now) place″ (part (encoded κs′ written t .output) place (e .bytes)) → length (input″ .now) ≤ 4294967295 →
+        Stands (input″ .now) position″ (part (encoded κs′ written t .output) position′ (e .bytes)) → length (input″ .now) ≤ 4294967295 →
         e .records ≤ recordRoom (records″ .now) → e .payload ≤ room (payload″ .now) →
         (κs″ : Lfts 7) (read : Read) (u : AtExit (endedOf 7 next-row.Kinds.ps next-row.Kinds.r) κs″) →
-        next-row.Reads.Post κs″ (settings, (table″, (names″, (references″, (registry″, (input″, (place″, (records″, (payload″, tt))))))))) read u →
+        next-row.Reads.Post κs″ (settings, (table″, (names″, (references″, (registry″, (input″, (position″, (records″, (payload″, tt))))))))) read u →
         decoded κs″ read u ≡ decodedAs e (records′ .now) (payload′ .now) (records″ .now) (payload″ .now)
-    reads-again table″ names″ references″ registry″ input″ place″ records″ payload″ same stands short nodes enough κs″ read u p =
+    reads-again table″ names″ references″ registry″ input″ position″ records″ payload″ same stands short nodes enough κs″ read u p =
         p ∙ rw same (rules.reads-again (format table names references registry) settings (input .now) position (records .now) (payload .now) bs e (rw (ap (λ (d : Decoded). d .answer) met) at row) zero
-        first count (records′ .now) (payload′ .now) (output .now) place (rw (ap (λ (d : Decoded). d .records) met) at its-records) (rw (ap (λ (d : Decoded). d .payload) met) at its-payload) asked fits
-        (input″ .now) place″ (records″ .now) (payload″ .now) (rw (ap (λ (d : Encoded). d .output) rule-wrote) at stands) short nodes enough)
+        first count (records′ .now) (payload′ .now) (output .now) position′ (rw (ap (λ (d : Decoded). d .records) met) at its-records) (rw (ap (λ (d : Decoded). d .payload) met) at its-payload) asked fits
+        (input″ .now) position″ (records″ .now) (payload″ .now) (rw (ap (λ (d : Encoded). d .output) rule-wrote) at stands) short nodes enough)

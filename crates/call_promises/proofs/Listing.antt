@@ -5,7 +5,7 @@ use mathlib.Core.Path.{sym, _∙_, ap}
 use mathlib.Core.List.{[], _∷_}
 use Rattle.texts.proofs.put_line as put-line
 use Rattle.texts.proofs.put_refusal_line as put-refusal-line
-use Rattle.listing_lines.proofs.rows.put_row as put-row
+use Rattle.listing_lines.proofs.rows.list_row as list-row
 use Rattle.listing_lines.proofs.pieces.put_piece as put-piece
 use Rattle.query.proofs.signed as signed
 use Rattle.call_promises.proofs.OneAnswer.{OneAnswer, OneOutcome}
@@ -16,8 +16,8 @@ put-piece-one-answer κs a x y s t p q = (ap (λ d. d .shown) (p .0 ∙ sym (q .
 
 -- ---- the steps below it
 
-pub put-row-one-answer : OneOutcome put-row.Kinds.ps put-row.Kinds.r (λ κs (records, (store, (row, (text, _)))). text .now ∷ []) put-row.Reads.Post
-put-row-one-answer κs a x y s t p q = (p .0 .ends ∙ sym (q .0 .ends), ap (λ u. u ∷ []) (p .0 .holds ∙ sym (q .0 .holds)))
+pub list-row-one-answer : OneOutcome list-row.Kinds.ps list-row.Kinds.r (λ κs (records, (store, (row, (text, _)))). text .now ∷ []) list-row.Reads.Post
+list-row-one-answer κs a x y s t p q = (p .0 .ends ∙ sym (q .0 .ends), ap (λ u. u ∷ []) (p .0 .holds ∙ sym (q .0 .holds)))
 
 pub put-line-one-answer : OneOutcome put-line.Kinds.ps put-line.Kinds.r (λ κs (buffer, (at, (row, (depth, (r, (store, _)))))). buffer .now ∷ []) put-line.Reads.Post
 put-line-one-answer κs a x y s t p q = (p .0 .ends ∙ sym (q .0 .ends), ap (λ u. u ∷ []) (p .0 .holds ∙ sym (q .0 .holds)))

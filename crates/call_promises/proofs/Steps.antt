@@ -8,6 +8,7 @@ use contract.Lifetimes.{Lfts}
 use borrow.Fn.Kinds.{Dens, resT, endedOf}
 use denote.Triple.Clauses.{AtExit}
 use Rattle.call_promises.proofs.OneAnswer.{OneAnswer, OneOutcome}
+use Rattle.rules.proofs.settings.room_in as room-in
 use Rattle.wire.proofs.numbers.wide as wide
 use Rattle.wire.proofs.numbers.u16_at as u16-at
 use Rattle.wire.proofs.numbers.u32_at as u32-at
@@ -129,6 +130,9 @@ compare-one-answer κs a x y s t p q = p ∙ sym q
 
 pub is-equal-one-answer : OneAnswer is-equal.Kinds.ps is-equal.Kinds.r is-equal.Reads.Post
 is-equal-one-answer κs a x y s t p q = p ∙ sym q
+
+pub room-in-one-answer : OneAnswer room-in.Kinds.ps room-in.Kinds.r room-in.Reads.Post
+room-in-one-answer κs a x y s t p q = p ∙ sym q
 
 -- ---- a block
 pub node-at-one-answer : OneAnswer node-at.Kinds.ps node-at.Kinds.r node-at.Reads.Post

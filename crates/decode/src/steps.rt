@@ -18,21 +18,11 @@ use row::steps::RowBlock;
 use row::steps::block_at;
 use row::steps::row_of;
 use rules::Extent;
-use rules::LONGEST;
 use rules::Read;
 use rules::Refusal;
 use rules::Settings;
 use rules::Why;
-
-// Of a slice to be written only so many bytes count.
-fn room_in(len: usize) -> u64
-    ensures { λ r. ⌜ r ≡ min len 4294967295 ⌝ }
-{
-    if LONGEST < len {
-        return LONGEST as u64;
-    }
-    len as u64
-}
+use rules::room_in;
 
 // Room for a judged row's records, then for its payload bytes, in slices of these lengths; each refusal has the whole row's need.
 pub fn room_for(row: Extent, at: usize, records: usize, payload: usize) -> Read

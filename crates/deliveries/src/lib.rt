@@ -34,8 +34,8 @@ fn open_file(argument: usize, file: &[u8]) -> i32
     fd
 }
 
-// Reads the file that an argument names into the space, from a place on, and answers where its bytes end: before the space's end, so
-// that there is room for the stream. Where that fails it tells so, and answers a place past the space. Given such a place it does
+// Reads the file that an argument names into the space, from a position on, and answers where its bytes end: before the space's end, so
+// that there is room for the stream. Where that fails it tells so, and answers a position past the space. Given such a position it does
 // nothing and hands it on, so that a caller with several files tests the last answer alone.
 fn read_table(argument: usize, file: &[u8], space: &mut [u8], from: usize) -> usize
     requires { ⌜ length (now file) ≤ 16 ⌝ }
@@ -79,9 +79,9 @@ fn deliver_stream(space: &mut [u8], ends: Ends)
     libc::close(fd);
     match outcome {
         Outcome::Told(ran) => tell_run(ran),
-        Outcome::NoRoom(place) => {
+        Outcome::NoRoom(position) => {
             let room = (space.len() - ends.registry) as u64;
-            tell_failure(Failure::NoRoom { place, room }, b"STREAM", 5);
+            tell_failure(Failure::NoRoom { position, room }, b"STREAM", 5);
         }
         Outcome::Unreadable => tell_failure(Failure::CannotRead, b"STREAM", 5),
     }

@@ -3,7 +3,7 @@ ghost use mathlib.Core.Path.{_≡_};
 ghost use Rattle.deliveries.specs.Outcomes.{outcomeOf, tableRead};
 use rules::Ran;
 
-// How the run over a file comes out: with an answer, with a row at a place that does not end in the window, or with a failed read.
+// How the run over a file comes out: with an answer, with a row at a position that does not end in the window, or with a failed read.
 pub enum Outcome {
     Told(Ran),
     NoRoom(u64),

@@ -34,7 +34,7 @@ use Rattle.write.specs.Flat.{RowFlat}
 use Rattle.write.specs.Row.{placedRow}
 use Rattle.write.proofs.Columns.{accepted-whole}
 
--- a place that is at most m lies below the less of n and m just if it lies below n
+-- a position that is at most m lies below the less of n and m just if it lies below n
 pub within-both : (p n m : ℕ) → p ≤ m → leb p n ≡ leb p (min n m)
 within-both p n m h = by (leb p n) refl
   where

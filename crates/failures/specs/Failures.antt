@@ -12,7 +12,7 @@ unfoldable pub reason : Failure → List ℕ
 reason CannotOpen = ascii "cannot open "
 reason CannotRead = ascii "cannot read "
 reason TooLong = ascii "too long, with the files before it: "
-reason (NoRoom place room) = (ascii "the row at " ++ decimal place) ++ ((ascii " does not end within the " ++ decimal room) ++ ascii " bytes that the tables leave: ")
+reason (NoRoom position room) = (ascii "the row at " ++ decimal position) ++ ((ascii " does not end within the " ++ decimal room) ++ ascii " bytes that the tables leave: ")
 
 -- and with which file, at which path
 unfoldable pub failureLine : Failure → List ℕ → List ℕ → List ℕ

@@ -11,15 +11,15 @@ pub enum Failure {
     CannotOpen,
     CannotRead,
     TooLong,
-    NoRoom { place: u64, room: u64 },
+    NoRoom { position: u64, room: u64 },
 }
 
-fn put_no_room(buffer: &mut [u8], place: u64, room: u64) -> usize
+fn put_no_room(buffer: &mut [u8], position: u64, room: u64) -> usize
     requires { ⌜ 128 ≤ length (now buffer) ⌝ }
-    ensures { λ r. ⌜ TextPut (now (buffer .entry)) 0 (reason (Failure.NoRoom place room)) (now (buffer .exit)) r ⌝ }
+    ensures { λ r. ⌜ TextPut (now (buffer .entry)) 0 (reason (Failure.NoRoom position room)) (now (buffer .exit)) r ⌝ }
     ensures { λ r. ⌜ r ≤ 128 ⌝ }
 {
-    let next = put_number(buffer, 0, b"the row at ", place);
+    let next = put_number(buffer, 0, b"the row at ", position);
     let next = put_number(buffer, next, b" does not end within the ", room);
     put_text(buffer, next, b" bytes that the tables leave: ")
 }
@@ -33,7 +33,7 @@ fn put_reason(buffer: &mut [u8], failure: Failure) -> usize
         Failure::CannotOpen => put_text(buffer, 0, b"cannot open "),
         Failure::CannotRead => put_text(buffer, 0, b"cannot read "),
         Failure::TooLong => put_text(buffer, 0, b"too long, with the files before it: "),
-        Failure::NoRoom { place, room } => put_no_room(buffer, place, room),
+        Failure::NoRoom { position, room } => put_no_room(buffer, position, room),
     }
 }
 

@@ -19,7 +19,7 @@ use Rattle.rules.specs.Refusals.{RowTooLarge}
 use Rattle.row_laws.proofs.Sound.{sound}
 use Rattle.fill.specs.Plain.{PlainRead, Got, _>>=_, valueRead, plainNumberAt, bytesAt, leafAt, Reader, childAt, pairsAt, fieldsAt, byForm, readAt}
 
--- what is accepted is read, and leaves off at the same place
+-- what is accepted is read, and leaves off at the same position
 data Agrees {A : Type 0} : Answer A → PlainRead A → Type 0 where
   both : {a : A} {q : Pos} → Agrees (rule.Got a q) (Got a (q .at))
   refused : {r : Refusal} {x : PlainRead A} → Agrees (Refused r) x
@@ -108,7 +108,7 @@ module _ (inp : List ℕ) (lim : Limits) where
       charge-agrees (byForm inp (readAt sch inp d) (nodeAt sch i) (form (nodeAt sch i .code))) (lim .charge) 1 (p .at) p (λ (_, q).
       value-agrees (walk sch inp lim d) (readAt sch inp d) (walk-agrees sch d) (nodeAt sch i) (form (nodeAt sch i .code)) q)
 
-  -- What the walk accepts stands there, and ends at the same place.
+  -- What the walk accepts stands there, and ends at the same position.
   pub reads : (sch : List ℕ) (d i : ℕ) (p q : Pos) (v : Value) → walk sch inp lim d i p ≡ rule.Got v q → readAt sch inp d i (p .at) ≡ Got v (q .at)
   reads sch d i p q v e = from (rw e at (walk-agrees sch d i p))
     where

@@ -79,7 +79,7 @@ module _ (inp : List ℕ) (code at : ℕ) where
   pub narrow : code ≤ 12 → widthOf (form code) ≤ 8 → IsGot (leafAt inp code (form code) at) → Narrow (form code)
   narrow c l h = narrow-form (form code) (scalar-code code (omega arith)) l h
 
-  -- ---- values whose n bytes from a place on are payload
+  -- ---- values whose n bytes from a position on are payload
   pub record Stored (f : Form) (from n : ℕ) : Type 0 where
     pub there : from + n ≤ length inp
     pub ends : endRead (leafAt inp code f at) ≡ from + n

@@ -23,7 +23,7 @@ pub record RoomToFill (x : PlainRead Value) (s : FillPos) (n m : ℕ) : Type 0 w
   pub records : valueRecordStart (s .records + recordsOf (valueRead x)) ≤ n
   pub payload : s .payload + payloadOf (valueRead x) ≤ m
 
--- a place of the input, and the starts of both slices
+-- a position of the input, and the starts of both slices
 abbrev pub fillStart : ℕ → FillPos
 fillStart at = record { at = at; records = 0; payload = 0 }
 
@@ -39,7 +39,7 @@ pub record Filled (x : PlainRead Value) (tag : ℕ) (s q : FillPos) (rs rs′ ps
 
 -- ---- a row
 
--- the value of a table's root from a place on
+-- the value of a table's root from a position on
 abbrev pub rowValue : List ℕ → List ℕ → ℕ → Value
 rowValue sch inp at = valueRead (readAt sch inp 64 0 at)
 

@@ -12,7 +12,7 @@ use Rattle.rules.specs.Block.{nodeAt}
 use Rattle.rules.specs.Value.{Value, nothing, boolean, number, wide, blob, variant, repeated, tuple, Items, done, item, Values, none, more}
 use Rattle.rules.specs.declared.table_record.Node.{Node}
 
--- something read and the place after it, or nothing
+-- something read and the position after it, or nothing
 pub data PlainRead (A : Type 0) : Type 0 where
   Got : A → ℕ → PlainRead A
   Not : PlainRead A
@@ -27,7 +27,7 @@ unfoldable pub IsGot : {A : Type 0} → PlainRead A → Type 0
 IsGot (Got a q) = Unit
 IsGot Not = ⊥
 
--- the value that was read, and the place after it
+-- the value that was read, and the position after it
 unfoldable pub valueRead : PlainRead Value → Value
 valueRead (Got v q) = v
 valueRead Not = nothing
@@ -65,7 +65,7 @@ leafAt inp code (repeated-form w) at = Not
 leafAt inp code tuple-form at = Not
 leafAt inp code unknown at = Not
 
--- how a child is read: by its index in the block, from a place
+-- how a child is read: by its index in the block, from a position
 abbrev pub Reader : Type 0
 Reader = ℕ → ℕ → PlainRead Value
 
@@ -111,7 +111,7 @@ byForm inp rec n (raw w) at = leafAt inp (n .code) (raw w) at
 byForm inp rec n sized at = leafAt inp (n .code) sized at
 byForm inp rec n unknown at = leafAt inp (n .code) unknown at
 
--- the value of node i from a place on, at most so many levels deep
+-- the value of node i from a position on, at most so many levels deep
 unfoldable pub readAt : List ℕ → List ℕ → ℕ → Reader
 readAt sch inp zero i at = Not
 readAt sch inp (suc depth) i at = byForm inp (readAt sch inp depth) (nodeAt sch i) (form (nodeAt sch i .code)) at

@@ -65,7 +65,7 @@ fn scalar_at(code: u8, input: &[u8], at: usize, width: usize) -> u64
     x
 }
 
-// A value whose n bytes from place `from` on are payload: they go straight from one slice into the other.
+// A value whose n bytes from position `from` on are payload: they go straight from one slice into the other.
 fn fill_bytes(
     code: u8,
     input: &[u8],
@@ -160,7 +160,7 @@ fn next_child(code: u8, first: usize, count: usize, input: &[u8], i: usize, at: 
     Next::Child(tag, first + tag as usize, next)
 }
 
-// The same records and payload, at another place of the input.
+// The same records and payload, at another position of the input.
 fn fill_pos_at(s: FillPos, at: usize) -> FillPos
     ensures { λ r. ⌜ r ≡ record { at = at; records = s .records; payload = s .payload } ⌝ }
 {
@@ -196,8 +196,10 @@ fn fill_children(
     records: &mut [u8],
     payload: &mut [u8],
 ) -> FillPos
-    requires { ⌜ Closed (now block) × NodeIn node (length (now block)) × (14 < nodeAt (now block) node .code) × RoomToFill (readAt (now block) (now input) depth node (s .at)) s (length (now records)) (length (now payload)) ⌝ }
-    ensures { λ r. ⌜ Filled (readAt (now (block .entry)) (now (input .entry)) depth node (s .at)) tag s r (now (records .entry)) (now (records .exit)) (now (payload .entry)) (now (payload .exit)) ⌝ }
+    requires { ⌜ Closed (now block) × NodeIn node (length (now block)) × (14 < nodeAt (now block) node .code)
+        × RoomToFill (readAt (now block) (now input) depth node (s .at)) s (length (now records)) (length (now payload)) ⌝ }
+    ensures { λ r. ⌜ Filled (readAt (now (block .entry)) (now (input .entry)) depth node (s .at))
+        tag s r (now (records .entry)) (now (records .exit)) (now (payload .entry)) (now (payload .exit)) ⌝ }
 {
     let code = node_code(block, node);
     let first = node_first(block, node) as usize;
@@ -244,8 +246,10 @@ fn leaf_at(
     s: FillPos,
     records: &mut [u8],
 ) -> ToFill
-    requires { ⌜ Closed (now block) × NodeIn node (length (now block)) × (code ≡ nodeAt (now block) node .code) × Held (readAt (now block) (now input) depth node (s .at)) s (length (now records)) ⌝ }
-    ensures { λ r. ⌜ LeadsToFill (readAt (now (block .entry)) (now (input .entry)) depth node (s .at)) (now (input .entry)) code tag s (now (records .entry)) (now (records .exit)) r ⌝ }
+    requires { ⌜ Closed (now block) × NodeIn node (length (now block)) × (code ≡ nodeAt (now block) node .code)
+        × Held (readAt (now block) (now input) depth node (s .at)) s (length (now records)) ⌝ }
+    ensures { λ r. ⌜ LeadsToFill (readAt (now (block .entry)) (now (input .entry)) depth node (s .at)) (now (input .entry))
+        code tag s (now (records .entry)) (now (records .exit)) r ⌝ }
 {
     if code < 15 {
         return ToFill::Leaf(code, tag, s);
@@ -285,8 +289,10 @@ fn fill_value(
     records: &mut [u8],
     payload: &mut [u8],
 ) -> FillPos
-    requires { ⌜ Closed (now block) × NodeIn node (length (now block)) × RoomToFill (readAt (now block) (now input) depth node (s .at)) s (length (now records)) (length (now payload)) ⌝ }
-    ensures { λ r. ⌜ Filled (readAt (now (block .entry)) (now (input .entry)) depth node (s .at)) tag s r (now (records .entry)) (now (records .exit)) (now (payload .entry)) (now (payload .exit)) ⌝ }
+    requires { ⌜ Closed (now block) × NodeIn node (length (now block))
+        × RoomToFill (readAt (now block) (now input) depth node (s .at)) s (length (now records)) (length (now payload)) ⌝ }
+    ensures { λ r. ⌜ Filled (readAt (now (block .entry)) (now (input .entry)) depth node (s .at))
+        tag s r (now (records .entry)) (now (records .exit)) (now (payload .entry)) (now (payload .exit)) ⌝ }
 {
     let code = node_code(block, node);
     let reached = leaf_at(block, node, code, depth, input, tag, s, records);
@@ -303,7 +309,7 @@ fn fill_value(
     }
 }
 
-// A row's root, from place `at` on, into the starts of both slices: what decode leaves. The root has children, and so the
+// A row's root, from position `at` on, into the starts of both slices: what decode leaves. The root has children, and so the
 // row enters by the children step: the node step then has one caller, and the compiler makes one function of the two.
 pub fn fill_row(block: &[u8], input: &[u8], at: usize, records: &mut [u8], payload: &mut [u8])
     requires { ⌜ Fillable (now block) (now input) at (length (now records)) (length (now payload)) ⌝ }

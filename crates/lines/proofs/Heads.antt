@@ -3,12 +3,9 @@
 use Prim.Native.Nat.{ℕ}
 use mathlib.Core.Path.{_≡_, refl, ap, _∙_}
 use mathlib.Core.List.{List, _++_, append-assoc}
-use native.Mathlib.Omega.{arith}
-use lib.ListN.{length, replicate, length-append, length-replicate}
-use lib.Seq.{length-take-le}
 use Rattle.rules.specs.Choice.{pick}
 use Rattle.rules.specs.Names.{ascii}
-use Rattle.rules.specs.Refusals.{Line, lineOf, labelsOf, inBytes, reportOf}
+use Rattle.rules.specs.Refusals.{lineOf, labelsOf, inBytes, reportOf}
 use Rattle.rules.specs.Lines.{decimal, word, carried, stoppedAt, endLine, refusedLine, runLineOf, runLine}
 use Rattle.rules.specs.declared.refusal.Why.{Why}
 use Rattle.rules.specs.declared.refusal.Why.the-variants.{Setting, BadSchemaTable, TooDeep, UnexpectedChildren, TooManyChildren, EmptyTableSchemas, UnknownRegistryReference, TableSchemaRootMustBeTuple, TableSchemaMustBeTuple, TableSchemaChildMissingName, MissingTableSchema, Truncated, RowTooLarge, BlobTooLarge, ValueDoesNotMatchSchema, TupleLength, InvalidVariantTag, BadValueTable, NoNodeRoom, NoPayloadRoom, NoOutputRoom}
@@ -18,11 +15,7 @@ use Rattle.rules.specs.declared.answer.Ran.{Ran}
 use Rattle.rules.specs.declared.answer.Stop.{Stop}
 use Rattle.lines.specs.Puts.{TextPut, head}
 
--- the name's bytes are the name and blanks
-pub name-size : (l : Line) (r : RefusalLine) → r ≡ inBytes l → length (r .name) ≡ 28
-unfolding inBytes
-name-size l r e = rw e (length-take-le 28 (ascii (l .name) ++ replicate 28 32) (omega (arith, length-append (ascii (l .name)) (replicate 28 32), length-replicate {A = ℕ} 28 32)))
-
+-- of the name's bytes the word is the name
 name-word : (w : Why) → word (inBytes (lineOf w) .name) ≡ ascii (lineOf w .name)
 unfolding inBytes lineOf word pick ascii
 name-word Setting = refl

@@ -9,7 +9,7 @@ use Rattle.rules.specs.Names.{ascii}
 use Rattle.rules.specs.Lines.{decimal, word, carried}
 use Rattle.rules.specs.declared.refusal.RefusalLine.{RefusalLine}
 
--- a buffer that held s₀ holds s, which is s₀ with a text over it from place `at` on, and the text ends at `end`
+-- a buffer that held s₀ holds s, which is s₀ with a text over it from position `at` on, and the text ends at `end`
 pub record TextPut (s₀ : List ℕ) (at : ℕ) (text : List ℕ) (s : List ℕ) (end : ℕ) : Type 0 where
   pub holds : s ≡ over s₀ at text
   pub ends : end ≡ at + length text

@@ -1,4 +1,4 @@
-// Lines of text, made in a buffer: each function puts a text or a number at a place and answers where the next one goes.
+// Lines of text, made in a buffer: each function puts a text or a number at a position and answers where the next one goes.
 ghost use Prim.Native.Nat.{_+_, _≤_};
 ghost use mathlib.Core.List.{_++_};
 ghost use lib.ListN.{length};

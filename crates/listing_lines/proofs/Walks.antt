@@ -98,7 +98,7 @@ module _ (table store : List ℕ) where
     pub reads : ReadsI table store d (spot (q .at) (q .from)) rest z
     pub counted : items rest ≡ left
     pub comes : over text (q .to) (linesBelowI row level rest) ≡ over text₀ (q₀ .to) all
-    pub place : q .to + length (linesBelowI row level rest) ≡ q₀ .to + length all
+    pub position : q .to + length (linesBelowI row level rest) ≡ q₀ .to + length all
     pub few : q .to + (128 * q₀ .at + 2 * q₀ .from) ≤ q₀ .to + (128 * q .at + 2 * q .from)
     pub fits : q .to + (128 * z .at + 2 * z .from) ≤ length text₀ + (128 * q .at + 2 * q .from)
     pub same : length text ≡ length text₀
@@ -114,7 +114,7 @@ module _ (table store : List ℕ) where
 
   pub going-end : {d row level : ℕ} {z : table-of.Spot} {q₀ : WritePos} {all text₀ text : List ℕ} {q : WritePos} → Going d row level z q₀ all text₀ text q 0 → Done z q₀ all text₀ text q
   unfolding linesBelow over items belowI payloadBytesI
-  going-end {d} {row} {level} {z} {q₀} {all} {text₀} {text} {q} g = of (g .rest) (g .reads) (g .counted) (g .comes) (g .place)
+  going-end {d} {row} {level} {z} {q₀} {all} {text₀} {text} {q} g = of (g .rest) (g .reads) (g .counted) (g .comes) (g .position)
     where
       of : (is : Items) → ReadsI table store d (spot (q .at) (q .from)) is z → items is ≡ 0 → over text (q .to) (linesBelowI row level is) ≡ over text₀ (q₀ .to) all → q .to + length (linesBelowI row level is) ≡ q₀ .to + length all → Done z q₀ all text₀ text q
       of done r n e f =
@@ -186,7 +186,7 @@ module _ (table store : List ℕ) (depth at from to room : ℕ) (k : Listable ta
           reads = rw own-bytes (kids-read table store short stood whole);
           counted = sym (e ∙ own-told .count);
           comes = refl;
-          place = refl;
+          position = refl;
           few = omega arith;
           fits = let n : length text ≡ length text₀ = ap length (u .holds) ∙ length-over _ _ _ in omega (arith, n, same-room, l, own-bytes, own-told .own, k .fits);
           same = refl;
@@ -252,7 +252,7 @@ module _ (table store : List ℕ) (depth at from to room : ℕ) (k : Listable ta
           reads = rw (m, f) (the-turn .follows);
           counted = let c : items (g .rest) ≡ suc (items (the-turn .rest)) = ap items (the-turn .first) in omega (arith, g .counted, c);
           comes = ap (λ (x : List ℕ). over x (r .to) others) (l .put .holds) ∙ over-at lines others text (q .to) (r .to) (l .put .ends) ∙ ap (over text (q .to)) child-lines ∙ g .comes;
-          place = omega (arith, l .put .ends, n, g .place);
+          position = omega (arith, l .put .ends, n, g .position);
           few = omega (arith, l .few, g .few);
           fits = omega (arith, l .few, g .fits);
           same = ap length (l .put .holds) ∙ length-over _ _ _ ∙ g .same;

@@ -19,7 +19,7 @@ use Rattle.lines.specs.Puts.{TextPut}
 unfoldable pub childCount : ValueRecord → ℕ
 childCount r = pick (ltb (r .kind) 15) 0 (r .size)
 
--- a value stands at a record, with `from` payload bytes before it, at most 64 deep, and there is room for its lines from place `to` on
+-- a value stands at a record, with `from` payload bytes before it, at most 64 deep, and there is room for its lines from position `to` on
 pub record Listable (table store : List ℕ) (depth at from to room : ℕ) : Type 0 where
   pub whole : IsWhole (valueStandingAt table store depth at from)
   pub short : length table < 2 ^ 32

@@ -7,7 +7,7 @@ ghost use Rattle.rules.specs.Block as block;
 ghost use Rattle.rules.specs.Rows.{oneTable};
 ghost use Rattle.rules.specs.Listing.{filesOk, pieceAt};
 ghost use Rattle.listing_lines.specs.Pieces.{shownLength, showPiece, pieceShown};
-use crate::rows::put_row;
+use crate::rows::list_row;
 use decode::next_row;
 use lines::put_end_line;
 use record::node::NODE_SIZE;
@@ -106,7 +106,7 @@ fn put_read(
         payload,
     );
     match read {
-        Read::Row(extent) => Shown::Row(put_row(records, payload, row, text), extent.bytes),
+        Read::Row(extent) => Shown::Row(list_row(records, payload, row, text), extent.bytes),
         Read::End => Shown::Last(put_end_line(text, row, at)),
         Read::Refused(why) => Shown::Last(put_refusal_line(text, why)),
     }

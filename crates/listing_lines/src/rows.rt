@@ -29,8 +29,8 @@ pub struct RowNode {
     pub from: usize,
 }
 
-// A node and all below it, from a place of the text on. What a record says of its size is a count of children or a length of payload.
-fn put_value(
+// A node and all below it, from a position of the text on. What a record says of its size is a count of children or a length of payload.
+fn list_value(
     records: &[u8],
     store: &[u8],
     depth: usize,
@@ -55,7 +55,7 @@ fn put_value(
             at: q.at,
             from: q.from,
         };
-        q = put_value(records, store, depth - 1, child, q.to, text);
+        q = list_value(records, store, depth - 1, child, q.to, text);
         left -= 1;
     }
     q
@@ -63,7 +63,7 @@ fn put_value(
 
 // The lines of the row whose table begins both slices, from the start of the text on, and where they end. A line has at most 128 bytes,
 // and two for each byte of payload.
-pub fn put_row(records: &[u8], store: &[u8], row: u64, text: &mut [u8]) -> usize
+pub fn list_row(records: &[u8], store: &[u8], row: u64, text: &mut [u8]) -> usize
     requires { ⌜ RowListable (now records) (now store) (length (now text)) ⌝ }
     ensures { λ n. ⌜ TextPut (now (text .entry)) 0 (rowLines row (wholeValue (rootValue (now (records .entry)) (now (store .entry))))) (now (text .exit)) n ⌝ }
     ensures { λ n. ⌜ n ≤ 655360 ⌝ }
@@ -73,6 +73,6 @@ pub fn put_row(records: &[u8], store: &[u8], row: u64, text: &mut [u8]) -> usize
         at: 0,
         from: 0,
     };
-    let q = put_value(records, store, 64, root, 0, text);
+    let q = list_value(records, store, 64, root, 0, text);
     q.to
 }

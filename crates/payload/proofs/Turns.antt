@@ -35,7 +35,7 @@ part-both s at (suc a) b =
     let f : at + suc a ≡ (at + 1) + a = omega arith in
     rw (e, f, part-both s (at + 1) a b)
 
--- ---- a copy by words: w bytes from place j on, over the first k, which reach that far
+-- ---- a copy by words: w bytes from position j on, over the first k, which reach that far
 pub copy-word : (src dst : List ℕ) (from at j k w : ℕ) → j ≤ k → k ≤ j + w → over (over dst at (part src from k)) (at + j) (part src (from + j) w) ≡ over dst at (part src from (j + w))
 copy-word src dst from at j k w h l =
     let a = part src from j in
@@ -50,7 +50,7 @@ copy-word src dst from at j k w h l =
     ∙ over-at a c dst at (at + j) e
     ∙ ap (over dst at) (sym (part-both src from j w))
 
--- the same at a place that is kept from going past the last one
+-- the same at a position that is kept from going past the last one
 copy-near : (src dst : List ℕ) (from at n last w k : ℕ) → last + w ≡ n → over (over dst at (part src from (min k n))) (at + min k last) (part src (from + min k last) w) ≡ over dst at (part src from (min (k + w) n))
 copy-near src dst from at n last w k e =
     let j : min k last + w ≡ min (k + w) n = omega arith in

@@ -31,7 +31,7 @@ fn least(a: usize, b: usize) -> usize
     if a < b { a } else { b }
 }
 
-// The word at place k, or the last one where that comes first; and the place after k's.
+// The word at position k, or the last one where that comes first; and the position after k's.
 fn copy_near(
     input: &[u8],
     from: usize,
@@ -49,8 +49,8 @@ fn copy_near(
     k + 8
 }
 
-// n bytes of the input from place `from` on, into the payload store from place `to` on: four words at a turn, of which none goes past the
-// last, and that one at the end. So all names of 9 to 40 bytes take one turn, and the processor has no length to guess.
+// n bytes of the input from position `from` on, into the payload store from position `to` on: four words at a turn, of which none goes
+// past the last, and that one at the end. So all names of 9 to 40 bytes take one turn, and the processor has no length to guess.
 pub fn copy(input: &[u8], from: usize, n: usize, payload: &mut [u8], to: usize)
     requires { ⌜ (from + n ≤ length (now input)) × (to + n ≤ length (now payload)) ⌝ }
     ensures { λ _. ⌜ now (payload .exit) ≡ over (now (payload .entry)) to (part (now (input .entry)) from n) ⌝ }

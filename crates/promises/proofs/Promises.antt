@@ -141,7 +141,7 @@ pub reading-is-the-grammar : (f : Format) (inp : List ℕ) (lim : Limits) (at : 
     (rowAt f inp lim at ≡ Got (t, v) q) ↔ Accepts f inp lim at t v q
 reading-is-the-grammar = row-agrees
 
--- it refuses a row just for the reason that is there: up to a place the bytes begin a row within the limits, and what comes next fails
+-- it refuses a row just for the reason that is there: up to a position the bytes begin a row within the limits, and what comes next fails
 pub refused-for-its-reason : (f : Format) (inp : List ℕ) (lim : Limits) (at : ℕ) → formatRules f ≡ Accepted → Bytes inp → at ≤ length inp → (r : Refusal) →
     (rowAt f inp lim at ≡ Refused r) ↔ RowReason f inp lim at r
 refused-for-its-reason = row-reasons
@@ -253,22 +253,22 @@ decode-leaves-alone = decoded-none
 
 -- A row of table 0 that was decoded, and whose table is encoded again under the same limits and with room:
 module _ (f : Format) (s : Settings) (inp : List ℕ) (at : ℕ) (rs ps : List ℕ) (bs : Bytes inp) (e : Extent)
-    (read : readSaid (decodeRule f s inp at rs ps .answer) ≡ rowSaid e) (zero : e .table ≡ 0) (first n : ℕ) (recs pay out : List ℕ) (place : ℕ)
+    (read : readSaid (decodeRule f s inp at rs ps .answer) ≡ rowSaid e) (zero : e .table ≡ 0) (first n : ℕ) (recs pay out : List ℕ) (position : ℕ)
     (records : recs ≡ take (valueRecordStart (e .records)) (decodeRule f s inp at rs ps .records)) (payload : pay ≡ take (e .payload) (decodeRule f s inp at rs ps .payload))
-    (asked : EncodeAsked f s first n recs pay out place) (fits : place + e .bytes ≤ room out) where
+    (asked : EncodeAsked f s first n recs pay out position) (fits : position + e .bytes ≤ room out) where
   -- encode answers that row, with its very counts,
-  pub encodes-again : encodeFrom f s first n recs pay out place .answer ≡ Written.Row e
-  encodes-again = again.encodes-again f s inp at rs ps bs e read zero first n recs pay out place records payload asked fits
+  pub encodes-again : encodeFrom f s first n recs pay out position .answer ≡ Written.Row e
+  encodes-again = again.encodes-again f s inp at rs ps bs e read zero first n recs pay out position records payload asked fits
 
   -- leaves the very bytes of the row that stood in the stream, exactly where every boolean byte of it is 0 or 1,
   pub writes-again : (w : Value) (b : List ℕ) (r : TableRow (tables f) (schemaOf f) 0 w b) → Stands inp at b →
-      (encodeFrom f s first n recs pay out place .output ≡ over out place (part inp at (e .bytes))) ↔ PlainRow r
-  writes-again = again.writes-again f s inp at rs ps bs e read zero first n recs pay out place records payload asked fits
+      (encodeFrom f s first n recs pay out position .output ≡ over out position (part inp at (e .bytes))) ↔ PlainRow r
+  writes-again = again.writes-again f s inp at rs ps bs e read zero first n recs pay out position records payload asked fits
 
   -- and its bytes, as they stand in the output, decode anywhere in a stream to the same table.
-  pub reads-again : (inp′ : List ℕ) (at′ : ℕ) (rs′ ps′ : List ℕ) → Stands inp′ at′ (part (encodeFrom f s first n recs pay out place .output) place (e .bytes)) → length inp′ ≤ 4294967295 →
+  pub reads-again : (inp′ : List ℕ) (at′ : ℕ) (rs′ ps′ : List ℕ) → Stands inp′ at′ (part (encodeFrom f s first n recs pay out position .output) position (e .bytes)) → length inp′ ≤ 4294967295 →
       e .records ≤ recordRoom rs′ → e .payload ≤ room ps′ → decodeRule f s inp′ at′ rs′ ps′ ≡ decodedAs e recs pay rs′ ps′
-  reads-again = again.reads-again f s inp at rs ps bs e read zero first n recs pay out place records payload asked fits
+  reads-again = again.reads-again f s inp at rs ps bs e read zero first n recs pay out position records payload asked fits
 
 -- skip gives the same table, length or refusal as decode, which adds only the two refusals for room
 pub skip-is-decode : (at : ℕ) (rs ps : List ℕ) (f : Format) (s : Settings) (inp : List ℕ) →

@@ -218,8 +218,8 @@ module _ (f : Format) (s : Settings) (first n : ℕ) (recs pay out : List ℕ) (
   extent-is = unfold writtenSaid in let z = ap (λ (d : Encoded). writtenSaid (d .answer)) is-so in one-row _ e (sym z ∙ yes)
 
   -- the row that was put out, anywhere in a stream of a checked format whose table 0 has that schema
-  module _ (f′ : Format) (checked : formatRule f′ ≡ Checked.Accepted) (below : 0 < tables f′) (same : schemaOf f′ 0 ≡ schemaOf f 0) (s′ : Settings) (inp : List ℕ) (place : ℕ)
-      (r : SkipAsked s s′ v (part (encodeFrom f s first n recs pay out at .output) at (e .bytes)) inp place) where
+  module _ (f′ : Format) (checked : formatRule f′ ≡ Checked.Accepted) (below : 0 < tables f′) (same : schemaOf f′ 0 ≡ schemaOf f 0) (s′ : Settings) (inp : List ℕ) (position : ℕ)
+      (r : SkipAsked s s′ v (part (encodeFrom f s first n recs pay out at .output) at (e .bytes)) inp position) where
     abbrev b : List ℕ
     b = encodedRow sch v
 
@@ -237,12 +237,12 @@ module _ (f : Format) (s : Settings) (first n : ℕ) (recs pay out : List ℕ) (
         record { settings = r .settings; sizes = p .0; short = r .short; format = p .1 }
 
     abbrev q : Pos
-    q = after (limits s′) v (length b) (start (limits s′) place)
+    q = after (limits s′) v (length b) (start (limits s′) position)
 
     a-row : Row (schemaOf f′ 0) v (encoded sch v)
     a-row = rw same (encoded-row (can .conforms) (is .fits) (at-home .valid))
 
-    there : Accepts f′ inp (limits s′) place 0 v q
+    there : Accepts f′ inp (limits s′) position 0 v q
     there = unfold encodedRow in record {
       bytes = le 2 0 ++ encoded sch v;
       is = table-row {t = 0} (omega arith) below a-row refl;
@@ -252,20 +252,20 @@ module _ (f : Format) (s : Settings) (first n : ℕ) (recs pay out : List ℕ) (
       ends = refl;
     }
 
-    extent-there : extent place 0 q ≡ e
+    extent-there : extent position 0 q ≡ e
     extent-there = unfold extent after start in
-        let x : (place + length b) - place ≡ length b = omega arith in
+        let x : (position + length b) - position ≡ length b = omega arith in
         let y : 0 + recordsOf v ≡ recordsOf v = omega arith in
         let z : 0 + payloadOf v ≡ payloadOf v = omega arith in
         rw (x, y, z) extent-is
 
     -- is skipped whole
-    pub skips-back : skipRule f′ s′ inp place ≡ Read.Row e
-    skips-back = skip-accepts f′ s′ inp asked place there ∙ ap Read.Row extent-there
+    pub skips-back : skipRule f′ s′ inp position ≡ Read.Row e
+    skips-back = skip-accepts f′ s′ inp asked position there ∙ ap Read.Row extent-there
 
     -- and decodes to the very records and payload, and no further byte is taken
-    pub reads-back : (rs ps : List ℕ) → HasRoom e rs ps → decodeRule f′ s′ inp place rs ps ≡ decodedAs e recs pay rs ps
-    reads-back rs ps h = decode-accepts f′ s′ inp asked place there rs ps records-fit payload-fits ∙ tidy
+    pub reads-back : (rs ps : List ℕ) → HasRoom e rs ps → decodeRule f′ s′ inp position rs ps ≡ decodedAs e recs pay rs ps
+    reads-back rs ps h = decode-accepts f′ s′ inp asked position there rs ps records-fit payload-fits ∙ tidy
       where
         records-fit : recordsOf v ≤ recordRoom rs
         records-fit = let p = ap (λ (x : Extent). x .records) extent-is in rw p (h .nodes)
@@ -273,9 +273,9 @@ module _ (f : Format) (s : Settings) (first n : ℕ) (recs pay out : List ℕ) (
         payload-fits : payloadOf v ≤ room ps
         payload-fits = let p = ap (λ (x : Extent). x .payload) extent-is in rw p (h .payload)
 
-        tidy : decodedRow place rs ps 0 v q ≡ decodedAs e recs pay rs ps
+        tidy : decodedRow position rs ps 0 v q ≡ decodedAs e recs pay rs ps
         tidy = unfold extent after start in
-            let x : (place + length b) - place ≡ length b = omega arith in
+            let x : (position + length b) - position ≡ length b = omega arith in
             let y : 0 + recordsOf v ≡ recordsOf v = omega arith in
             let z : 0 + payloadOf v ≡ payloadOf v = omega arith in
             rw (x, y, z, is .rows, is .payload, ← extent-is)

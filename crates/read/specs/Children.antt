@@ -29,14 +29,14 @@ endsAt (as-repeated w) tag = eqb tag (endTag w)
 endsAt as-tuple tag = false
 
 module _ (code first count : ℕ) where
-  -- the child that a tag at a place names, or 17 there
+  -- the child that a tag at a position names, or 17 there
   unfoldable pub byTag : Shape → ℕ → ReadNumber → Pick
   byTag s at (Is tag next) =
       pick (endsAt s tag) (End next)
       (pick (ltb tag count) (Child (first + tag) next) (Refused (InvalidVariantTag code tag count at)))
   byTag s at (ReadNumber.Refused r) = Refused r
 
-  -- the child after i others, from a place
+  -- the child after i others, from a position
   unfoldable pub picked : List ℕ → Shape → ℕ → ℕ → Pick
   picked inp (as-variant w) i at = byTag (as-variant w) at (readNumberAt inp w (14 + w) at)
   picked inp (as-repeated w) i at = byTag (as-repeated w) at (readNumberAt inp w (14 + w) at)

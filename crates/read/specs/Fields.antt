@@ -10,7 +10,7 @@ use Rattle.rules.specs.Refusals.{Truncated}
 use Rattle.read.specs.declared.fields.ReadNumber.{ReadNumber}
 use Rattle.read.specs.declared.fields.ReadNumber.the-variants.{Is, Refused}
 
--- the number in w bytes and the place after it, or 12 at the cut field
+-- the number in w bytes and the position after it, or 12 at the cut field
 unfoldable pub readNumberAt : List ℕ → ℕ → ℕ → ℕ → ReadNumber
 readNumberAt inp w context at = pick (leb w (length inp - at)) (Is (leAt inp at w) (at + w)) (Refused (Truncated context at))
 

@@ -41,7 +41,7 @@ pub record Ready (inp : List ℕ) (charge : ℕ) (p : SkipPos) : Type 0 where
   pub costs : 0 < charge
   pub total : p .records + p .budget .remaining < 2 ^ 32
 
--- ---- a row's value, at a place of the input
+-- ---- a row's value, at a position of the input
 
 pub record Rooted (s inp : List ℕ) (settings : Settings) (at : ℕ) : Type 0 where
   pub sound : SoundNodes s

@@ -13,7 +13,7 @@ use wire::u16_at;
 use wire::u32_at;
 use wire::wide;
 
-// A number and the place after it, or 12 where its bytes are cut.
+// A number and the position after it, or 12 where its bytes are cut.
 pub enum ReadNumber {
     Is(u64, usize),
     Refused(Refusal),

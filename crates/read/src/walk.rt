@@ -370,7 +370,7 @@ fn skip_children(
     }
 }
 
-// A row's value: the root of its table's block, from a place, with the whole allowance. The root is no leaf, and the row enters by
+// A row's value: the root of its table's block, from a position, with the whole allowance. The root is no leaf, and the row enters by
 // the children step: so the node step has one caller, is compiled into it, and a leaf costs no call.
 pub fn skip_root(block: &[u8], input: &[u8], at: usize, settings: Settings) -> Skipped
     requires { ⌜ Rooted (now block) (now input) settings at ⌝ }

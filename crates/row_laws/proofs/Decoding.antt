@@ -55,7 +55,7 @@ module _ (at : ℕ) (rs ps : List ℕ) where
 
 -- ---- what decode leaves in its two slices
 
--- a row of v of table t, that starts at a place and leaves off at q, written into two slices
+-- a row of v of table t, that starts at a position and leaves off at q, written into two slices
 abbrev pub decodedRow : ℕ → List ℕ → List ℕ → ℕ → Value → Pos → Decoded
 decodedRow at rs ps t v q = record { answer = Row (extent at t q); records = over rs 0 (flat v 0 0); payload = over ps 0 (payloadBytes v) }
 

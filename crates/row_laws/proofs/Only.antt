@@ -1,4 +1,4 @@
--- At one place of the input stands at most one row of a schema.
+-- At one position of the input stands at most one row of a schema.
 -- Assumes nothing.
 use Prim.Native.Nat.{ℕ, zero, suc, _+_, _^_, _<_}
 use mathlib.Core.Path.{_≡_, refl, sym, ap, _∙_}

@@ -26,7 +26,7 @@ use Rattle.row_laws.proofs.TableRows.{row-agrees}
 use Rattle.row_laws.proofs.Door.{MayAsk, through-end, door-asked, behind-open}
 use Rattle.row_laws.proofs.Decoding.{accepts-inside}
 
--- from a place on, skip accepts just these rows one after another, and then stops so
+-- from a position on, skip accepts just these rows one after another, and then stops so
 pub data Iterates (f : Format) (inp : List ℕ) (lim : Limits) : ℕ → List RowSpan → Stop → Type 0 where
   ended : {at : ℕ} →
       skipFrom f inp lim at ≡ End →
@@ -64,7 +64,7 @@ module _ (f : Format) (inp : List ℕ) (lim : Limits) (bs : Bytes inp) where
           differ k = cc
       by false q = got (rowAt f inp lim at) refl q
 
-  -- the run from a place on, with enough turns, is skip iterated
+  -- the run from a position on, with enough turns, is skip iterated
   pub run-iterates : (enough at : ℕ) → at ≤ length inp → length inp - at < enough → Iterates f inp lim at (runFrom f inp lim enough at .rows) (runFrom f inp lim enough at .stop)
   unfolding runFrom goOn
   run-iterates zero at h l = absurd (omega arith)

@@ -1,4 +1,4 @@
--- A row at a place of a stream is read just if it stands there, within the limits.
+-- A row at a position of a stream is read just if it stands there, within the limits.
 -- Assumes nothing.
 use Prim.Native.Nat.{ℕ, _+_, _^_, _≤_, _<_}
 use mathlib.Core.Path.{_≡_, refl}

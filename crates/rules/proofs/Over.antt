@@ -29,7 +29,7 @@ over-more (x ∷ xs) ys s at =
     let e : at + suc (length xs) ≡ (at + 1) + length xs = omega arith in
     rw e (over-more xs ys (set s at x) (at + 1))
 
--- the same, where the second run's place is known by an equation
+-- the same, where the second run's position is known by an equation
 pub over-at : (xs ys s : List ℕ) (at next : ℕ) → next ≡ at + length xs → over (over s at xs) next ys ≡ over s at (xs ++ ys)
 over-at xs ys s at next e = rw e (over-more xs ys s at)
 

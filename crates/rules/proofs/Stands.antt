@@ -1,4 +1,4 @@
--- Bytes that stand at a place of a list, and numbers among them, over the width.
+-- Bytes that stand at a position of a list, and numbers among them, over the width.
 -- Assumes nothing.
 use Prim.Native.Nat.{ℕ, zero, suc, _+_, _*_, _^_, _≤_, _<_, _/_, _%_}
 use mathlib.Core.Path.{_≡_, refl, sym, ap, _∙_}

@@ -15,7 +15,6 @@ use Rattle.rules.specs.declared.answer.Stop.{Stop}
 use Rattle.rules.specs.declared.answer.Written.{Written}
 use Rattle.rules.specs.declared.query.Scalar.{Scalar}
 use Rattle.rules.specs.declared.query.Queried.{Queried}
-use Rattle.rules.specs.declared.query.Viewed.{Viewed}
 
 -- number, place, and then what is carried or returned
 pub record Said : Type 0 where
@@ -84,8 +83,3 @@ scalarValues (Scalar.Children count) = pos count ∷ []
 unfoldable pub queriedSaid : Queried → HostSaid
 queriedSaid (Queried.Value x) = hostSaid (scalarValues x)
 queriedSaid (Queried.Refused r) = hostRefused r
-
--- a getter of the row view
-unfoldable pub viewedSaid : Viewed → HostSaid
-viewedSaid (Viewed.Number n) = hostSaid (pos n ∷ [])
-viewedSaid (Viewed.Refused r) = hostRefused r

@@ -19,22 +19,22 @@ unfoldable pub le : ℕ → ℕ → List ℕ
 le zero x = []
 le (suc w) x = x % 256 ∷ le w (x / 256)
 
--- the little-endian number in the w bytes from place `at` on; a byte past the end counts as 0
+-- the little-endian number in the w bytes from position `at` on; a byte past the end counts as 0
 unfoldable pub leAt : List ℕ → ℕ → ℕ → ℕ
 leAt s at zero = 0
 leAt s at (suc w) = getD s at 0 + 256 * leAt s (at + 1) w
 
--- the n bytes from place `at` on; a byte past the end counts as 0
+-- the n bytes from position `at` on; a byte past the end counts as 0
 unfoldable pub part : List ℕ → ℕ → ℕ → List ℕ
 part s at zero = []
 part s at (suc n) = getD s at 0 ∷ part s (at + 1) n
 
--- the list xs stands in s at place `at`
+-- the list xs stands in s at position `at`
 unfoldable pub Stands : List ℕ → ℕ → List ℕ → Type 0
 Stands s at [] = at ≤ length s
 Stands s at (x ∷ xs) = ((at < length s) × (getD s at 0 ≡ x)) × Stands s (at + 1) xs
 
--- s with xs written over it from place `at` on
+-- s with xs written over it from position `at` on
 unfoldable pub over : List ℕ → ℕ → List ℕ → List ℕ
 over s at [] = s
 over s at (x ∷ xs) = over (set s at x) (at + 1) xs

@@ -1,5 +1,5 @@
--- Why a row is refused: up to a place the bytes are the beginning of a row within the limits, and what comes next there fails.
--- No reader is named here. `at` is a place of the input, `spent` what the row was charged for all that stands before it.
+-- Why a row is refused: up to a position the bytes are the beginning of a row within the limits, and what comes next there fails.
+-- No reader is named here. `at` is a position of the input, `spent` what the row was charged for all that stands before it.
 -- Assumes nothing: these are definitions.
 use Prim.Native.Nat.{ℕ, _+_, _^_, _≤_, _<_}
 use mathlib.Core.Path.{_≡_}
@@ -18,17 +18,18 @@ use Rattle.rules.specs.declared.refusal.Refusal.{Refusal}
 use Rattle.rules.specs.Refusals.{MissingTableSchema, Truncated, RowTooLarge, BlobTooLarge, InvalidVariantTag}
 
 module _ (inp : List ℕ) where
-  -- the input ends within the n bytes from a place on
+  -- the input ends within the n bytes from a position on
   abbrev pub Cut : ℕ → ℕ → Type 0
   Cut at n = length inp < at + n
 
-  -- at a place stands the number x in w bytes
+  -- at a position stands the number x in w bytes
   pub record Number (at w x : ℕ) : Type 0 where
     pub fits : x < 256 ^ w
     pub stands : Stands inp at (le w x)
 
 module _ (inp : List ℕ) (lim : Limits) where
-  -- at a place stands a whole value of a schema, each blob within its limit; it ends at at′, and what is spent by then is within the row limit
+  -- at a position stands a whole value of a schema, each blob within its limit; it ends at at′, and what is spent by then is within the
+  -- row limit
   pub record StandsWhole (s : Schema) (at spent at′ spent′ : ℕ) : Type 0 where
     pub value : Value
     pub bytes : List ℕ
@@ -40,7 +41,7 @@ module _ (inp : List ℕ) (lim : Limits) where
     pub spends : spent′ ≡ spent + costs (lim .charge) value
 
   mutual
-    -- a node that begins at a place: the row is charged for it before any byte of it, or 13 where it would start
+    -- a node that begins at a position: the row is charged for it before any byte of it, or 13 where it would start
     pub data NodeReason : Schema → ℕ → ℕ → Refusal → Type 0 where
       dear-node : {s : Schema} {at spent : ℕ} →
           lim .row < spent + lim .charge →

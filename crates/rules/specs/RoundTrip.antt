@@ -77,8 +77,8 @@ module _ (s : Settings) (table names : List ℕ) (first n : ℕ) (recs pay out :
 
 -- A row of v stands somewhere in a stream that is not too long; the reader's settings are inside document 01's bounds, its blob limits no
 -- lower than the writer's, and its row limit covers the row's charge.
-pub record SkipAsked (s s′ : Settings) (v : Value) (row inp : List ℕ) (place : ℕ) : Type 0 where
-  pub stands : Stands inp place row
+pub record SkipAsked (s s′ : Settings) (v : Value) (row inp : List ℕ) (position : ℕ) : Type 0 where
+  pub stands : Stands inp position row
   pub short : length inp ≤ 4294967295
   pub settings : settingsOk s′ ≡ true
   pub blobs : (k : ℕ) → blobLimit (limits s) k ≤ blobLimit (limits s′) k

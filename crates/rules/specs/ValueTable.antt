@@ -113,7 +113,7 @@ pub record TableOf (v : Value) (table store : List ℕ) : Type 0 where
 
 -- ---- the same as a rule: the value of a table, if it has one
 
--- a record number and a place in the payload store
+-- a record number and a position in the payload store
 pub record Spot : Type 0 where
   pub at : ℕ
   pub from : ℕ

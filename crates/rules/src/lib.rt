@@ -29,6 +29,7 @@ pub use refusal::Report;
 pub use refusal::Why;
 pub use settings::LONGEST;
 pub use settings::Settings;
+pub use settings::room_in;
 pub use table_record::Entry;
 pub use table_record::Located;
 pub use table_record::Node;

@@ -25,12 +25,12 @@ length-hex (b ∷ bs) = omega (arith, length-hex bs)
 module _ (s₀ store : List ℕ) (at from count : ℕ) where
   pub record PutsHex (s : List ℕ) (k next : ℕ) : Type 0 where
     pub within : k ≤ count
-    pub place : next ≡ at + 2 * k
+    pub position : next ≡ at + 2 * k
     pub size : length s ≡ length s₀
     pub left : over s next (hex (part store (from + k) (count - k))) ≡ over s₀ at (hex (part store from count))
 
   pub puts-hex-none : PutsHex s₀ 0 at
-  puts-hex-none = record { within = omega arith; place = omega arith; size = refl; left = rw (part-none store from count) }
+  puts-hex-none = record { within = omega arith; position = omega arith; size = refl; left = rw (part-none store from count) }
 
   module _ (s : List ℕ) (k next : ℕ) (p : PutsHex s k next) where
     pub puts-hex-turn : (x y : ℕ) → k < count → x ≡ hexDigit (getD store (from + k) 0 / 16) → y ≡ hexDigit (getD store (from + k) 0 % 16) → PutsHex (set (set s next x) (next + 1) y) (k + 1) (next + 2)
@@ -40,7 +40,7 @@ module _ (s₀ store : List ℕ) (at from count : ℕ) where
         let f : hex (part store (from + k) (count - k)) ≡ x ∷ y ∷ hex (part store (from + (k + 1)) (count - (k + 1))) = rw (d, e, part-step store from count k h) in
         record {
           within = omega arith;
-          place = omega (arith, p .place);
+          position = omega (arith, p .position);
           size = length-set (set s next x) (next + 1) y ∙ length-set s next x ∙ p .size;
           left = rw (← n) (rw f at (p .left));
         }
@@ -49,7 +49,7 @@ module _ (s₀ store : List ℕ) (at from count : ℕ) where
     unfolding over hex
     puts-hex-end h =
         let e : k ≡ count = omega (arith, p .within) in
-        (record { holds = rw (part-end store (from + k) count k h) at (p .left); ends = omega (arith, p .place, e, length-hex (part store from count), length-part store from count) }, omega (arith, p .place, e))
+        (record { holds = rw (part-end store (from + k) count k h) at (p .left); ends = omega (arith, p .position, e, length-hex (part store from count), length-part store from count) }, omega (arith, p .position, e))
 
 -- ---- a number by so many digits
 

@@ -1,5 +1,5 @@
 // What a listing tells of values, made in a buffer: numbers, bytes in hex, and the line of a value record. Each function puts a text at
-// a place and answers where the next one goes.
+// a position and answers where the next one goes.
 ghost use Prim.Native.Nat.{_+_, _*_, _≤_, _<_};
 ghost use mathlib.Core.Path.{_≡_};
 ghost use lib.IntN.{natAbs};

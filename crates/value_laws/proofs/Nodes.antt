@@ -34,18 +34,12 @@ unfolding NodeIs
 node-right [] ys k n h = let e : 0 + k ≡ k = omega arith in rw e h
 node-right (x ∷ xs) ys k n h = let e : suc (length xs) + k ≡ suc (length xs + k) = omega arith in rw e (node-right xs ys k n h)
 
--- each number below the length has a node, and no other
+-- each number below the length has a node
 pub some-node : (ns : List ValueNode) (i : ℕ) → i < length ns → (n : ValueNode) × NodeIs ns i n
 unfolding NodeIs
 some-node [] i l = absurd (omega arith)
 some-node (m ∷ ms) zero l = (m, refl)
 some-node (m ∷ ms) (suc i) l = some-node ms i (omega arith)
-
-pub node-in : (ns : List ValueNode) (i : ℕ) (n : ValueNode) → NodeIs ns i n → i < length ns
-unfolding NodeIs
-node-in [] i n h = absurd h
-node-in (m ∷ ms) zero n h = omega arith
-node-in (m ∷ ms) (suc i) n h = omega (arith, node-in ms i n h)
 
 pub no-node : {A : Type 0} (j : ℕ) (n : ValueNode) → NodeIs [] j n → A
 unfolding NodeIs

@@ -26,7 +26,7 @@ use Rattle.value_laws.proofs.Records.{whole-records, RecordIs, record-i
 use Rattle.value_laws.proofs.Sizes.{length-pays, length-belowI, length-belowV, length-heads, items-within, values-within}
 use Rattle.value_laws.proofs.Codes.{fixed-code, raw-code, sized-code}
 use Rattle.value_laws.proofs.Flat.{test-bit, bit-small, wider, count-fits}
-use Rattle.value_laws.proofs.Nodes.{Grown, below-grown, at-node, length-all, some-node, node-in}
+use Rattle.value_laws.proofs.Nodes.{Grown, below-grown, at-node, length-all, some-node}
 
 -- ---- the head of a value
 

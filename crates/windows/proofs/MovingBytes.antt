@@ -1,4 +1,4 @@
--- Bytes moved to an earlier place of their list, turn by turn: what is left to write, over what is written, is the whole, and the
+-- Bytes moved to an earlier position of their list, turn by turn: what is left to write, over what is written, is the whole, and the
 -- bytes that are still to be read are as they were.
 -- Assumes nothing.
 use Prim.Native.Nat.{ℕ, suc, _+_, _-_, _≤_, _<_}

@@ -14,7 +14,7 @@ use Rattle.rules.specs.declared.settings.Settings.{Settings}
 use Rattle.schema.specs.Slices.{slices}
 use Rattle.windows.specs.declared.space.Ends.{Ends}
 
--- the bytes of a list from one place up to another
+-- the bytes of a list from one position up to another
 abbrev pub cut : List ℕ → ℕ → ℕ → List ℕ
 cut s from to = take (to - from) (drop from s)
 

@@ -22,7 +22,7 @@ pub struct Ends {
     pub registry: usize,
 }
 
-// Moves n bytes of the space from one place to another that is not behind it.
+// Moves n bytes of the space from one position to another that is not behind it.
 fn move_bytes(space: &mut [u8], from: usize, to: usize, n: usize)
     requires { ⌜ (to ≤ from) × (from + n ≤ length (now space)) ⌝ }
     ensures { λ _. ⌜ now (space .exit) ≡ over (now (space .entry)) to (part (now (space .entry)) from n) ⌝ }
@@ -55,7 +55,7 @@ pub fn run_window(settings: Settings, before: Ran, space: &[u8], ends: Ends, end
     )
 }
 
-// How many bytes of a window, from a place on, may still become rows.
+// How many bytes of a window, from a position on, may still become rows.
 fn bytes_to_keep(stop: Stop, from: usize, end: usize) -> usize
     requires { ⌜ from ≤ end ⌝ }
     ensures { λ r. ⌜ (r ≡ pick (goesOn stop) (end - from) 0) × (from + r ≤ end) ⌝ }

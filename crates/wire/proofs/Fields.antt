@@ -40,7 +40,7 @@ le-parts s (suc w) v at =
     let f : at + suc w ≡ (at + 1) + w = omega arith in
     rw (e, f, le-parts s w v (at + 1), pow-succ' 256 w, mul-assoc 256 (256 ^ w)) (omega arith)
 
--- The one law of the readers: where w bytes are read, and v from the place after them, this is the number in all.
+-- The one law of the readers: where w bytes are read, and v from the position after them, this is the number in all.
 module _ (s : List ℕ) (at next w v low high : ℕ) (l : low ≡ leAt s at w) (h : high ≡ leAt s next v) (e : next ≡ at + w) where
   pub read-parts : low + 256 ^ w * high ≡ leAt s at (w + v)
   read-parts = rw (l, h, e) (sym (le-parts s w v at))

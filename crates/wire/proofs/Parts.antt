@@ -1,4 +1,4 @@
--- Laws of the part of a list that starts at a place, for a loop that counts up.
+-- Laws of the part of a list that starts at a position, for a loop that counts up.
 -- Assumes nothing.
 use Prim.Native.Nat.{ℕ, suc, _+_, _-_, _≤_, _<_}
 use mathlib.Core.Path.{_≡_}

@@ -5,7 +5,7 @@ ghost use Rattle.rules.specs.Wire.{form, widthOf, maximum};
 use rules::Children;
 
 // How many bytes a value has. An arm for every code, nothing's too: from that the compiler makes a jump table, and the
-// place of the next node does not wait for a load.
+// position of the next node does not wait for a load.
 pub fn code_width(code: u8) -> usize
     requires { ⌜ code < 13 ⌝ }
     ensures { λ r. ⌜ (r ≡ widthOf (form code)) × (r ≤ 32) ⌝ }

@@ -149,7 +149,7 @@ module _ (sch : List ℕ) (i : ℕ) (table store : List ℕ) (p : JudgePos) (k :
             opened : Opened sch i code table p (own .size)
             opened = record { is = is; compound = l; kind = sym (ap (λ (u : ValueRecord). u .kind) m) ∙ kind ∙ sym (variant-kind code l (omega arith)); count = ap (λ (u : ValueRecord). u .size) m }
 
--- what is said of a leaf is said of the place where it ends
+-- what is said of a leaf is said of the position where it ends
 pub leaf-said : (blob code size : ℕ) (p q₀ q : JudgePos) → at-once.Fits q₀ ≡ at-once.Fits q → Fits q₀ ≡ leafOf blob code size p → q₀ .from ≡ p .from + size → (Fits q ≡ leafOf blob code size p) × (q .from ≡ p .from + size)
 leaf-said blob code size p q₀ q e a f = subst (λ (u : JudgePos). (Fits u ≡ leafOf blob code size p) × (u .from ≡ p .from + size)) (let h : q₀ ≡ q = cc in h) (a, f)
 
@@ -192,7 +192,7 @@ pub record Along (sch table store : List ℕ) (blob size : ℕ) (q : JudgePos) (
   pub within : q .from ≤ length store
   pub few : q .bytes ≤ 80 * q .at + q .from + 2
 
--- what is said of a row is said of the place where it ends
+-- what is said of a row is said of the position where it ends
 pub row-said : (sch table store : List ℕ) (s : Settings) (q₀ q : JudgePos) → at-once.Fits q₀ ≡ at-once.Fits q → RowSeen sch (limits s) table store q₀ → RowSeen sch (limits s) table store q
 row-said sch table store s q₀ q e r = subst (λ (u : JudgePos). RowSeen sch (limits s) table store u) (let h : q₀ ≡ q = cc in h) r
 

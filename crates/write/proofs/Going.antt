@@ -198,7 +198,7 @@ module _ (sch : List ℕ) (blob i : ℕ) (table store : List ℕ) where
       }
 
   module _ {s : Shape} {d size : ℕ} {z : Spot} {whole : Judged} {q : JudgePos} {j : ℕ} (short : length table ≤ 4294967295) (g : Going s d size z whole q j) where
-    -- the places that are left are before the end
+    -- the positions that are left are before the end
     pub before : (q .at ≤ z .at) × ((q .from ≤ z .from) × (q .from ≤ length store))
     before = (omega (arith, g .reads .span .at-end), (omega (arith, g .reads .span .from-end), omega (arith, g .reads .span .from-end, span-in table store (g .reads .span))))
 

@@ -26,7 +26,7 @@ use Rattle.write.specs.declared.flat.Column.the-variants.{Leaf, Other}
 abbrev pub tablePos : JudgePos → TablePos
 tablePos p = record { at = p .at; from = p .from }
 
--- node i of a sound block, and a place in the store; the bytes so far are few, so that their count does not wrap
+-- node i of a sound block, and a position in the store; the bytes so far are few, so that their count does not wrap
 pub record Flat (sch : List ℕ) (i : ℕ) (table store : List ℕ) (p : JudgePos) : Type 0 where
   pub sound : SoundNodes sch
   pub inside : HasNode sch i

@@ -17,6 +17,6 @@ use Rattle.write.specs.Table.{wholeValue}
 unfoldable pub roomFor : ℕ → ℕ → Extent → Written
 roomFor at room row = pick (leb (at + row .bytes) room) (Row row) (Refused (NoOutputRoom (row .bytes) at))
 
--- the table's value, written as a row from a place of the output on
+-- the table's value, written as a row from a position of the output on
 unfoldable pub placedRow : List ℕ → Limits → List ℕ → List ℕ → List ℕ → ℕ → Encoded
 placedRow sch lim table store out at = let v = wholeValue (tableValue table store) in placed v out at (writeRow sch lim v)

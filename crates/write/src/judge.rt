@@ -187,7 +187,8 @@ fn judge_at_once(
     size: u64,
 ) -> AtOnce
     requires { ⌜ Judgeable (now block) node depth (now records) (now payload) p × Opened (now block) node code (now records) p size ⌝ }
-    ensures { λ r. ⌜ ((q : JudgePos) → r ≡ AtOnce.Fits q → Judged.Fits q ≡ judgedAt (now (block .entry)) «max_blob_bytes» node depth (now (records .entry)) (now (payload .entry)) p) ⌝ }
+    ensures { λ r. ⌜ ((q : JudgePos) → r ≡ AtOnce.Fits q → Judged.Fits q ≡ judgedAt (now (block .entry)) «max_blob_bytes»
+        node depth (now (records .entry)) (now (payload .entry)) p) ⌝ }
 {
     if 16 < code {
         return AtOnce::Later;

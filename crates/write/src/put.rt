@@ -118,7 +118,7 @@ fn child_of(code: u8, first: u64, i: u64, tag: u64) -> usize
     (first + i) as usize
 }
 
-// The tag that chooses a child, and the place after it; a tuple's children have none.
+// The tag that chooses a child, and the position after it; a tuple's children have none.
 fn put_tag(code: u8, tag: u64, out: &mut [u8], to: usize) -> usize
     requires { ⌜ (14 < code) × (code ≤ 19) × (to + length (tagBytes (shapeOf code) tag) ≤ length (now out)) ⌝ }
     ensures next { λ r. ⌜ r ≡ to + length (tagBytes (shapeOf code) tag) ⌝ }
@@ -132,7 +132,7 @@ fn put_tag(code: u8, tag: u64, out: &mut [u8], to: usize) -> usize
     to + width
 }
 
-// The end tag of the repeated types, and the place after it.
+// The end tag of the repeated types, and the position after it.
 fn put_end(code: u8, out: &mut [u8], to: usize) -> usize
     requires { ⌜ (14 < code) × (code ≤ 19) × (to + length (closing (shapeOf code)) ≤ length (now out)) ⌝ }
     ensures next { λ r. ⌜ r ≡ to + length (closing (shapeOf code)) ⌝ }
@@ -274,7 +274,7 @@ fn put_children(
     }
 }
 
-// A row: table tag 0 and the root's value, from place `to` of the output on; and the place after it. The root is no leaf, and the row
+// A row: table tag 0 and the root's value, from position `to` of the output on; and the position after it. The root is no leaf, and the row
 // enters by the children step: so the node step has one caller, is compiled into it, and a leaf costs no call.
 pub fn put_row(block: &[u8], records: &[u8], payload: &[u8], out: &mut [u8], to: usize) -> usize
     requires { ⌜ RowWritable (now block) (now records) (now payload) to (length (now out)) ⌝ }

@@ -11,23 +11,13 @@ use super::judge::Judged;
 use super::judge::judge_row;
 use super::put::put_row;
 use rules::Extent;
-use rules::LONGEST;
 use rules::Refusal;
 use rules::Settings;
 use rules::Why;
 use rules::Written;
+use rules::room_in;
 
-// Of a slice to be written only so many bytes count.
-fn room_in(len: usize) -> u64
-    ensures { λ r. ⌜ r ≡ min len 4294967295 ⌝ }
-{
-    if LONGEST < len {
-        return LONGEST as u64;
-    }
-    len as u64
-}
-
-// Room for a judged row's bytes from place `at` on, in an output of this length.
+// Room for a judged row's bytes from position `at` on, in an output of this length.
 pub fn room_for(row: Extent, at: usize, len: usize) -> Written
     requires { ⌜ at ≤ min len 4294967295 ⌝ }
     ensures { λ r. ⌜ r ≡ roomFor at (min len 4294967295) row ⌝ }
@@ -51,7 +41,7 @@ fn not_written(value: Judged) -> Written
     }
 }
 
-// A judged row from place `at` of the output on; or 21, and then the output is as it was.
+// A judged row from position `at` of the output on; or 21, and then the output is as it was.
 pub fn place_row(
     block: &[u8],
     settings: Settings,
@@ -61,7 +51,8 @@ pub fn place_row(
     out: &mut [u8],
     at: usize,
 ) -> Written
-    requires { ⌜ RowJudgeable (now block) (now records) (now payload) × (Judged.Fits p ≡ judgedRow (now block) (limits settings) (now records) (now payload)) × (at ≤ min (length (now out)) 4294967295) ⌝ }
+    requires { ⌜ RowJudgeable (now block) (now records) (now payload) × (Judged.Fits p ≡ judgedRow (now block) (limits settings) (now records) (now payload))
+        × (at ≤ min (length (now out)) 4294967295) ⌝ }
     ensures answer { λ r. ⌜ r ≡ placedRow (now (block .entry)) (limits settings) (now (records .entry)) (now (payload .entry)) (now (out .entry)) at .answer ⌝ }
     ensures out { λ _. ⌜ now (out .exit) ≡ placedRow (now (block .entry)) (limits settings) (now (records .entry)) (now (payload .entry)) (now (out .entry)) at .output ⌝ }
 {
@@ -79,7 +70,7 @@ pub fn place_row(
     Written::Row(own)
 }
 
-// The row of the table's value from place `at` of the output on; or why it is refused, and then the output is as it was.
+// The row of the table's value from position `at` of the output on; or why it is refused, and then the output is as it was.
 pub fn write_row(
     block: &[u8],
     settings: Settings,

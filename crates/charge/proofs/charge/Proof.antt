@@ -64,12 +64,9 @@ Arg = RefT RowBudget × (ℕ × (ℕ × Unit {0}))
 abbrev stayed : Stays (charge.ended .signature .params) (charge.ended .kept)
 stayed = (stay-ref (0 ∷ []) tt (plain (λ _. B.the-row)), (stay-none (λ _. u64) yes, (stay-none (λ _. u64) yes, tt)))
 
--- the machine values of an allowance, and of what `lower` returns with its two parts
+-- the machine values of an allowance, and of the answer in what `lower` returns
 abbrev budget-val : RowBudget → Val
 budget-val = LL.val B.the-type B′.the-laws
-
-abbrev lowered-val : Lowered → Val
-lowered-val = LL.val R.the-type R′.the-laws
 
 abbrev answer-val : Lowered → Val
 answer-val r = EL.val S.the-type S′.the-laws (r .answer)

@@ -1,4 +1,4 @@
--- What stood before the place stays.
+-- What stood before the position stays.
 -- Assumes nothing.
 use native.Mathlib.Omega.{arith}
 use borrow.Author.Needs.{needs}

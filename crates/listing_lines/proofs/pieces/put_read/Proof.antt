@@ -25,8 +25,8 @@ next-row-requires c κs = search needs
 enum-known-read : tie.Need-enum-known-read
 enum-known-read c = search needs
 
-put-row-requires : tie.Need-put-row-requires
-put-row-requires c κs = row-listable _ _ _ (c .before .before .before .before .before .before .before .before .before .before .before .before .before .before .before .before .before .before .before .before .before .before .before .args .row) _ _ _ (c .before .before .before .before .before .before .before .before .before .before .before .before .before .before .before .before .before .before .before .before .before .before .before .pre .0) (c .before .before .before .before .before .before .before .before .before .before .before .before .before .before .before .before .before .before .before .before .before .before .before .pre .1) _ (c .before .before .before .before .before .before .before .before .before .before .before .before .before .before .before .new .ensures) _ (c .before .before .before .before .before .before .before .before .before .before .before .before .before .before .before .before .inline-table .ensures .0) _ (c .before .before .before .before .before .before .before .before .before .before .next-row .ensures) (λ j. omega (arith, c .before .before .before .before .before .before .before .before .before .before .before .before .before .before .before .before .before .before .before .before .shared-slice-known3 .given j)) _ (c .before .before .before .before .read .given .1) _ (c .before .before .before .before .before .before .before .before .before .before .next-row .kept .1 .1 .1 .1 .1 .1 .1 .0) (c .before .before .before .before .before .before .before .before .before .before .next-row .kept .1 .1 .1 .1 .1 .1 .1 .1 .0) (c .before .before .before .before .before .before .before .before .before .before .before .before .before .before .before .before .before .before .before .before .before .before .before .pre .2)
+list-row-requires : tie.Need-list-row-requires
+list-row-requires c κs = row-listable _ _ _ (c .before .before .before .before .before .before .before .before .before .before .before .before .before .before .before .before .before .before .before .before .before .before .before .args .row) _ _ _ (c .before .before .before .before .before .before .before .before .before .before .before .before .before .before .before .before .before .before .before .before .before .before .before .pre .0) (c .before .before .before .before .before .before .before .before .before .before .before .before .before .before .before .before .before .before .before .before .before .before .before .pre .1) _ (c .before .before .before .before .before .before .before .before .before .before .before .before .before .before .before .new .ensures) _ (c .before .before .before .before .before .before .before .before .before .before .before .before .before .before .before .before .inline-table .ensures .0) _ (c .before .before .before .before .before .before .before .before .before .before .next-row .ensures) (λ j. omega (arith, c .before .before .before .before .before .before .before .before .before .before .before .before .before .before .before .before .before .before .before .before .shared-slice-known3 .given j)) _ (c .before .before .before .before .read .given .1) _ (c .before .before .before .before .before .before .before .before .before .before .next-row .kept .1 .1 .1 .1 .1 .1 .1 .0) (c .before .before .before .before .before .before .before .before .before .before .next-row .kept .1 .1 .1 .1 .1 .1 .1 .1 .0) (c .before .before .before .before .before .before .before .before .before .before .before .before .before .before .before .before .before .before .before .before .before .before .before .pre .2)
 
 enum-told : tie.Need-enum-told
 enum-told c = search needs
@@ -51,7 +51,7 @@ same-length-3 c = search needs
 
 returns : tie.Need-returns
 unfolding shownLength
-returns c = (read-row _ _ _ (c .before .before .before .before .before .before .before .before .before .before .before .before .before .before .before .before .before .before .before .before .before .before .before .before .before .before .args .row) _ _ _ (c .before .before .before .before .before .before .before .before .before .before .before .before .before .before .before .before .before .before .before .before .before .before .before .before .before .before .pre .0) (c .before .before .before .before .before .before .before .before .before .before .before .before .before .before .before .before .before .before .before .before .before .before .before .before .before .before .pre .1) _ (c .before .before .before .before .before .before .before .before .before .before .before .before .before .before .before .before .before .before .new .ensures) _ (c .before .before .before .before .before .before .before .before .before .before .before .before .before .before .before .before .before .before .before .inline-table .ensures .0) _ (c .before .before .before .before .before .before .before .before .before .before .before .before .before .next-row .ensures) (λ j. omega (arith, c .before .before .before .before .before .before .before .before .before .before .before .before .before .before .before .before .before .before .before .before .before .before .before .shared-slice-known3 .given j)) _ (c .before .before .before .before .before .before .before .read .given .1) _ _ _ (c .before .before .before .before .before .before .before .before .before .before .before .before .before .next-row .kept .1 .1 .1 .1 .1 .1 .1 .0) (c .before .before .put-row .ensures .0), c .before .before .put-row .ensures .1)
+returns c = (read-row _ _ _ (c .before .before .before .before .before .before .before .before .before .before .before .before .before .before .before .before .before .before .before .before .before .before .before .before .before .before .args .row) _ _ _ (c .before .before .before .before .before .before .before .before .before .before .before .before .before .before .before .before .before .before .before .before .before .before .before .before .before .before .pre .0) (c .before .before .before .before .before .before .before .before .before .before .before .before .before .before .before .before .before .before .before .before .before .before .before .before .before .before .pre .1) _ (c .before .before .before .before .before .before .before .before .before .before .before .before .before .before .before .before .before .before .new .ensures) _ (c .before .before .before .before .before .before .before .before .before .before .before .before .before .before .before .before .before .before .before .inline-table .ensures .0) _ (c .before .before .before .before .before .before .before .before .before .before .before .before .before .next-row .ensures) (λ j. omega (arith, c .before .before .before .before .before .before .before .before .before .before .before .before .before .before .before .before .before .before .before .before .before .before .before .shared-slice-known3 .given j)) _ (c .before .before .before .before .before .before .before .read .given .1) _ _ _ (c .before .before .before .before .before .before .before .before .before .before .before .before .before .next-row .kept .1 .1 .1 .1 .1 .1 .1 .0) (c .before .before .list-row .ensures .0), c .before .before .list-row .ensures .1)
 
 same-length-4 : tie.Need-same-length-4
 same-length-4 c = search needs
@@ -89,7 +89,7 @@ put-read-spec =
     slice-aggregate-next-row-2
     next-row-requires
     enum-known-read
-    put-row-requires
+    list-row-requires
     enum-told
     put-end-line-requires
     enum-known-read-2
