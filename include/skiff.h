@@ -94,14 +94,15 @@ enum skiff_answer {
     SKIFF_ANSWER_MAY_CHANGE = 8, /* of skiff_run_window, 1 where more bytes may change the answer, else 0 */
     SKIFF_ANSWER_TYPE = 8,      /* of skiff_parse, the wire type's code */
     SKIFF_ANSWER_CASE = 8,      /* of skiff_value, enum skiff_case, */
-    SKIFF_ANSWER_VALUE = 9,     /* the value as that case has it, */
-    SKIFF_ANSWER_LENGTH = 10    /* and a payload's length */
+    SKIFF_ANSWER_VALUE = 9,     /* the value as that case has it; of skiff_kind, skiff_tag, skiff_child_count,
+                                   skiff_after and skiff_field the number that they answer, */
+    SKIFF_ANSWER_LENGTH = 10    /* and of skiff_value a payload's length */
 };
 
 enum skiff_what {
     SKIFF_WHAT_ROW = 0,     /* a row was skipped, decoded or written; or a format, a schema or a value
                                table was accepted, and then all other numbers are 0 too; or a name is
-                               that of a wire type; or a record has a value */
+                               that of a wire type; or a record has a value, or what else was asked of it */
     SKIFF_WHAT_END = 1,     /* the position is the input's length, or the run came to it */
     SKIFF_WHAT_REFUSAL = 2, /* refused; a run then has the rows and bytes before */
     SKIFF_WHAT_NO_TYPE = 3  /* of skiff_parse: no wire type has that name, which is no refusal */
@@ -278,6 +279,42 @@ enum skiff_case {
  */
 static inline uint32_t skiff_value(const uint8_t *value_records, size_t value_records_len, uint64_t index,
                                    uint8_t *answer, size_t answer_len);
+
+/*
+ * What else record `record`, from 0 on, says, in SKIFF_ANSWER_VALUE: its kind, enum skiff_kind; its tag; how
+ * many children it has, which is 0 for all but a variant, a repeated and a tuple. Each refuses what skiff_value
+ * refuses, by the same number, and looks at this record alone.
+ */
+static inline uint32_t skiff_kind(const uint8_t *value_records, size_t value_records_len, uint64_t record,
+                                  uint8_t *answer, size_t answer_len);
+
+static inline uint32_t skiff_tag(const uint8_t *value_records, size_t value_records_len, uint64_t record,
+                                 uint8_t *answer, size_t answer_len);
+
+static inline uint32_t skiff_child_count(const uint8_t *value_records, size_t value_records_len,
+                                         uint64_t record, uint8_t *answer, size_t answer_len);
+
+/*
+ * The number of the record behind `record` and all that is below it: in a row's records the next child of its
+ * parent, where there is one, and behind the root as many as there are records. (The first child of what has
+ * children is the record after it.) SKIFF_SETTING as in skiff_value; then SKIFF_BAD_VALUE_TABLE where the slice
+ * is not whole records, where `record` or one below it is not as its kind demands, or where the children go on
+ * behind the last record. It walks over `record` and the records below it, each once, so its time is linear in
+ * how many they are.
+ */
+static inline uint32_t skiff_after(const uint8_t *value_records, size_t value_records_len, uint64_t record,
+                                   uint8_t *answer, size_t answer_len);
+
+/*
+ * The number of the record that is field `field`, from 0 on, of `record`, a tuple. SKIFF_SETTING as in
+ * skiff_value, and where `record` is no tuple or has no such field; then SKIFF_BAD_VALUE_TABLE where the slice
+ * is not whole records, where `record` or one that is passed is not as its kind demands, or where the field
+ * would stand behind the last record. The field's own record is not looked at. It walks over the fields before
+ * it, each of their records once, so its time is linear in how many they are: for all fields of a tuple, ask
+ * skiff_after from one to the next.
+ */
+static inline uint32_t skiff_field(const uint8_t *value_records, size_t value_records_len, uint64_t record,
+                                   uint64_t field, uint8_t *answer, size_t answer_len);
 
 /*
  * Whether the four tables are a format. skiff_skip, skiff_decode, skiff_run and skiff_run_window check it

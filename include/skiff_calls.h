@@ -159,6 +159,46 @@ static inline uint32_t skiff_value(const uint8_t *value_records, size_t value_re
     return skiff1_value(SKIFF_READ(value_records), index, SKIFF_WRITTEN(answer));
 }
 
+uint32_t skiff1_kind(const uint8_t *, size_t, uint64_t, uint8_t *, size_t);
+
+static inline uint32_t skiff_kind(const uint8_t *value_records, size_t value_records_len, uint64_t record,
+                                  uint8_t *answer, size_t answer_len)
+{
+    return skiff1_kind(SKIFF_READ(value_records), record, SKIFF_WRITTEN(answer));
+}
+
+uint32_t skiff1_tag(const uint8_t *, size_t, uint64_t, uint8_t *, size_t);
+
+static inline uint32_t skiff_tag(const uint8_t *value_records, size_t value_records_len, uint64_t record,
+                                 uint8_t *answer, size_t answer_len)
+{
+    return skiff1_tag(SKIFF_READ(value_records), record, SKIFF_WRITTEN(answer));
+}
+
+uint32_t skiff1_child_count(const uint8_t *, size_t, uint64_t, uint8_t *, size_t);
+
+static inline uint32_t skiff_child_count(const uint8_t *value_records, size_t value_records_len,
+                                         uint64_t record, uint8_t *answer, size_t answer_len)
+{
+    return skiff1_child_count(SKIFF_READ(value_records), record, SKIFF_WRITTEN(answer));
+}
+
+uint32_t skiff1_after(const uint8_t *, size_t, uint64_t, uint8_t *, size_t);
+
+static inline uint32_t skiff_after(const uint8_t *value_records, size_t value_records_len, uint64_t record,
+                                   uint8_t *answer, size_t answer_len)
+{
+    return skiff1_after(SKIFF_READ(value_records), record, SKIFF_WRITTEN(answer));
+}
+
+uint32_t skiff1_field(const uint8_t *, size_t, uint64_t, uint64_t, uint8_t *, size_t);
+
+static inline uint32_t skiff_field(const uint8_t *value_records, size_t value_records_len, uint64_t record,
+                                   uint64_t field, uint8_t *answer, size_t answer_len)
+{
+    return skiff1_field(SKIFF_READ(value_records), record, field, SKIFF_WRITTEN(answer));
+}
+
 #undef SKIFF_READ
 #undef SKIFF_WRITTEN
 

@@ -51,6 +51,11 @@ int main(void)
          SKIFF_WHAT_REFUSAL);
     says("skiff_parse", skiff_parse(NONE, ANSWER), SKIFF_NO_REFUSAL, SKIFF_WHAT_NO_TYPE);
     says("skiff_value", skiff_value(NONE, 0, ANSWER), SKIFF_SETTING, SKIFF_WHAT_REFUSAL);
+    says("skiff_kind", skiff_kind(NONE, 0, ANSWER), SKIFF_SETTING, SKIFF_WHAT_REFUSAL);
+    says("skiff_tag", skiff_tag(NONE, 0, ANSWER), SKIFF_SETTING, SKIFF_WHAT_REFUSAL);
+    says("skiff_child_count", skiff_child_count(NONE, 0, ANSWER), SKIFF_SETTING, SKIFF_WHAT_REFUSAL);
+    says("skiff_after", skiff_after(NONE, 0, ANSWER), SKIFF_SETTING, SKIFF_WHAT_REFUSAL);
+    says("skiff_field", skiff_field(NONE, 0, 0, ANSWER), SKIFF_SETTING, SKIFF_WHAT_REFUSAL);
 
     short_answer("skiff_skip", skiff_skip(SETTINGS, FORMAT, NONE, 0, NONE));
     short_answer("skiff_decode", skiff_decode(SETTINGS, FORMAT, NONE, 0, NONE, NONE, NONE));
@@ -62,6 +67,11 @@ int main(void)
     short_answer("skiff_check_encoder_schema", skiff_check_encoder_schema(NONE, NONE, 0, 0, NONE));
     short_answer("skiff_parse", skiff_parse(NONE, NONE));
     short_answer("skiff_value", skiff_value(NONE, 0, NONE));
+    short_answer("skiff_kind", skiff_kind(NONE, 0, NONE));
+    short_answer("skiff_tag", skiff_tag(NONE, 0, NONE));
+    short_answer("skiff_child_count", skiff_child_count(NONE, 0, NONE));
+    short_answer("skiff_after", skiff_after(NONE, 0, NONE));
+    short_answer("skiff_field", skiff_field(NONE, 0, 0, NONE));
 
     skiff_parse(int8, sizeof int8, ANSWER);
     printf("int8 is %u\n", (unsigned)answer[SKIFF_ANSWER_TYPE]);

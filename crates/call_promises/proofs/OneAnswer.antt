@@ -38,6 +38,11 @@ use Rattle.skiff.proofs.checking.skiff1_check_format as skiff1-check-format
 use Rattle.skiff.proofs.checking.skiff1_check_encoder_schema as skiff1-check-encoder-schema
 use Rattle.skiff.proofs.checking.skiff1_parse as skiff1-parse
 use Rattle.skiff.proofs.querying.skiff1_value as skiff1-value
+use Rattle.skiff.proofs.viewing.skiff1_kind as skiff1-kind
+use Rattle.skiff.proofs.viewing.skiff1_tag as skiff1-tag
+use Rattle.skiff.proofs.viewing.skiff1_child_count as skiff1-child-count
+use Rattle.skiff.proofs.viewing.skiff1_after as skiff1-after
+use Rattle.skiff.proofs.viewing.skiff1_field as skiff1-field
 
 -- one result
 abbrev pub OneAnswer : {n : ℕ} (ps : List (PK n)) (r : RK n) → Out n ps r → Type 0
@@ -142,3 +147,18 @@ skiff1-parse-one-answer κs a x y s t p q = (ap (λ g. g .number) (p ∙ sym q),
 
 pub skiff1-value-one-answer : OneOutcome skiff1-value.Kinds.ps skiff1-value.Kinds.r (λ κs (records, (index, (answer, _))). answer .now ∷ []) skiff1-value.Reads.Post
 skiff1-value-one-answer κs a x y s t p q = (ap (λ g. g .number) (p ∙ sym q), ap (λ g. g .answer ∷ []) (p ∙ sym q))
+
+pub skiff1-kind-one-answer : OneOutcome skiff1-kind.Kinds.ps skiff1-kind.Kinds.r (λ κs (records, (at, (answer, _))). answer .now ∷ []) skiff1-kind.Reads.Post
+skiff1-kind-one-answer κs a x y s t p q = (ap (λ g. g .number) (p ∙ sym q), ap (λ g. g .answer ∷ []) (p ∙ sym q))
+
+pub skiff1-tag-one-answer : OneOutcome skiff1-tag.Kinds.ps skiff1-tag.Kinds.r (λ κs (records, (at, (answer, _))). answer .now ∷ []) skiff1-tag.Reads.Post
+skiff1-tag-one-answer κs a x y s t p q = (ap (λ g. g .number) (p ∙ sym q), ap (λ g. g .answer ∷ []) (p ∙ sym q))
+
+pub skiff1-child-count-one-answer : OneOutcome skiff1-child-count.Kinds.ps skiff1-child-count.Kinds.r (λ κs (records, (at, (answer, _))). answer .now ∷ []) skiff1-child-count.Reads.Post
+skiff1-child-count-one-answer κs a x y s t p q = (ap (λ g. g .number) (p ∙ sym q), ap (λ g. g .answer ∷ []) (p ∙ sym q))
+
+pub skiff1-after-one-answer : OneOutcome skiff1-after.Kinds.ps skiff1-after.Kinds.r (λ κs (records, (at, (answer, _))). answer .now ∷ []) skiff1-after.Reads.Post
+skiff1-after-one-answer κs a x y s t p q = (ap (λ g. g .number) (p ∙ sym q), ap (λ g. g .answer ∷ []) (p ∙ sym q))
+
+pub skiff1-field-one-answer : OneOutcome skiff1-field.Kinds.ps skiff1-field.Kinds.r (λ κs (records, (at, (field, (answer, _)))). answer .now ∷ []) skiff1-field.Reads.Post
+skiff1-field-one-answer κs a x y s t p q = (ap (λ g. g .number) (p ∙ sym q), ap (λ g. g .answer ∷ []) (p ∙ sym q))

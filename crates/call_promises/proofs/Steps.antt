@@ -68,6 +68,7 @@ use Rattle.skiff.proofs.answer.answer_of_written as answer-of-written
 use Rattle.skiff.proofs.answer.answer_of_checked as answer-of-checked
 use Rattle.skiff.proofs.answer.answer_of_known as answer-of-known
 use Rattle.skiff.proofs.answer.answer_of_queried as answer-of-queried
+use Rattle.skiff.proofs.answer.answer_of_viewed as answer-of-viewed
 use Rattle.skiff.proofs.answer.give as give
 use Rattle.scalars.proofs.scalar_in_numbers as scalar-in-numbers
 use Rattle.wire.proofs.store.put16 as put16
@@ -299,6 +300,9 @@ answer-of-known-one-answer κs a x y s t p q = p ∙ sym q
 
 pub answer-of-queried-one-answer : OneAnswer answer-of-queried.Kinds.ps answer-of-queried.Kinds.r answer-of-queried.Reads.Post
 answer-of-queried-one-answer κs a x y s t p q = p ∙ sym q
+
+pub answer-of-viewed-one-answer : OneAnswer answer-of-viewed.Kinds.ps answer-of-viewed.Kinds.r answer-of-viewed.Reads.Post
+answer-of-viewed-one-answer κs a x y s t p q = p ∙ sym q
 
 pub scalar-in-numbers-one-answer : OneAnswer scalar-in-numbers.Kinds.ps scalar-in-numbers.Kinds.r scalar-in-numbers.Reads.Post
 scalar-in-numbers-one-answer κs a x y s t p q = p ∙ sym q

@@ -10,13 +10,14 @@ use Rattle.rules.specs.Choice.{pick}
 use Rattle.rules.specs.Bytes.{le, over}
 use Rattle.rules.specs.Reading.{Decoded, untouched}
 use Rattle.rules.specs.Writing.{Encoded}
+use Rattle.rules.specs.declared.query.Viewed.{Viewed}
 use Rattle.rules.specs.declared.answer.Read.{Read}
 use Rattle.rules.specs.declared.answer.Written.{Written}
 use Rattle.rules.proofs.Over.{over-at}
 use Rattle.rules.proofs.Stands.{length-le}
 use Rattle.skiff.specs.declared.answer.AnswerNumbers.{AnswerNumbers}
 use Rattle.skiff.specs.Answers.{words, answerLayout, answerOfRead, answerOfWritten}
-use Rattle.skiff.specs.Calls.{given, givenRow, givenOutput}
+use Rattle.skiff.specs.Calls.{Given, given, viewGiven, givenRow, givenOutput}
 
 -- ---- numbers, one after another
 
@@ -67,6 +68,10 @@ short-given s a h = rw (lt-leb 88 (length s) h)
 pub room-given : {A : Type 0} (f : A → AnswerNumbers) (x y : A) (a : AnswerNumbers) (s s′ : List ℕ) (n : ℕ) → 88 ≤ length s → a ≡ f x → x ≡ y → (n ≡ a .why .number) × (s′ ≡ over s 0 (answerLayout a)) → record { number = n; answer = s′ } ≡ given s (f y)
 unfolding given pick
 room-given f x y a s s′ n h p q g = rw (← q, ← p, le-leb 88 (length s) h, g .0, g .1)
+
+-- what is seen from a record, by whichever rule
+pub seen-given : (x y : Viewed) (g : Given) (s : List ℕ) → x ≡ y → g ≡ viewGiven x s → g ≡ viewGiven y s
+seen-given x y g s p q = rw (← p) q
 
 -- ---- what decode gives: the two slices too
 

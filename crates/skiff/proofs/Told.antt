@@ -1,4 +1,4 @@
--- An answer in numbers, by what was read, written, checked, known or asked for, or why a run stopped.
+-- An answer in numbers, by what was read, written, checked, known, asked for or seen, or why a run stopped.
 -- Assumes nothing.
 use Prim.Native.Nat.{ℕ}
 use mathlib.Core.Path.{_≡_}
@@ -15,6 +15,8 @@ use Rattle.rules.specs.declared.wire_type.Known.the-variants as known
 use Rattle.rules.specs.declared.query.Scalar.{Scalar}
 use Rattle.rules.specs.declared.query.Queried.{Queried}
 use Rattle.rules.specs.declared.query.Queried.the-variants as queried
+use Rattle.rules.specs.declared.query.Viewed.{Viewed}
+use Rattle.rules.specs.declared.query.Viewed.the-variants as viewed
 use Rattle.rules.specs.declared.answer.Extent.{Extent}
 use Rattle.rules.specs.declared.refusal.Refusal.{Refusal}
 use Rattle.rules.specs.declared.answer.Read.{Read}
@@ -29,7 +31,7 @@ use Rattle.scalars.specs.Numbers.{HasBits, SaysBits, scalarNumbers}
 use Rattle.scalars.specs.declared.ScalarNumbers.{ScalarNumbers}
 use Rattle.scalars.proofs.Said.{query-says-bits}
 use Rattle.skiff.specs.declared.answer.AnswerNumbers.{AnswerNumbers}
-use Rattle.skiff.specs.Answers.{noRefusal, extentOfBytes, answerOfRead, answerOfWritten, answerOfChecked, answerOfKnown, answerOfQueried, answerOfRan, whatOf, whyOf, answerOfWindow}
+use Rattle.skiff.specs.Answers.{noRefusal, extentOfBytes, answerOfRead, answerOfWritten, answerOfChecked, answerOfKnown, answerOfQueried, answerOfViewed, answerOfRan, whatOf, whyOf, answerOfWindow}
 
 pub told-row : (w : Report) (x : Read) (e : Extent) → x ≡ read.Row e → w ≡ noRefusal → record { what = 0; why = w; rows = 1; row = e } ≡ answerOfRead x
 unfolding answerOfRead
@@ -53,6 +55,11 @@ pub value-told : (w : Report) (x : Queried) (s : Scalar) (n : ScalarNumbers) →
 unfolding answerOfQueried
 value-told w x s n p q r = rw (p, ← q, r)
 
+pub number-told : (w : Report) (x : Viewed) (n : ℕ) → x ≡ viewed.Number n → w ≡ noRefusal →
+    record { what = 0; why = w; rows = 0; row = record { table = 0; bytes = 0; records = n; payload = 0 } } ≡ answerOfViewed x
+unfolding answerOfViewed
+number-told w x n p q = rw (p, q)
+
 module _ (a : AnswerNumbers) where
   pub written-row : (x : Written) (e : Extent) → x ≡ written.Row e → a ≡ answerOfRead (read.Row e) → a ≡ answerOfWritten x
   unfolding answerOfWritten
@@ -65,6 +72,10 @@ module _ (a : AnswerNumbers) where
   pub query-refused : (x : Queried) (r : Refusal) → x ≡ queried.Refused r → a ≡ answerOfRead (read.Refused r) → a ≡ answerOfQueried x
   unfolding answerOfQueried
   query-refused x r p q = rw p q
+
+  pub view-refused : (x : Viewed) (r : Refusal) → x ≡ viewed.Refused r → a ≡ answerOfRead (read.Refused r) → a ≡ answerOfViewed x
+  unfolding answerOfViewed
+  view-refused x r p q = rw p q
 
   pub checked-refused : (x : Checked) (r : Refusal) → x ≡ checked.Refused r → a ≡ answerOfRead (read.Refused r) → a ≡ answerOfChecked x
   unfolding answerOfChecked

@@ -12,6 +12,8 @@ use Rattle.rules.specs.declared.wire_type.Known.{Known}
 use Rattle.rules.specs.declared.wire_type.Known.the-variants as known
 use Rattle.rules.specs.declared.query.Queried.{Queried}
 use Rattle.rules.specs.declared.query.Queried.the-variants as queried
+use Rattle.rules.specs.declared.query.Viewed.{Viewed}
+use Rattle.rules.specs.declared.query.Viewed.the-variants as viewed
 use Rattle.rules.specs.declared.answer.Extent.{Extent}
 use Rattle.rules.specs.declared.answer.Read.{Read}
 use Rattle.rules.specs.declared.answer.Read.the-variants.{Row, End, Refused}
@@ -74,6 +76,11 @@ answerOfQueried (queried.Value s) =
     let n = scalarNumbers s in
     record { what = 0; why = noRefusal; rows = 0; row = record { table = n .which; bytes = 0; records = n .number; payload = n .length } }
 answerOfQueried (queried.Refused r) = answerOfRead (Refused r)
+
+-- what is seen from a record: its number where a value has its own, in the records' place
+unfoldable pub answerOfViewed : Viewed → AnswerNumbers
+answerOfViewed (viewed.Number n) = record { what = 0; why = noRefusal; rows = 0; row = record { table = 0; bytes = 0; records = n; payload = 0 } }
+answerOfViewed (viewed.Refused r) = answerOfRead (Refused r)
 
 unfoldable pub whatOf : Stop → ℕ
 whatOf stop.End = 1

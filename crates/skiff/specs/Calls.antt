@@ -14,8 +14,9 @@ use Rattle.rules.specs.ValueCheck.{valueTableRule}
 use Rattle.rules.specs.Query.{queryRule}
 use Rattle.rules.specs.Windows.{runAfter}
 use Rattle.rules.specs.declared.settings.Settings.{Settings}
+use Rattle.rules.specs.declared.query.Viewed.{Viewed}
 use Rattle.skiff.specs.declared.answer.AnswerNumbers.{AnswerNumbers}
-use Rattle.skiff.specs.Answers.{answerLayout, answerOfRead, answerOfRan, answerOfWindow, answerOfWritten, answerOfChecked, answerOfKnown, answerOfQueried}
+use Rattle.skiff.specs.Answers.{answerLayout, answerOfRead, answerOfRan, answerOfWindow, answerOfWritten, answerOfChecked, answerOfKnown, answerOfQueried, answerOfViewed}
 
 abbrev pub settingsOf : ℕ → ℕ → ℕ → Settings
 settingsOf charge blob row = record { «node_charge» = charge; «max_blob_bytes» = blob; «max_row_bytes» = row }
@@ -54,6 +55,10 @@ checkValueTableGiven rs ps slice = given slice (answerOfChecked (valueTableRule 
 
 unfoldable pub valueGiven : List ℕ → ℕ → List ℕ → Given
 valueGiven rs i slice = given slice (answerOfQueried (queryRule rs i))
+
+-- what is seen from a record, by whichever rule of the row view
+unfoldable pub viewGiven : Viewed → List ℕ → Given
+viewGiven v slice = given slice (answerOfViewed v)
 
 -- decode's two slices too
 pub record GivenRow : Type 0 where

@@ -4,7 +4,7 @@ ghost use Prim.Native.Nat.{_+_, _≤_};
 ghost use mathlib.Core.List.{_∷_, []};
 ghost use lib.ListN.{length};
 ghost use Rattle.rules.specs.Bytes.{over};
-ghost use Rattle.skiff.specs.Answers.{words, answerLayout, noRefusal, extentOfBytes, answerOfRead, answerOfRan, answerOfWritten, answerOfChecked, answerOfKnown, answerOfQueried};
+ghost use Rattle.skiff.specs.Answers.{words, answerLayout, noRefusal, extentOfBytes, answerOfRead, answerOfRan, answerOfWritten, answerOfChecked, answerOfKnown, answerOfQueried, answerOfViewed};
 ghost use Rattle.scalars.specs.Numbers.{SaysBits};
 use rules::Checked;
 use rules::Extent;
@@ -13,6 +13,7 @@ use rules::Queried;
 use rules::Read;
 use rules::Report;
 use rules::Stop;
+use rules::Viewed;
 use rules::Written;
 use scalars::scalar_in_numbers;
 use wire::code_of;
@@ -151,6 +152,26 @@ pub fn answer_of_queried(queried: Queried) -> AnswerNumbers
             }
         }
         Queried::Refused(refusal) => answer_of_read(Read::Refused(refusal)),
+    }
+}
+
+// What is seen from a record, in numbers: its number in the records' place.
+pub fn answer_of_viewed(viewed: Viewed) -> AnswerNumbers
+    ensures { λ r. ⌜ r ≡ answerOfViewed viewed ⌝ }
+{
+    match viewed {
+        Viewed::Number(number) => AnswerNumbers {
+            what: 0,
+            why: no_refusal(),
+            rows: 0,
+            row: Extent {
+                table: 0,
+                bytes: 0,
+                records: number,
+                payload: 0,
+            },
+        },
+        Viewed::Refused(refusal) => answer_of_read(Read::Refused(refusal)),
     }
 }
 

@@ -3,5 +3,6 @@ pub mod answer;
 pub mod checking;
 pub mod querying;
 pub mod reading;
+pub mod viewing;
 pub mod window;
 pub mod writing;
