@@ -16,7 +16,7 @@ use Rattle.rules.specs.Value.{tally, recordsOf, payloadOf}
 use Rattle.rules.specs.ValueRecord.{valueRecordStart, ValueRecordIn, valueRecord, layout, layouts}
 use Rattle.rules.specs.ValueTable.{bit, payloadBytes, valueKind, sizeOf, contentOf, headOf, below, heads, flat}
 use Rattle.rules.specs.declared.table_record.ValueRecord.{ValueRecord}
-use Rattle.rules.proofs.Tests.{all-each, and-both}
+use Rattle.rules.proofs.Tests.{all-each, and-both, false-not}
 use Rattle.rules.proofs.Over.{over-none}
 use Rattle.rules.proofs.Stands.{length-part}
 use Rattle.fill.specs.declared.FillPos.{FillPos}
@@ -42,9 +42,6 @@ scalarCode unknown k = false
 scalar-code : (code : ℕ) → code < 13 → scalarCode (form code) code ≡ true
 unfolding scalarCode all _and_ wireTypes typeIn typeOf written writtenIf form
 scalar-code code h = all-each (λ i. scalarCode (form i) i) 13 code refl h
-
-false-not : {A : Type 0} → false ≡ true → A
-false-not e = let z : _≡_ {A = ℕ} 0 1 = cc in absurd (omega arith)
 
 module _ (inp : List ℕ) (code at : ℕ) where
   -- a value that its record holds

@@ -25,6 +25,15 @@ unfolding _and_
 and-false true = refl
 and-false false = refl
 
+pub and-all : (a : Bool) → a and true ≡ a
+unfolding _and_
+and-all true = refl
+and-all false = refl
+
+-- a test that fails does not hold
+pub false-not : {A : Type 0} → false ≡ true → A
+false-not e = let z : _≡_ {A = ℕ} 0 1 = cc in absurd (omega arith)
+
 pub all-each : (f : ℕ → Bool) (n i : ℕ) → all f n ≡ true → i < n → f i ≡ true
 unfolding all
 all-each f zero i e h = absurd (omega arith)

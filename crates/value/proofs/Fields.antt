@@ -11,19 +11,13 @@ use lib.Dec.{ltb, leb, eqb}
 use Rattle.rules.specs.Choice.{pick, _and_, all}
 use Rattle.rules.specs.Wire.{Form, empty, truth, fixed, raw, sized, variant-form, repeated-form, tuple-form, unknown, form, widthOf, wireTypes, typeIn, typeOf, written, writtenIf}
 use Rattle.rules.specs.declared.table_record.ValueRecord.{ValueRecord}
-use Rattle.rules.proofs.Tests.{all-each, and-both}
+use Rattle.rules.proofs.Tests.{all-each, and-both, and-all, false-not}
 use Rattle.rules.proofs.Codes.{every-form}
 use Rattle.wire.proofs.CodeTable.{two}
 use Rattle.rules.specs.Query.{scalarAlone}
 use Rattle.value.specs.Records.{storedOk, ownSize, mostContent, hasPayload, scalarOk, recordOk}
 
 -- ---- scalars
-
--- a test joined with one that holds
-and-all : (b : Bool) → b and true ≡ b
-unfolding _and_
-and-all true = refl
-and-all false = refl
 
 -- the codes below 13: what is wider than a record's eight bytes is payload, all else a number, the boolean being code 1
 unfoldable heldOk : Form → ℕ → Bool
@@ -40,9 +34,6 @@ heldOk unknown k = false
 held-ok : (k : ℕ) → k < 13 → heldOk (form k) k ≡ true
 unfolding heldOk all _and_ wireTypes typeIn typeOf written writtenIf form
 held-ok k h = all-each (λ i. heldOk (form i) i) 13 k refl h
-
-pub false-not : {A : Type 0} → false ≡ true → A
-false-not e = let z : _≡_ {A = ℕ} 0 1 = cc in absurd (omega arith)
 
 fixed-form : (f : Form) (k : ℕ) → heldOk f k ≡ true → widthOf f ≤ 8 → (k ≡ 0 → ⊥) → (k ≡ 1 → ⊥) → f ≡ fixed (widthOf f)
 unfolding heldOk widthOf
