@@ -21,8 +21,8 @@ use Rattle.record.proofs.node.node_at as node-at
 use Rattle.record.proofs.node.node_code as node-code
 use Rattle.record.proofs.node.node_first as node-first
 use Rattle.record.proofs.node.node_children as node-children
-use Rattle.record.proofs.value.value_record_at as value-record-at
-use Rattle.record.proofs.value.records_in as records-in
+use Rattle.record.proofs.value_record.value_record_at as value-record-at
+use Rattle.record.proofs.value_record.records_in as records-in
 use Rattle.block.proofs.form.span_ok as span-ok
 use Rattle.block.proofs.form.block_ok as block-ok
 use Rattle.block.proofs.form.depth_of as depth-of
@@ -74,9 +74,9 @@ use Rattle.scalars.proofs.scalar_in_numbers as scalar-in-numbers
 use Rattle.wire.proofs.store.put16 as put16
 use Rattle.wire.proofs.store.put32 as put32
 use Rattle.wire.proofs.store.put64 as put64
-use Rattle.record.proofs.value.put_record as put-record
+use Rattle.record.proofs.value_record.put_record as put-record
 use Rattle.payload.proofs.copy as copy
-use Rattle.record.proofs.value.whole_records as whole-records
+use Rattle.record.proofs.value_record.whole_records as whole-records
 use Rattle.block.proofs.validation.level_rule as level-rule
 use Rattle.block.proofs.validation.passes as passes
 use Rattle.block.proofs.form.node_ok as node-ok
@@ -91,9 +91,9 @@ use Rattle.write.proofs.judge.judge_leaf as judge-leaf
 use Rattle.write.proofs.judge.next_child as next-judged-child
 use Rattle.write.proofs.judge.judge_row as judge-row
 use Rattle.write.proofs.put.put_row as put-row
-use Rattle.write.proofs.row.room_for as room-for-row
-use Rattle.write.proofs.row.place_row as place-row
-use Rattle.write.proofs.row.write_row as write-row
+use Rattle.write.proofs.steps.room_for as room-for-row
+use Rattle.write.proofs.steps.place_row as place-row
+use Rattle.write.proofs.steps.write_row as write-row
 use Rattle.wire.proofs.codes.tag_width as tag-width
 use Rattle.windows.proofs.run_on as run-on
 use Rattle.windows.proofs.no_rows as no-rows

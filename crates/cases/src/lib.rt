@@ -4,7 +4,7 @@
 // A case is a header of 64 bytes and five byte strings. The header, little-endian: u32 op; u32 lengths of records, names, references,
 // registry and input; u64 a; u64 b; u64 node charge; u64 largest blob; u64 largest row. A line: refusal number (0 if none), place, and
 // three values, and what a program writes after them.
-pub mod lines;
+pub mod answer_lines;
 pub mod reports;
 
 use rules::Settings;

@@ -13,7 +13,7 @@ ghost use Rattle.fill.specs.Filling.{rowValue};
 ghost use Rattle.decode.specs.Steps.{Granted};
 use block::table::block_of;
 use fill::fill_row;
-use record::value::records_in;
+use record::value_record::records_in;
 use row::steps::RowBlock;
 use row::steps::block_at;
 use row::steps::row_of;

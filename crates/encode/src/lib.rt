@@ -16,8 +16,8 @@ use schema::encoder_rules_at_once;
 use value::table_form;
 use write::flat::flat_row;
 use write::judge::AtOnce;
-use write::row::place_row;
-use write::row::write_row;
+use write::steps::place_row;
+use write::steps::write_row;
 
 // Settings and slices are inside document 01's bounds, and the position in what counts of the output.
 fn writing_within_bounds(

@@ -19,7 +19,7 @@ use read::fields::ends;
 use record::node::node_children;
 use record::node::node_code;
 use record::node::node_first;
-use record::value::put_record;
+use record::value_record::put_record;
 use wire::codes::code_width;
 use wire::codes::tag_width;
 use wire::field;

@@ -6,7 +6,7 @@ ghost use Rattle.rules.specs.Listing.{rowLines};
 ghost use Rattle.write.specs.Table.{wholeValue};
 ghost use Rattle.lines.specs.Puts.{TextPut};
 ghost use Rattle.listing_lines.specs.Rows.{childCount, Listable, Listed, rootValue, RowListable};
-use record::value::value_record_at;
+use record::value_record::value_record_at;
 use rules::ValueRecord;
 use texts::put_line;
 use write::put::WritePos;

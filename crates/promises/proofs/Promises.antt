@@ -63,8 +63,8 @@ use Rattle.rules.specs.Refusals.{Setting}
 use Rattle.rules.specs.Query.{queryRule}
 use Rattle.rules.specs.View.{kindRule, tagRule, childCountRule, afterRule, fieldRule}
 use Rattle.rules.specs.Preorder.{ValueNode, valuePreorder, NodeIs, valueSaid, valueChildren, FieldIs, FirstChild}
-use Rattle.rules.specs.declared.query.Queried.the-variants as queried
-use Rattle.rules.specs.declared.query.Viewed.the-variants.{Number}
+use Rattle.rules.specs.declared.host_answer.Queried.the-variants as queried
+use Rattle.rules.specs.declared.host_answer.Viewed.the-variants.{Number}
 use Rattle.value_laws.proofs.Query as query
 use Rattle.value_laws.proofs.View as view
 use Rattle.value_laws.proofs.Subtrees as subtrees

@@ -17,8 +17,8 @@ use Rattle.rules.specs.Choice.{pick, _and_}
 use Rattle.rules.specs.Wire.{fixed, form}
 use Rattle.rules.specs.Query.{scalarAlone, recordAlone, recordThere, recordGood, recordSeen, signed}
 use Rattle.rules.specs.declared.table_record.ValueRecord.{ValueRecord}
-use Rattle.rules.specs.declared.query.Seen.{Seen}
-use Rattle.rules.specs.declared.query.Seen.the-variants.{Record, Refused}
+use Rattle.rules.specs.declared.host_answer.Seen.{Seen}
+use Rattle.rules.specs.declared.host_answer.Seen.the-variants.{Record, Refused}
 use Rattle.rules.proofs.Tests.{and-both, either}
 
 -- ---- two's complement, over the width

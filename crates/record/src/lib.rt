@@ -2,4 +2,4 @@
 pub mod entry;
 pub mod node;
 pub mod reference;
-pub mod value;
+pub mod value_record;

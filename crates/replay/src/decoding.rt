@@ -1,9 +1,9 @@
 // A row decoded into two lent slices.
 use crate::answers::read;
-use cases::lines::end_line;
-use cases::lines::shown;
-use cases::lines::write_bytes;
-use cases::lines::write_report;
+use cases::answer_lines::end_line;
+use cases::answer_lines::shown;
+use cases::answer_lines::write_bytes;
+use cases::answer_lines::write_report;
 use decode::next_row;
 use rules::Settings;
 ghost use lib.ListN.{length};

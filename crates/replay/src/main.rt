@@ -9,9 +9,9 @@ mod decoding;
 
 use answers::answer;
 use answers::stopped;
-use cases::lines::end_line;
-use cases::lines::write_number;
-use cases::lines::write_report;
+use cases::answer_lines::end_line;
+use cases::answer_lines::write_number;
+use cases::answer_lines::write_report;
 use cases::next_case;
 use decoding::decode_row;
 use rules::Ran;

@@ -3,9 +3,9 @@
 // Op 10 encodes it by the block whose first record and count are the halves of `a`, u32 each, at position `b` of an output that is the
 // input string before the call. Its line goes on with all that the output holds afterwards, in hex, or `-` for an empty one. Op 11
 // checks the value table.
-use cases::lines::end_line;
-use cases::lines::write_bytes;
-use cases::lines::write_report;
+use cases::answer_lines::end_line;
+use cases::answer_lines::write_bytes;
+use cases::answer_lines::write_report;
 use cases::next_case;
 use cases::reports::accepted_row;
 use cases::reports::checked;

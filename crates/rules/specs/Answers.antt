@@ -13,8 +13,8 @@ use Rattle.rules.specs.declared.answer.Extent.{Extent}
 use Rattle.rules.specs.declared.answer.Read.{Read}
 use Rattle.rules.specs.declared.answer.Stop.{Stop}
 use Rattle.rules.specs.declared.answer.Written.{Written}
-use Rattle.rules.specs.declared.query.Scalar.{Scalar}
-use Rattle.rules.specs.declared.query.Queried.{Queried}
+use Rattle.rules.specs.declared.host_answer.Scalar.{Scalar}
+use Rattle.rules.specs.declared.host_answer.Queried.{Queried}
 
 -- number, place, and then what is carried or returned
 pub record Said : Type 0 where

@@ -7,8 +7,8 @@ use lib.ListN.{length}
 use Rattle.rules.specs.Wire.{form, widthOf}
 use Rattle.rules.specs.Value.{Value, nothing, boolean, number, wide, blob, variant, repeated, tuple, Items, done, item, Values, none, more, items, values, recordsOf, payloadOf}
 use Rattle.rules.specs.Query.{numberSaid}
-use Rattle.rules.specs.declared.query.Scalar.{Scalar}
-use Rattle.rules.specs.declared.query.Scalar.the-variants.{Nothing, Truth, Payload, Children}
+use Rattle.rules.specs.declared.host_answer.Scalar.{Scalar}
+use Rattle.rules.specs.declared.host_answer.Scalar.the-variants.{Nothing, Truth, Payload, Children}
 
 -- a node: its value, the tag by which its parent chose it, how many payload bytes are before its own, and its depth, the root's being 1
 pub record ValueNode : Type 0 where

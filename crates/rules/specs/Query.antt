@@ -14,12 +14,12 @@ use Rattle.rules.specs.Refusals.{Setting, BadValueTable}
 use Rattle.rules.specs.Format.{shortOk}
 use Rattle.rules.specs.ValueRecord.{valueRecordsIn, wholeValueRecords, valueRecordAt}
 use Rattle.rules.specs.declared.table_record.ValueRecord.{ValueRecord}
-use Rattle.rules.specs.declared.query.Scalar.{Scalar}
-use Rattle.rules.specs.declared.query.Scalar.the-variants.{Nothing, Truth, Signed, Unsigned, Double, NotANumber, Payload, Children}
-use Rattle.rules.specs.declared.query.Seen.{Seen}
-use Rattle.rules.specs.declared.query.Seen.the-variants as seen
-use Rattle.rules.specs.declared.query.Queried.{Queried}
-use Rattle.rules.specs.declared.query.Queried.the-variants as queried
+use Rattle.rules.specs.declared.host_answer.Scalar.{Scalar}
+use Rattle.rules.specs.declared.host_answer.Scalar.the-variants.{Nothing, Truth, Signed, Unsigned, Double, NotANumber, Payload, Children}
+use Rattle.rules.specs.declared.host_answer.Seen.{Seen}
+use Rattle.rules.specs.declared.host_answer.Seen.the-variants as seen
+use Rattle.rules.specs.declared.host_answer.Queried.{Queried}
+use Rattle.rules.specs.declared.host_answer.Queried.the-variants as queried
 
 -- ---- a record by itself
 

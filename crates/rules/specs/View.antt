@@ -11,10 +11,10 @@ use Rattle.rules.specs.Refusals.{Setting, BadValueTable}
 use Rattle.rules.specs.ValueRecord.{valueRecordsIn, valueRecordAt}
 use Rattle.rules.specs.Query.{recordAlone, recordThere, recordGood, recordSeen}
 use Rattle.rules.specs.declared.table_record.ValueRecord.{ValueRecord}
-use Rattle.rules.specs.declared.query.Seen.{Seen}
-use Rattle.rules.specs.declared.query.Seen.the-variants as seen
-use Rattle.rules.specs.declared.query.Viewed.{Viewed}
-use Rattle.rules.specs.declared.query.Viewed.the-variants.{Number, Refused}
+use Rattle.rules.specs.declared.host_answer.Seen.{Seen}
+use Rattle.rules.specs.declared.host_answer.Seen.the-variants as seen
+use Rattle.rules.specs.declared.host_answer.Viewed.{Viewed}
+use Rattle.rules.specs.declared.host_answer.Viewed.the-variants.{Number, Refused}
 
 -- ---- a record's fields
 

@@ -2,7 +2,7 @@
 // a host is told of a value record.
 // What is right is written down in specs/, as definitions that read beside document 01.
 pub mod answer;
-pub mod query;
+pub mod host_answer;
 pub mod refusal;
 pub mod settings;
 pub mod table_record;
@@ -17,10 +17,10 @@ pub use answer::Ran;
 pub use answer::Read;
 pub use answer::Stop;
 pub use answer::Written;
-pub use query::Queried;
-pub use query::Scalar;
-pub use query::Seen;
-pub use query::Viewed;
+pub use host_answer::Queried;
+pub use host_answer::Scalar;
+pub use host_answer::Seen;
+pub use host_answer::Viewed;
 pub use refusal::Label;
 pub use refusal::Labels;
 pub use refusal::Refusal;

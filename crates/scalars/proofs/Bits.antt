@@ -11,8 +11,8 @@ use mir.Val.{SFits, toZ, ofZ, boolByte}
 use mir.Facts.{toZ-ofZ}
 use Rattle.rules.specs.Choice.{pick}
 use Rattle.scalars.specs.Numbers.{signedBits, oneNumber, scalarNumbers, HasBits}
-use Rattle.rules.specs.declared.query.Scalar.{Scalar}
-use Rattle.rules.specs.declared.query.Scalar.the-variants.{Truth, Signed, Double}
+use Rattle.rules.specs.declared.host_answer.Scalar.{Scalar}
+use Rattle.rules.specs.declared.host_answer.Scalar.the-variants.{Truth, Signed, Double}
 use Rattle.scalars.specs.declared.ScalarNumbers.{ScalarNumbers}
 
 pub has-bits : (s : Scalar) (x : Float) → HasBits s → s ≡ Double x → T (not (isNan x))

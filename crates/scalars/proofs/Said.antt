@@ -16,8 +16,8 @@ use Rattle.rules.specs.Choice.{pick}
 use Rattle.rules.specs.Wire.{Form, empty, truth, fixed, raw, sized, variant-form, repeated-form, tuple-form, unknown}
 use Rattle.rules.specs.Query.{signed, doubleSaid, numberSaid, scalarSaid, recordSaid, recordSeen, queriedOf, queryRule}
 use Rattle.rules.specs.declared.table_record.ValueRecord.{ValueRecord}
-use Rattle.rules.specs.declared.query.Scalar.{Scalar}
-use Rattle.rules.specs.declared.query.Seen.{Seen}
+use Rattle.rules.specs.declared.host_answer.Scalar.{Scalar}
+use Rattle.rules.specs.declared.host_answer.Seen.{Seen}
 use Rattle.rules.proofs.Tests.{either}
 use Rattle.scalars.specs.Numbers.{signedBits, oneNumber, scalarNumbers, HasBits, SaysBits}
 use Rattle.scalars.specs.declared.ScalarNumbers.{ScalarNumbers}

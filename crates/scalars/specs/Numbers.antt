@@ -6,10 +6,10 @@ use mathlib.Core.Bool.{false}
 use lib.IntN.{ℤ, pos, negsuc}
 use lib.Ieee.{binary64, isNan, toBits}
 use Rattle.rules.specs.Choice.{pick}
-use Rattle.rules.specs.declared.query.Scalar.{Scalar}
-use Rattle.rules.specs.declared.query.Scalar.the-variants.{Nothing, Truth, Signed, Unsigned, Double, NotANumber, Payload, Children}
-use Rattle.rules.specs.declared.query.Queried.{Queried}
-use Rattle.rules.specs.declared.query.Queried.the-variants as queried
+use Rattle.rules.specs.declared.host_answer.Scalar.{Scalar}
+use Rattle.rules.specs.declared.host_answer.Scalar.the-variants.{Nothing, Truth, Signed, Unsigned, Double, NotANumber, Payload, Children}
+use Rattle.rules.specs.declared.host_answer.Queried.{Queried}
+use Rattle.rules.specs.declared.host_answer.Queried.the-variants as queried
 use Rattle.scalars.specs.declared.ScalarNumbers.{ScalarNumbers}
 
 -- the 64 bits of a number, in two's complement

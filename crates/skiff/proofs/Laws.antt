@@ -10,7 +10,7 @@ use Rattle.rules.specs.Choice.{pick}
 use Rattle.rules.specs.Bytes.{le, over}
 use Rattle.rules.specs.Reading.{Decoded, untouched}
 use Rattle.rules.specs.Writing.{Encoded}
-use Rattle.rules.specs.declared.query.Viewed.{Viewed}
+use Rattle.rules.specs.declared.host_answer.Viewed.{Viewed}
 use Rattle.rules.specs.declared.answer.Read.{Read}
 use Rattle.rules.specs.declared.answer.Written.{Written}
 use Rattle.rules.proofs.Over.{over-at}

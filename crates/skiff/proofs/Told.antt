@@ -12,11 +12,11 @@ use Rattle.rules.specs.declared.refusal.Report.{Report}
 use Rattle.rules.specs.declared.wire_type.WireType.{WireType}
 use Rattle.rules.specs.declared.wire_type.Known.{Known}
 use Rattle.rules.specs.declared.wire_type.Known.the-variants as known
-use Rattle.rules.specs.declared.query.Scalar.{Scalar}
-use Rattle.rules.specs.declared.query.Queried.{Queried}
-use Rattle.rules.specs.declared.query.Queried.the-variants as queried
-use Rattle.rules.specs.declared.query.Viewed.{Viewed}
-use Rattle.rules.specs.declared.query.Viewed.the-variants as viewed
+use Rattle.rules.specs.declared.host_answer.Scalar.{Scalar}
+use Rattle.rules.specs.declared.host_answer.Queried.{Queried}
+use Rattle.rules.specs.declared.host_answer.Queried.the-variants as queried
+use Rattle.rules.specs.declared.host_answer.Viewed.{Viewed}
+use Rattle.rules.specs.declared.host_answer.Viewed.the-variants as viewed
 use Rattle.rules.specs.declared.answer.Extent.{Extent}
 use Rattle.rules.specs.declared.refusal.Refusal.{Refusal}
 use Rattle.rules.specs.declared.answer.Read.{Read}

@@ -14,7 +14,7 @@ use Rattle.rules.specs.ValueCheck.{valueTableRule}
 use Rattle.rules.specs.Query.{queryRule}
 use Rattle.rules.specs.Windows.{runAfter}
 use Rattle.rules.specs.declared.settings.Settings.{Settings}
-use Rattle.rules.specs.declared.query.Viewed.{Viewed}
+use Rattle.rules.specs.declared.host_answer.Viewed.{Viewed}
 use Rattle.skiff.specs.declared.answer.AnswerNumbers.{AnswerNumbers}
 use Rattle.skiff.specs.Answers.{answerLayout, answerOfRead, answerOfRan, answerOfWindow, answerOfWritten, answerOfChecked, answerOfKnown, answerOfQueried, answerOfViewed}
 

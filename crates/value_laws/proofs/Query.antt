@@ -18,10 +18,10 @@ use Rattle.rules.specs.Query.{scalarAlone, parentAlone, recordAlone, recordTher
 use Rattle.rules.specs.View.{childCount, viewedOf, kindRule, tagRule, childCountRule}
 use Rattle.rules.specs.Preorder.{ValueNode, valuePreorder, NodeIs, valueSaid, valueChildren}
 use Rattle.rules.specs.declared.table_record.ValueRecord.{ValueRecord}
-use Rattle.rules.specs.declared.query.Seen.{Seen}
-use Rattle.rules.specs.declared.query.Seen.the-variants as seen
-use Rattle.rules.specs.declared.query.Queried.the-variants as queried
-use Rattle.rules.specs.declared.query.Viewed.the-variants as viewed
+use Rattle.rules.specs.declared.host_answer.Seen.{Seen}
+use Rattle.rules.specs.declared.host_answer.Seen.the-variants as seen
+use Rattle.rules.specs.declared.host_answer.Queried.the-variants as queried
+use Rattle.rules.specs.declared.host_answer.Viewed.the-variants as viewed
 use Rattle.value_laws.proofs.Records.{whole-records, RecordIs, record-in, fields-are, Shows, shows-in, whole-shows}
 use Rattle.value_laws.proofs.Sizes.{length-pays, length-belowI, length-belowV, length-heads, items-within, values-within}
 use Rattle.value_laws.proofs.Codes.{fixed-code, raw-code, sized-code}

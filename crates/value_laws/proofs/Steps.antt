@@ -13,7 +13,7 @@ use Rattle.rules.specs.Refusals.{BadValueTable}
 use Rattle.rules.specs.ValueRecord.{valueRecordsIn, valueRecordAt}
 use Rattle.rules.specs.Query.{recordAlone}
 use Rattle.rules.specs.View.{childCount, pastTrees, recordsFrom}
-use Rattle.rules.specs.declared.query.Viewed.the-variants.{Number, Refused}
+use Rattle.rules.specs.declared.host_answer.Viewed.the-variants.{Number, Refused}
 
 module _ (table : List ℕ) where
   -- no tree is passed at once

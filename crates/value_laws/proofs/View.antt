@@ -15,8 +15,8 @@ use Rattle.rules.specs.ValueTable.{valueKind, sizeOf, headOf, below, belowI, be
 use Rattle.rules.specs.Query.{recordAlone, recordThere, recordGood, recordSeen}
 use Rattle.rules.specs.View.{childCount, pastTrees, recordsFrom, afterSeen, afterRule, ifThere, hasField, fieldRule}
 use Rattle.rules.specs.Preorder.{ValueNode, valueNode, valuePreorder, NodeIs, FieldIs, nodesBefore, valueChildren}
-use Rattle.rules.specs.declared.query.Viewed.{Viewed}
-use Rattle.rules.specs.declared.query.Viewed.the-variants.{Number, Refused}
+use Rattle.rules.specs.declared.host_answer.Viewed.{Viewed}
+use Rattle.rules.specs.declared.host_answer.Viewed.the-variants.{Number, Refused}
 use Rattle.value_laws.proofs.Records.{Shows, shows-left, shows-right, shows-end}
 use Rattle.value_laws.proofs.Sizes.{length-heads, length-belowV, one-record}
 use Rattle.value_laws.proofs.Nodes.{Grown}

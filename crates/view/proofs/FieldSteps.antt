@@ -13,8 +13,8 @@ use Rattle.rules.specs.Query.{recordAlone, recordThere, recordGood}
 use Rattle.rules.specs.View.{pastTrees, recordsFrom, ifThere, hasField, fieldRule}
 use Rattle.rules.specs.declared.table_record.ValueRecord.{ValueRecord}
 use Rattle.rules.specs.declared.refusal.Refusal.{Refusal}
-use Rattle.rules.specs.declared.query.Viewed.{Viewed}
-use Rattle.rules.specs.declared.query.Viewed.the-variants.{Number, Refused}
+use Rattle.rules.specs.declared.host_answer.Viewed.{Viewed}
+use Rattle.rules.specs.declared.host_answer.Viewed.the-variants.{Number, Refused}
 
 module _ (table : List ℕ) (i k : ℕ) where
   -- a slice that is too long

@@ -13,7 +13,7 @@ use read::fields::payload_of_fixed;
 use record::node::node_children;
 use record::node::node_code;
 use record::node::node_first;
-use record::value::value_record_at;
+use record::value_record::value_record_at;
 use rules::Refusal;
 use rules::Settings;
 use rules::Why;

@@ -2,4 +2,4 @@
 pub mod flat;
 pub mod judge;
 pub mod put;
-pub mod row;
+pub mod steps;

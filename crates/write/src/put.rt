@@ -12,7 +12,7 @@ ghost use Rattle.write.specs.Putting.{tagBytes, closing, childOf, leafKe
 use payload::copy;
 use record::node::node_code;
 use record::node::node_first;
-use record::value::value_record_at;
+use record::value_record::value_record_at;
 use rules::ValueRecord;
 use wire::codes::code_width;
 use wire::codes::tag_width;

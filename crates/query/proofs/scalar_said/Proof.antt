@@ -7,7 +7,7 @@ use borrow.Author.Tests.{lt-ltb, le-ltb}
 use Rattle.rules.specs.Choice.{pick}
 use Rattle.rules.specs.Wire.{wireTypes, typeIn, typeOf, written, writtenIf, form, fixed}
 use Rattle.rules.specs.Query.{numberSaid, scalarSaid}
-use Rattle.rules.specs.declared.query.Scalar.the-variants.{Signed}
+use Rattle.rules.specs.declared.host_answer.Scalar.the-variants.{Signed}
 use Rattle.value.proofs.Fields.{blob-form, fixed-is, raw-is}
 use Rattle.query.proofs.Says.{number-fits, signed-fits}
 use Rattle.query.proofs.scalar_said.Statement.{statement}

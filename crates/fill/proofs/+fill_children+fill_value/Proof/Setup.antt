@@ -12,7 +12,7 @@ use Rattle.fill.proofs.leaf_at.Reads as leaf-at-reads
 use Rattle.fill.proofs.kind_of.Reads as kind-of-reads
 use Rattle.fill.proofs.fill_pos_at.Reads as fill-pos-at-reads
 use Rattle.fill.proofs.next_child.Reads as next-child-reads
-use Rattle.record.proofs.value.put_record.Reads as put-record-reads
+use Rattle.record.proofs.value_record.put_record.Reads as put-record-reads
 use Rattle.record.proofs.node.node_children.Reads as node-children-reads
 use Rattle.record.proofs.node.node_code.Reads as node-code-reads
 use Rattle.record.proofs.node.node_first.Reads as node-first-reads

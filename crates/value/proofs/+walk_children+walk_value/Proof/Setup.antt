@@ -7,8 +7,8 @@ use Rattle.value.proofs.+walk_children+walk_value.Lts-walk_children as 
 use Rattle.value.proofs.walk_value.Reads as walk-value
 use Rattle.value.proofs.walk_value.Kinds as walk-value-kinds
 use Rattle.value.proofs.+walk_children+walk_value.Lts-walk_value as walk-value-lts
-use Rattle.record.proofs.value.records_in.Reads as records-in-reads
-use Rattle.record.proofs.value.value_record_at.Reads as value-record-at-reads
+use Rattle.record.proofs.value_record.records_in.Reads as records-in-reads
+use Rattle.record.proofs.value_record.value_record_at.Reads as value-record-at-reads
 use Rattle.value.proofs.record_ok.Reads as record-ok-reads
 use Rattle.value.proofs.walk_scalar.Reads as walk-scalar-reads
 

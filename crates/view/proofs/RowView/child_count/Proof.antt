@@ -5,8 +5,8 @@ use denote.Enum.Laws as EL
 use denote.Triple.Spec.{tripleOf}
 use denote.Triple.Table.{entered, cited}
 use Rattle.rules.specs.View.{childCountRule}
-use Rattle.rules.proofs.query.Viewed as S
-use Rattle.rules.proofs.query.Viewed.Laws as S′
+use Rattle.rules.proofs.host_answer.Viewed as S
+use Rattle.rules.proofs.host_answer.Viewed.Laws as S′
 use Rattle.view.proofs.child_count_at.Symbol as step-def
 use Rattle.view.proofs.child_count_at.Symbol.{name as #view·child-count-at}
 use Rattle.view.proofs.child_count_at.Met as step-thm

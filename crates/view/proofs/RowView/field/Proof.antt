@@ -44,9 +44,9 @@ use denote.Triple.Walked.{says, Stays, stay-none, walkOf, goes-none, Walks, ends
 use denote.Exit.{yes}
 use denote.Triple.Clauses.{ensured, lasts}
 use Rattle.rules.specs.View.{fieldRule}
-use Rattle.rules.specs.declared.query.Viewed.{Viewed}
-use Rattle.rules.proofs.query.Viewed as S
-use Rattle.rules.proofs.query.Viewed.Laws as S′
+use Rattle.rules.specs.declared.host_answer.Viewed.{Viewed}
+use Rattle.rules.proofs.host_answer.Viewed as S
+use Rattle.rules.proofs.host_answer.Viewed.Laws as S′
 use Rattle.view.specs.declared.RowView.{RowView}
 use Rattle.view.proofs.RowView as T
 use Rattle.view.proofs.RowView.Laws as T′

@@ -5,8 +5,8 @@ use denote.Enum.Laws as EL
 use denote.Triple.Spec.{tripleOf}
 use denote.Triple.Table.{entered, cited}
 use Rattle.rules.specs.Query.{queryRule}
-use Rattle.rules.proofs.query.Queried as S
-use Rattle.rules.proofs.query.Queried.Laws as S′
+use Rattle.rules.proofs.host_answer.Queried as S
+use Rattle.rules.proofs.host_answer.Queried.Laws as S′
 use Rattle.query.proofs.value_of.Symbol as step-def
 use Rattle.query.proofs.value_of.Symbol.{name as #query·value-of}
 use Rattle.query.proofs.value_of.Met as step-thm

@@ -5,7 +5,7 @@ use Rattle.listing_lines.proofs.rows.list_value.Reads as list-value
 use Rattle.listing_lines.proofs.rows.list_value.Kinds as list-value-kinds
 use Rattle.listing_lines.proofs.rows.+list_value.Lts-list_value as list-value-lts
 use Rattle.listing_lines.proofs.rows.child_count.Reads as child-count-reads
-use Rattle.record.proofs.value.value_record_at.Reads as value-record-at-reads
+use Rattle.record.proofs.value_record.value_record_at.Reads as value-record-at-reads
 use Rattle.texts.proofs.put_line.Reads as put-line-reads
 
 abbrev pub μ-list-value : Measures 3 list-value-kinds.ps ℕ

@@ -10,7 +10,7 @@ use Rattle.write.proofs.judge.+judge_children+judge_value.Lts-judge_val
 use Rattle.record.proofs.node.node_children.Reads as node-children-reads
 use Rattle.record.proofs.node.node_code.Reads as node-code-reads
 use Rattle.record.proofs.node.node_first.Reads as node-first-reads
-use Rattle.record.proofs.value.value_record_at.Reads as value-record-at-reads
+use Rattle.record.proofs.value_record.value_record_at.Reads as value-record-at-reads
 use Rattle.write.proofs.judge.closing.Reads as closing-reads
 use Rattle.write.proofs.judge.count_fits.Reads as count-fits-reads
 use Rattle.write.proofs.judge.judge_at_once.Reads as judge-at-once-reads

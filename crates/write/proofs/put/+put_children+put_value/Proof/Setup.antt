@@ -9,7 +9,7 @@ use Rattle.write.proofs.put.put_value.Kinds as put-value-kinds
 use Rattle.write.proofs.put.+put_children+put_value.Lts-put_value as put-value-lts
 use Rattle.record.proofs.node.node_code.Reads as node-code-reads
 use Rattle.record.proofs.node.node_first.Reads as node-first-reads
-use Rattle.record.proofs.value.value_record_at.Reads as value-record-at-reads
+use Rattle.record.proofs.value_record.value_record_at.Reads as value-record-at-reads
 use Rattle.write.proofs.put.child_of.Reads as child-of-reads
 use Rattle.write.proofs.put.leaf_at.Reads as leaf-at-reads
 use Rattle.write.proofs.put.put_end.Reads as put-end-reads

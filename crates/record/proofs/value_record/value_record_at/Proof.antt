@@ -1,7 +1,7 @@
 use borrow.Author.Needs.{needs}
 use Rattle.rules.specs.ValueRecord.{valueRecordAt}
-use Rattle.record.proofs.value.value_record_at.Statement.{statement}
-use Rattle.record.proofs.value.value_record_at.Tie as tie
+use Rattle.record.proofs.value_record.value_record_at.Statement.{statement}
+use Rattle.record.proofs.value_record.value_record_at.Tie as tie
 
 mul-at : tie.Need-mul-at
 mul-at c = search needs

@@ -1,8 +1,8 @@
 use mathlib.Core.Path.{refl, sym, _∙_}
 use Rattle.write.proofs.Rows.{row-answer, row-unplaced, row-writable, row-left}
 use borrow.Author.Needs.{needs}
-use Rattle.write.proofs.row.place_row.Statement.{statement}
-use Rattle.write.proofs.row.place_row.Tie as tie
+use Rattle.write.proofs.steps.place_row.Statement.{statement}
+use Rattle.write.proofs.steps.place_row.Tie as tie
 
 room-for-requires : tie.Need-room-for-requires
 room-for-requires c κs = search needs

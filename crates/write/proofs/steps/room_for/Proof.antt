@@ -1,7 +1,7 @@
 use Rattle.write.proofs.Rows.{no-room, has-room}
 use borrow.Author.Needs.{needs}
-use Rattle.write.proofs.row.room_for.Statement.{statement}
-use Rattle.write.proofs.row.room_for.Tie as tie
+use Rattle.write.proofs.steps.room_for.Statement.{statement}
+use Rattle.write.proofs.steps.room_for.Tie as tie
 
 room-in-requires : tie.Need-room-in-requires
 room-in-requires c κs = search needs

@@ -1,8 +1,8 @@
 use borrow.Author.Needs.{needs}
 use Rattle.rules.specs.ValueRecord.{valueRecordStart}
 use Rattle.record.proofs.Fields.{record-fields}
-use Rattle.record.proofs.value.put_record.Statement.{statement}
-use Rattle.record.proofs.value.put_record.Tie as tie
+use Rattle.record.proofs.value_record.put_record.Statement.{statement}
+use Rattle.record.proofs.value_record.put_record.Tie as tie
 
 mul-at : tie.Need-mul-at
 mul-at c = search needs

@@ -1,6 +1,6 @@
 use borrow.Author.Needs.{needs}
-use Rattle.write.proofs.row.not_written.Statement.{statement}
-use Rattle.write.proofs.row.not_written.Tie as tie
+use Rattle.write.proofs.steps.not_written.Statement.{statement}
+use Rattle.write.proofs.steps.not_written.Tie as tie
 
 enum-known-value : tie.Need-enum-known-value
 enum-known-value c = search needs

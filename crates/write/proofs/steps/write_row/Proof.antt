@@ -1,8 +1,8 @@
 use mathlib.Core.Path.{sym, _∙_}
 use Rattle.write.proofs.Rows.{row-refused}
 use borrow.Author.Needs.{needs}
-use Rattle.write.proofs.row.write_row.Statement.{statement}
-use Rattle.write.proofs.row.write_row.Tie as tie
+use Rattle.write.proofs.steps.write_row.Statement.{statement}
+use Rattle.write.proofs.steps.write_row.Tie as tie
 
 judge-row-requires : tie.Need-judge-row-requires
 judge-row-requires c κs = search needs

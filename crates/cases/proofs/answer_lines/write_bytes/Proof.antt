@@ -4,8 +4,8 @@ use Prim.Native.Nat.{_≤_, _-_}
 use mathlib.Core.Path.{_≡_}
 use lib.ListN.{length}
 use borrow.Author.Needs.{needs}
-use Rattle.cases.proofs.lines.write_bytes.Statement.{statement}
-use Rattle.cases.proofs.lines.write_bytes.Tie as tie
+use Rattle.cases.proofs.answer_lines.write_bytes.Statement.{statement}
+use Rattle.cases.proofs.answer_lines.write_bytes.Tie as tie
 
 abbrev Inv-loop : tie.InvT-loop
 Inv-loop s n text₀ i₀ text i = (i ≤ n) × (n ≤ length s) × (n ≤ 4096) × (8192 ≡ length text)
