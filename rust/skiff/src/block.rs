@@ -54,13 +54,11 @@ impl SchemaBlock<'_> {
         output: &mut Vec<u8>,
     ) -> Result<Extent, Refused> {
         let value = row.into();
-        let start = output.len();
         // No value takes more than ten bytes beside its payload: a tag of two, and a number of eight.
         let most = 2 + value.records.len() / VALUE_RECORD_BYTES * 10 + value.payload.len();
-        output.resize(start + most, 0);
-        let done = self.put(settings, &value, &mut output[start..], 0);
-        output.truncate(start + done.as_ref().map_or(0, |row| row.bytes));
-        done.map_err(|refusal| self.about(refusal, &value))
+        let report =
+            Report::of(|answer| sys::append(settings.into(), self, &value, output, most, answer));
+        Self::row(&report).map_err(|refusal| self.about(refusal, &value))
     }
 
     fn put(
@@ -71,7 +69,12 @@ impl SchemaBlock<'_> {
         position: u64,
     ) -> Result<Extent, Refusal> {
         let report = Report::of(|answer| sys::encode(settings.into(), self, value, output, position, answer));
-        // An end is nothing that this call answers.
+        Self::row(&report)
+    }
+
+    /// The row that was written; an end is nothing that these calls answer.
+    #[inline]
+    fn row(report: &Report) -> Result<Extent, Refusal> {
         report.extent()?.ok_or(Refusal::from_numbers(0, 0, [0; 3]))
     }
 

@@ -21,7 +21,7 @@ pub(crate) struct Report {
 impl Report {
     /// Makes a call into an answer slice of its own and reads what it wrote.
     #[inline]
-    pub(crate) fn of(call: impl FnOnce(&mut [u8]) -> u32) -> Self {
+    pub(crate) fn of(call: impl FnOnce(&mut [u8; ANSWER_SIZE]) -> u32) -> Self {
         let mut answer = [0; ANSWER_SIZE];
         let returned = call(&mut answer);
         let number = |index: usize| {

@@ -9,6 +9,9 @@ use crate::{Format, SchemaBlock, Settings, ValueTable};
 /// A shorter answer slice is left as it is, and so are all others; the call returns 1.
 pub const ANSWER_SIZE: usize = 88;
 
+/// Where an answer has the bytes of a row.
+const ROW_BYTES: usize = 7 * 8;
+
 /// What one value record takes of the slice that it is written to.
 pub const VALUE_RECORD_BYTES: usize = 16;
 
@@ -239,6 +242,53 @@ pub fn encode(
             number block.first; number block.count; read value.records; read value.payload;
             written output; number position; written answer;)
     }
+}
+
+/// `skiff_encode` behind the last byte of `output`, which has to grow by no more than `most`: the refusal's
+/// number, 0 where the row was appended.
+#[inline]
+pub(crate) fn append(
+    numbers: Numbers,
+    block: &SchemaBlock,
+    value: &ValueTable,
+    output: &mut Vec<u8>,
+    most: usize,
+    answer: &mut [u8; ANSWER_SIZE],
+) -> u32 {
+    output.reserve(most);
+    let free = output.spare_capacity_mut();
+    let (start, room) = (free.as_mut_ptr().cast::<u8>(), free.len());
+    // SAFETY: as in `decode`. The room has no bytes yet and the call reads none of it: it only writes there.
+    let refused = unsafe {
+        skiff_encode(
+            numbers.node_charge,
+            numbers.max_blob_bytes,
+            numbers.max_row_bytes,
+            block.records.as_ptr(),
+            block.records.len(),
+            block.names.as_ptr(),
+            block.names.len(),
+            block.first,
+            block.count,
+            value.records.as_ptr(),
+            value.records.len(),
+            value.payload.as_ptr(),
+            value.payload.len(),
+            start,
+            room,
+            0,
+            answer.as_mut_ptr(),
+            ANSWER_SIZE,
+        )
+    };
+    if refused == 0 {
+        let row = u64::from_le_bytes(*answer[ROW_BYTES..].first_chunk().expect("eight bytes")) as usize;
+        debug_assert!(row <= room);
+        // SAFETY: an accepted call has written a row of so many bytes from the start of the room on, and it
+        // had room for them.
+        unsafe { output.set_len(output.len() + row) };
+    }
+    refused
 }
 
 /// `skiff_check_value_table`: the refusal's number, 0 where it is a table.
