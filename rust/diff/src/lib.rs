@@ -9,6 +9,8 @@ extern crate double as _;
 pub mod bench;
 pub mod case;
 pub mod compare;
+#[cfg(feature = "library")]
+pub mod fence;
 pub mod generate;
 #[cfg(feature = "library")]
 pub mod in_process;
@@ -22,4 +24,6 @@ pub mod rng;
 pub mod room;
 pub mod show;
 pub mod shrink;
+#[cfg(feature = "library")]
+pub mod trap;
 pub mod writing;

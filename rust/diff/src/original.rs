@@ -179,6 +179,11 @@ pub fn ask(case: &Case, plain: &Answer) -> Option<Said> {
     }
 }
 
+/// What it says of a skip or a run; none outside of its domain.
+pub fn ask_rows(case: &Case) -> Option<Said> {
+    rows::ask(case)
+}
+
 fn said(case: &Case, wrote: Wrote) -> Said {
     match wrote {
         Wrote::Row(bytes) => {

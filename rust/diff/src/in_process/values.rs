@@ -7,7 +7,8 @@ use plain::tables::{record_count, RECORD_BYTES};
 use plain::value_table::value;
 use skiff::sys;
 
-use super::Reply;
+use super::unanswered;
+use crate::fence::{Held, Turn};
 use crate::rng::Rng;
 
 /// What was asked: the rows, their records, those of them damaged, and how many of these were refused.
@@ -42,11 +43,39 @@ impl fmt::Display for Queried {
     }
 }
 
-/// The answer to one query, if it is what the plain reading says: whether the record's value was told.
-fn told(records: &[u8], index: u64, answer_size: usize) -> Option<bool> {
-    let wanted = value(records, index);
-    let got = Reply::of(answer_size, |answer| sys::value(records, index, answer));
-    (got == Reply::expected(&Report::of_value(&wanted), answer_size)).then_some(wanted.is_ok())
+/// A table between unreadable pages, and an answer slice that serves one query after another.
+struct Asker {
+    records: Held,
+    answer: Held,
+    unanswered: Vec<u8>,
+    wanted: Vec<u8>,
+}
+
+impl Asker {
+    fn new(records: &[u8], answer_size: usize, turn: &Turn) -> Self {
+        let unanswered = unanswered(answer_size);
+        Self {
+            records: turn.hold(records),
+            answer: turn.hold(&unanswered),
+            wanted: unanswered.clone(),
+            unanswered,
+        }
+    }
+
+    /// Whether a call answers this, in every byte.
+    fn is(&mut self, report: &Report, call: impl FnOnce(&[u8], &mut [u8]) -> u32) -> bool {
+        self.answer.copy_from_slice(&self.unanswered);
+        self.wanted.copy_from_slice(&self.unanswered);
+        let wanted = report.write_to(&mut self.wanted);
+        call(&self.records, &mut self.answer) == wanted && *self.answer == *self.wanted
+    }
+
+    /// The answer to one query, if it is what the plain reading says: whether the record's value was told.
+    fn told(&mut self, index: u64) -> Option<bool> {
+        let wanted = value(&self.records, index);
+        let report = Report::of_value(&wanted);
+        self.is(&report, |records, answer| sys::value(records, index, answer)).then_some(wanted.is_ok())
+    }
 }
 
 /// Bytes that kinds, sizes and truths turn on.
@@ -77,26 +106,34 @@ fn damaged(records: &[u8]) -> Vec<u8> {
 }
 
 /// All queries about a decoded row's table; none where an answer is another than the plain reading's.
-pub fn ask(records: &[u8], answer_size: usize) -> Option<Queried> {
+pub fn ask(records: &[u8], answer_size: usize, turn: &Turn) -> Option<Queried> {
     let count = record_count(records);
     let mut queried = Queried { rows: 1, ..Queried::default() };
+    let mut whole = Asker::new(records, answer_size, turn);
     for index in 0..count {
         // Decoded records are never refused.
-        if !told(records, index, answer_size)? {
+        if !whole.told(index)? {
             return None;
         }
         queried.records += 1;
     }
     let table = damaged(records);
+    let mut damaged = Asker::new(&table, answer_size, turn);
     for index in 0..record_count(&table) {
-        queried.refused += u64::from(!told(&table, index, answer_size)?);
+        queried.refused += u64::from(!damaged.told(index)?);
         queried.damaged += 1;
     }
-    for (table, index) in [(records, count), (&table, count), (records, count + (1 << 32))] {
-        if told(table, index, answer_size)? {
-            return None;
-        }
-        queried.absent += 1;
+    let absent = [whole.told(count)?, damaged.told(count)?, whole.told(count + (1 << 32))?];
+    if absent.contains(&true) || *whole.records != *records || *damaged.records != *table {
+        return None;
     }
+    queried.absent += absent.len() as u64;
     Some(queried)
+}
+
+/// Some queries with too short a slice for their answers, which nothing is written to.
+pub fn ask_in_vain(records: &[u8], answer_size: usize, turn: &Turn) -> Option<Queried> {
+    let mut whole = Asker::new(records, answer_size, turn);
+    let told = (0..=record_count(records)).take(4).all(|index| whole.told(index).is_some());
+    told.then(Queried::default)
 }

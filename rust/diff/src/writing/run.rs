@@ -42,7 +42,10 @@ impl fmt::Display for Tally {
             }
         }
         write!(out, " {} round trips; value tables: {good} accepted, {bad} refused", self.round_trips)?;
-        write!(out, "; {} calls more with a short answer slice:", self.short_answers)
+        write!(out, "; {} calls more with a short answer slice;", self.short_answers)?;
+        #[cfg(feature = "encode")]
+        write!(out, " {}", crate::fence::counted())?;
+        Ok(())
     }
 }
 

@@ -1,0 +1,130 @@
+//! Two threads that ask at once: the slices that are read are shared, and can't be written while they are; each
+//! thread has its own for what is written. First both ask the same, then each something else.
+
+use std::sync::Barrier;
+use std::thread;
+
+use plain::format::validate_format;
+use plain::report::{what, Report};
+use plain::tables::{record_count, RECORD_BYTES};
+use plain::value_table::value;
+use skiff::sys;
+
+use super::decoding::filled;
+use super::{Given, Reply};
+use crate::case::{op, Case};
+use crate::fence::{ReadOnly, Turn};
+use crate::generate::rows;
+use crate::judge::{plain_decoded, plain_report, tables};
+use crate::rng::Rng;
+use crate::room::Room;
+use crate::show::describe;
+use crate::trap;
+
+/// So many cases, each of which is asked so often by each thread.
+const CASES: u64 = 3_000;
+const ROUNDS: usize = 12;
+
+/// Of a decoded row so many records are asked for.
+const MOST_RECORDS: u64 = 40;
+
+/// A case, its slices, and what the calls about it have to leave.
+struct Question {
+    case: Case,
+    slices: [ReadOnly; 5],
+    read: Reply,
+    checked: Reply,
+    decoding: Case,
+    decoded: Reply,
+    /// The records of the row, where it is one.
+    table: ReadOnly,
+    values: Vec<Reply>,
+}
+
+const ANSWER: usize = 88;
+
+impl Question {
+    fn new(number: u64) -> Self {
+        let (_, case) = rows::random(&mut Rng::for_case(2, number));
+        let turn = Turn::new(number);
+        let slices = case.strings().map(|string| ReadOnly::new(string, turn.place()));
+        let read = Reply::expected(&plain_report(&case), ANSWER);
+        let checked = Reply::expected(&Report::of_checked(&validate_format(&tables(&case))), ANSWER);
+        let decoding = Room::EXACT.lend(Case { op: op::DECODE, ..case.clone() });
+        let (report, lent) = plain_decoded(&decoding, filled(decoding.lent()));
+        let records = if report.what == what::ROW { report.records as usize * RECORD_BYTES } else { 0 };
+        let table = &lent[0][..records];
+        let told = |index| Reply::expected(&Report::of_value(&value(table, index)), ANSWER);
+        let values = (0..=record_count(table)).take(MOST_RECORDS as usize).map(told).collect();
+        let table = ReadOnly::new(table, turn.place());
+        let decoded = Reply { lent: Some(lent), ..Reply::expected(&report, ANSWER) };
+        Self { case, slices, read, checked, decoding, decoded, table, values }
+    }
+
+    /// How many calls were made, or which is answered otherwise.
+    fn ask(&self, number: u64) -> Result<u64, &'static str> {
+        let slices = self.slices.each_ref().map(|slice| &**slice);
+        let given = Given { case: &self.case, slices, turn: Turn::new(number) };
+        if given.read(self.case.op, ANSWER) != self.read {
+            return Err(if self.case.op == op::RUN { "run" } else { "skip" });
+        }
+        let format = given.format();
+        if Reply::of(ANSWER, given.turn.place(), |answer| sys::check_format(&format, answer)) != self.checked
+        {
+            return Err("the check of the format");
+        }
+        let decoding = Given { case: &self.decoding, slices, turn: Turn::new(!number) };
+        if decoding.decode(ANSWER, &filled(self.decoding.lent())) != self.decoded {
+            return Err("decode");
+        }
+        for (index, wanted) in (0..).zip(&self.values) {
+            let place = given.turn.place();
+            if Reply::of(ANSWER, place, |answer| sys::value(&self.table, index, answer)) != *wanted {
+                return Err("the value of a record");
+            }
+        }
+        Ok(3 + self.values.len() as u64)
+    }
+}
+
+/// The cases of one round, by their numbers: both threads in step, or each going its own way.
+pub fn order(count: usize, round: usize, thread: usize) -> Vec<usize> {
+    let forth = 0..count;
+    match (round % 4, thread) {
+        (0, _) | (1, 0) => forth.collect(),
+        (1, _) => forth.rev().collect(),
+        (_, thread) => forth.map(|index| (index + thread * round) % count).collect(),
+    }
+}
+
+fn rounds(questions: &[Question], thread: usize, together: &Barrier) -> Result<u64, String> {
+    let mut calls = 0;
+    let mut wrong = Ok(());
+    for round in 0..ROUNDS {
+        together.wait();
+        for index in order(questions.len(), round, thread) {
+            let question = &questions[index];
+            let asked = || question.ask((round * questions.len() + index) as u64);
+            match trap::while_asked(&|| describe(&question.case), asked) {
+                Ok(more) => calls += more,
+                // The other thread waits for this one at the next round, so all rounds are gone through.
+                Err(call) if wrong.is_ok() => {
+                    wrong = Err(format!("two threads at once: {call}\n{}", describe(&question.case)));
+                }
+                Err(_) => {}
+            }
+        }
+    }
+    wrong.map(|()| calls)
+}
+
+/// How many calls were right, or the first that was not.
+pub fn check() -> Result<u64, String> {
+    let questions: Vec<Question> = (0..CASES).map(Question::new).collect();
+    let together = Barrier::new(2);
+    let (one, other) = thread::scope(|scope| {
+        let other = scope.spawn(|| rounds(&questions, 1, &together));
+        (rounds(&questions, 0, &together), other.join().expect("a thread ends"))
+    });
+    Ok(one? + other?)
+}
