@@ -3,6 +3,7 @@
 //! is compared in number and carried values, in what it accepts, and in a run's rows and bytes.
 
 mod rows;
+pub mod views;
 pub mod writing;
 
 pub use rows::node_charge;
@@ -19,6 +20,7 @@ use plain::value_table::{value, Said as Scalar};
 use crate::case::{op, Answer, Case};
 use crate::judge::lone_block;
 use crate::writing::WriteCase;
+use views::View;
 use writing::Wrote;
 
 /// The original's types in document 01's code order.
@@ -49,8 +51,8 @@ fn code(wire_type: WireType) -> u64 {
     TYPES.iter().position(|known| *known == wire_type).expect("all twenty are listed") as u64
 }
 
-/// Number and carried values; the table of a row; a run's rows and bytes; what a decoded row is, and each value
-/// in it; what was written of a value, and where it has to stand.
+/// Number and carried values; the table of a row; a run's rows and bytes; what a decoded row is, each value in it
+/// and each node; what was written of a value, and where it has to stand.
 #[derive(Debug, Clone, PartialEq, Eq)]
 pub struct Said {
     pub number: u64,
@@ -59,12 +61,22 @@ pub struct Said {
     pub run: Option<[u64; 2]>,
     pub row: Option<ValueTable>,
     pub scalars: Vec<Scalar>,
+    pub views: Vec<View>,
     pub wrote: Option<(u64, Vec<u8>)>,
 }
 
 impl Said {
+    /// The plain reading's value query tells just these values, record by record, and its row view these nodes.
+    fn is_told(&self, row: &ValueTable) -> bool {
+        let told = (0..record_count(&row.records)).map(|index| value(&row.records, index));
+        told.eq(self.scalars.iter().map(|scalar| Ok(*scalar)))
+            && self.views.len() == self.scalars.len()
+            && views::are_told(&self.views, &row.records)
+    }
+
     fn new(number: u64, values: [u64; 3]) -> Self {
-        Self { number, table: None, values, run: None, row: None, scalars: Vec::new(), wrote: None }
+        let (scalars, views) = (Vec::new(), Vec::new());
+        Self { number, table: None, values, run: None, row: None, scalars, views, wrote: None }
     }
 
     fn accepted() -> Self {
@@ -85,7 +97,7 @@ impl Said {
                     && self.table.is_none_or(|table| table == answer.place)
                     && self.values == answer.values
                     && self.run == answer.run
-                    && row.as_ref().is_none_or(|row| stands_in(row, answer) && are_told(&self.scalars, row))
+                    && row.as_ref().is_none_or(|row| stands_in(row, answer) && self.is_told(row))
                     && self.wrote.as_ref().is_none_or(|(at, bytes)| stands_at(*at, bytes, answer))
             }
         }
@@ -98,12 +110,6 @@ fn stands_in(row: &ValueTable, answer: &Answer) -> bool {
         records.starts_with(&row.records) && payload.starts_with(&row.payload)
     };
     answer.lent.as_ref().is_some_and(begins)
-}
-
-/// The plain reading's value query tells just these values, record by record.
-fn are_told(scalars: &[Scalar], row: &ValueTable) -> bool {
-    let told = (0..record_count(&row.records)).map(|index| value(&row.records, index));
-    told.eq(scalars.iter().map(|scalar| Ok(*scalar)))
 }
 
 /// The output has what was written where it has to stand.

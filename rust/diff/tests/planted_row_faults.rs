@@ -169,7 +169,19 @@ fn slices_that_there_is_no_room_for() {
 
 #[test]
 fn a_value_without_its_sign() {
-    found("value_loses_its_sign", ONE_COLUMN + 40, &["THE VALUE OF A RECORD IS ANSWERED OTHERWISE"]);
+    found("value_loses_its_sign", ONE_COLUMN + 40, &[VALUE]);
+}
+
+const VALUE: &str = "THE VALUE OF A RECORD, OR WHAT THE ROW VIEW TELLS OF IT, IS ANSWERED OTHERWISE";
+
+/// A tuple whose first field has something below it, and a tag that does not fit in a byte.
+#[test]
+fn a_row_that_is_seen_otherwise() {
+    found("field_counts_a_grandchild", ONE_COLUMN + 100, &[VALUE, "decode the row"]);
+    found("after_is_the_next_record", ONE_COLUMN + 10, &[VALUE, "decode the row"]);
+    let (code, text) = run("tag_is_cut_to_8_bits", "1000");
+    assert_eq!(code, Some(1), "{text}");
+    assert!(text.contains(VALUE), "{text}");
 }
 
 #[test]

@@ -13,7 +13,7 @@ use diff::trap;
 const USAGE: &str = "\
 usage: row-diff [--count N] [--seed N] [--save FILE] [--only PART]
   puts N cases (5,000,000 by default) to skiff_skip and skiff_run, more than N to skiff_decode, and every record
-  that was decoded to skiff_value, and compares the number returned and every byte of the answer slice and of the
+  that was decoded to skiff_value and the row view, and compares the number returned and every byte of the answer slice and of the
   slices lent. --save writes the smallest differing case found, for schema-diff show. The parts are made one after
   the other, or one alone: cases, threads (two that ask at once), rows (some million of them), huge (slices)";
 
@@ -145,7 +145,7 @@ fn report(options: &Options, asked: Asked) -> Result<(), String> {
         println!("  THE CHECK OF THE FORMAT IS ANSWERED OTHERWISE");
     }
     if verdict.queried.is_none() {
-        println!("  THE VALUE OF A RECORD IS ANSWERED OTHERWISE");
+        println!("  THE VALUE OF A RECORD, OR WHAT THE ROW VIEW TELLS OF IT, IS ANSWERED OTHERWISE");
     }
     if !verdict.stayed {
         println!("  A CALL WRITES TO A SLICE THAT IT WAS TO READ");

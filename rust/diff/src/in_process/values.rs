@@ -1,14 +1,16 @@
-//! The value query: of each record of a decoded row, and of the same table damaged.
+//! The value query and the row view: of each record of a decoded row, and of the same table damaged.
 
 use std::fmt;
 
 use plain::report::Report;
 use plain::tables::{record_count, RECORD_BYTES};
-use plain::value_table::value;
+use plain::value_table::{value, value_record};
+use plain::view::{self, Viewed};
 use skiff::sys;
 
 use super::unanswered;
 use crate::fence::{Held, Turn};
+use crate::original::views::asked_fields;
 use crate::rng::Rng;
 
 /// What was asked: the rows, their records, those of them damaged, and how many of these were refused.
@@ -20,6 +22,10 @@ pub struct Queried {
     pub refused: u64,
     /// Records that are not there.
     pub absent: u64,
+    /// Of the row view: kinds, tags, child counts and records behind; fields; and how many of them all were refused.
+    pub viewed: u64,
+    pub fields: u64,
+    pub views_refused: u64,
 }
 
 impl Queried {
@@ -29,16 +35,20 @@ impl Queried {
         self.damaged += more.damaged;
         self.refused += more.refused;
         self.absent += more.absent;
+        self.viewed += more.viewed;
+        self.fields += more.fields;
+        self.views_refused += more.views_refused;
     }
 }
 
 impl fmt::Display for Queried {
     fn fmt(&self, out: &mut fmt::Formatter<'_>) -> fmt::Result {
-        let Queried { rows, records, damaged, refused, absent } = self;
+        let Queried { rows, records, damaged, refused, absent, viewed, fields, views_refused } = self;
         write!(
             out,
             "value: {records} records of {rows} decoded rows, {damaged} of damaged tables ({refused} refused), \
-             {absent} that are not there,"
+             {absent} that are not there, view of the same records: {viewed} kinds, tags, child counts and records \
+             behind, {fields} fields ({views_refused} of all these refused),"
         )
     }
 }
@@ -75,6 +85,40 @@ impl Asker {
         let wanted = value(&self.records, index);
         let report = Report::of_value(&wanted);
         self.is(&report, |records, answer| sys::value(records, index, answer)).then_some(wanted.is_ok())
+    }
+
+    /// One call of the row view, if it answers this: whether a number was told.
+    fn seen(&mut self, wanted: &Viewed, call: impl FnOnce(&[u8], &mut [u8]) -> u32) -> Option<bool> {
+        self.is(&Report::of_viewed(wanted), call).then_some(wanted.is_ok())
+    }
+
+    /// All that the row view is asked about a record, if the answers are what the plain reading says; how many of
+    /// them there were, and of these refused.
+    fn viewed(&mut self, index: u64, queried: &mut Queried) -> Option<()> {
+        type Rule = fn(&[u8], u64) -> Viewed;
+        type Getter = fn(&[u8], u64, &mut [u8]) -> u32;
+        const GETTERS: [(Rule, Getter); 4] = [
+            (view::kind, sys::kind),
+            (view::tag, sys::tag),
+            (view::child_count, sys::child_count),
+            (view::after, sys::after),
+        ];
+        for (rule, getter) in GETTERS {
+            let wanted = rule(&self.records, index);
+            let told = self.seen(&wanted, |records, answer| getter(records, index, answer))?;
+            queried.viewed += 1;
+            queried.views_refused += u64::from(!told);
+        }
+        // A record that is not there has no fields, and neither has one that is no tuple: both are asked for one.
+        let there = index < record_count(&self.records);
+        let record = there.then(|| value_record(&self.records, index)).filter(|record| record.kind == 17);
+        for asked in asked_fields(index % (1 << 32), record.map_or(0, |record| record.size)) {
+            let wanted = view::field(&self.records, index, asked);
+            let told = self.seen(&wanted, |records, answer| sys::field(records, index, asked, answer))?;
+            queried.fields += 1;
+            queried.views_refused += u64::from(!told);
+        }
+        Some(())
     }
 }
 
@@ -115,13 +159,19 @@ pub fn ask(records: &[u8], answer_size: usize, turn: &Turn) -> Option<Queried> {
         if !whole.told(index)? {
             return None;
         }
+        whole.viewed(index, &mut queried)?;
         queried.records += 1;
     }
     let table = damaged(records);
     let mut damaged = Asker::new(&table, answer_size, turn);
     for index in 0..record_count(&table) {
         queried.refused += u64::from(!damaged.told(index)?);
+        damaged.viewed(index, &mut queried)?;
         queried.damaged += 1;
+    }
+    for index in [count, count + (1 << 32)] {
+        whole.viewed(index, &mut queried)?;
+        damaged.viewed(index, &mut queried)?;
     }
     let absent = [whole.told(count)?, damaged.told(count)?, whole.told(count + (1 << 32))?];
     if absent.contains(&true) || *whole.records != *records || *damaged.records != *table {
@@ -134,6 +184,7 @@ pub fn ask(records: &[u8], answer_size: usize, turn: &Turn) -> Option<Queried> {
 /// Some queries with too short a slice for their answers, which nothing is written to.
 pub fn ask_in_vain(records: &[u8], answer_size: usize, turn: &Turn) -> Option<Queried> {
     let mut whole = Asker::new(records, answer_size, turn);
-    let told = (0..=record_count(records)).take(4).all(|index| whole.told(index).is_some());
-    told.then(Queried::default)
+    let queried = &mut Queried::default();
+    let mut told = |index| whole.told(index).is_some() && whole.viewed(index, queried).is_some();
+    (0..=record_count(records)).take(4).all(&mut told).then(Queried::default)
 }

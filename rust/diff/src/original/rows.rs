@@ -11,7 +11,7 @@ use plain::decoding::ValueTable;
 use plain::value_table::{case as told, Said as Scalar};
 use plain::wire_type::NAMES;
 
-use super::{code, format, refused, Said};
+use super::{code, format, refused, views, Said};
 use crate::case::{op, Answer, Case};
 
 /// What the original charges for a node.
@@ -140,7 +140,9 @@ pub fn decode(case: &Case, plain: &Answer) -> Option<Said> {
             let values = [bytes, flat.records.len() / 16, flat.payload.len()].map(|value| value as u64);
             let mut scalars = Vec::new();
             tell(&row, &mut 0, &mut scalars);
-            Said { table: Some(table as u64), row: Some(flat), scalars, ..Said::new(0, values) }
+            let mut views = Vec::new();
+            views::add(&row, 0, &mut views);
+            Said { table: Some(table as u64), row: Some(flat), scalars, views, ..Said::new(0, values) }
         }
         Err(error) => row_refused(case, error),
     })
