@@ -67,7 +67,7 @@ impl Rows {
 
 /// What the library has to answer to a run, and whether it does.
 fn is_right(case: &Case, rows: u64) -> Result<(), String> {
-    let said = original::ask_rows(case).expect("these are rows that it knows");
+    let said = original::ask(case).expect("these are rows that it knows");
     let [said_rows, bytes] = said.run.expect("it was asked for a run");
     let mut report = Report { what: what::END, rows: said_rows, bytes, ..Report::default() };
     if said.number != 0 {

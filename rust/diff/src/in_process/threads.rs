@@ -8,6 +8,7 @@ use plain::format::validate_format;
 use plain::report::{what, Report};
 use plain::tables::{record_count, RECORD_BYTES};
 use plain::value_table::value;
+use plain::view::{self, Viewed};
 use skiff::sys;
 
 use super::decoding::filled;
@@ -26,7 +27,7 @@ const CASES: u64 = 3_000;
 const ROUNDS: usize = 12;
 
 /// Of a decoded row so many records are asked for.
-const MOST_RECORDS: u64 = 40;
+const MOST_RECORDS: usize = 40;
 
 /// A case, its slices, and what the calls about it have to leave.
 struct Question {
@@ -38,7 +39,26 @@ struct Question {
     decoded: Reply,
     /// The records of the row, where it is one.
     table: ReadOnly,
-    values: Vec<Reply>,
+    /// What each of the calls about a record has to leave.
+    told: Vec<[Reply; 6]>,
+}
+
+/// The calls about one record, and what the plain reading has them write.
+const CALLS: [fn(&[u8], u64, &mut [u8]) -> u32; 6] =
+    [sys::value, sys::kind, sys::tag, sys::child_count, sys::after, |records, index, answer| {
+        sys::field(records, index, 0, answer)
+    }];
+
+fn reports(table: &[u8], index: u64) -> [Report; 6] {
+    let viewed = |getter: fn(&[u8], u64) -> Viewed| Report::of_viewed(&getter(table, index));
+    [
+        Report::of_value(&value(table, index)),
+        viewed(view::kind),
+        viewed(view::tag),
+        viewed(view::child_count),
+        viewed(view::after),
+        viewed(|table, index| view::field(table, index, 0)),
+    ]
 }
 
 const ANSWER: usize = 88;
@@ -54,11 +74,11 @@ impl Question {
         let (report, lent) = plain_decoded(&decoding, filled(decoding.lent()));
         let records = if report.what == what::ROW { report.records as usize * RECORD_BYTES } else { 0 };
         let table = &lent[0][..records];
-        let told = |index| Reply::expected(&Report::of_value(&value(table, index)), ANSWER);
-        let values = (0..=record_count(table)).take(MOST_RECORDS as usize).map(told).collect();
+        let told = |index| reports(table, index).map(|report| Reply::expected(&report, ANSWER));
+        let told = (0..=record_count(table)).take(MOST_RECORDS).map(told).collect();
         let table = ReadOnly::new(table, turn.place());
         let decoded = Reply { lent: Some(lent), ..Reply::expected(&report, ANSWER) };
-        Self { case, slices, read, checked, decoding, decoded, table, values }
+        Self { case, slices, read, checked, decoding, decoded, table, told }
     }
 
     /// How many calls were made, or which is answered otherwise.
@@ -77,13 +97,15 @@ impl Question {
         if decoding.decode(ANSWER, &filled(self.decoding.lent())) != self.decoded {
             return Err("decode");
         }
-        for (index, wanted) in (0..).zip(&self.values) {
-            let place = given.turn.place();
-            if Reply::of(ANSWER, place, |answer| sys::value(&self.table, index, answer)) != *wanted {
-                return Err("the value of a record");
+        for (index, wanted) in (0..).zip(&self.told) {
+            for (call, wanted) in CALLS.iter().zip(wanted) {
+                let place = given.turn.place();
+                if Reply::of(ANSWER, place, |answer| call(&self.table, index, answer)) != *wanted {
+                    return Err("the value of a record, or what the row view tells of it");
+                }
             }
         }
-        Ok(3 + self.values.len() as u64)
+        Ok((3 + CALLS.len() * self.told.len()) as u64)
     }
 }
 
