@@ -6,6 +6,8 @@
 #[cfg(feature = "double")]
 extern crate double as _;
 
+#[cfg(feature = "library")]
+pub mod at_once;
 pub mod bench;
 pub mod case;
 pub mod compare;

@@ -164,7 +164,7 @@ fn slices_that_there_is_no_room_for() {
     let limited = format!("ulimit -v 4000000; exec {} --only huge", env!("CARGO_BIN_EXE_row-diff"));
     let output = Command::new("sh").args(["-c", &limited]).output().expect("a shell runs");
     assert_eq!(output.status.code(), Some(2));
-    assert!(String::from_utf8_lossy(&output.stderr).contains("were not tried"));
+    assert!(String::from_utf8_lossy(&output.stderr).contains("huge could not be tried"));
 }
 
 #[test]

@@ -13,12 +13,24 @@ use diff::trap;
 const USAGE: &str = "\
 usage: row-diff [--count N] [--seed N] [--save FILE] [--only PART]
   puts N cases (5,000,000 by default) to skiff_skip and skiff_run, more than N to skiff_decode, and every record
-  that was decoded to skiff_value and the row view, and compares the number returned and every byte of the answer slice and of the
-  slices lent. --save writes the smallest differing case found, for schema-diff show. The parts are made one after
-  the other, or one alone: cases, threads (two that ask at once), rows (some million of them), huge (slices)";
+  that was decoded to skiff_value and the row view, and compares the number returned and every byte of the answer
+  slice and of the slices lent. --save writes the smallest differing case found, for schema-diff show. The parts
+  are made one after the other, or one alone: cases, threads (two that ask at once), rows (some million of them),
+  huge (slices)";
 
-/// The parts of a run, in turn.
-const PARTS: [&str; 4] = ["cases", "threads", "rows", "huge"];
+/// A part of a run that is no stream of cases: how many of what were right, or what is wrong; none where it could not
+/// be tried.
+struct Part {
+    name: &'static str,
+    words: &'static str,
+    check: fn() -> Option<Result<u64, String>>,
+}
+
+const AFTER_THE_CASES: [Part; 3] = [
+    Part { name: "threads", words: "calls by two threads at once", check: || Some(threads::check()) },
+    Part { name: "rows", words: "rows run over in streams of some million", check: || Some(long::check()) },
+    Part { name: "huge", words: "calls with slices of 4,294,967,295 bytes and one more", check: huge::check },
+];
 
 struct Options {
     count: u64,
@@ -43,7 +55,9 @@ fn options() -> Result<Options, String> {
             "--count" => options.count = number()?,
             "--seed" => options.seed = number()?,
             "--save" => options.save = Some(value),
-            "--only" if PARTS.contains(&value.as_str()) => options.only = Some(value),
+            "--only" if value == "cases" || AFTER_THE_CASES.iter().any(|part| part.name == value) => {
+                options.only = Some(value);
+            }
             _ => return Err(USAGE.to_owned()),
         }
     }
@@ -73,23 +87,8 @@ fn compare(options: &Options) -> Result<ExitCode, String> {
             None => return Ok(ExitCode::from(1)),
         }
     }
-    for (part, check) in
-        [("threads", Some(threads::check as fn() -> _)), ("rows", Some(long::check)), ("huge", None)]
-    {
-        if !options.has(part) {
-            continue;
-        }
-        let no_room = "slices over 4,294,967,295 bytes were not tried: there is no room for one";
-        let checked = match check {
-            Some(check) => check(),
-            None => huge::check().ok_or(no_room)?,
-        };
-        let words = match part {
-            "threads" => "calls by two threads at once",
-            "rows" => "rows run over in streams of some million",
-            _ => "calls with slices of 4,294,967,295 bytes and one more",
-        };
-        match checked {
+    for Part { name, words, check } in AFTER_THE_CASES.iter().filter(|part| options.has(part.name)) {
+        match check().ok_or_else(|| format!("{name} could not be tried: there is no room for such slices"))? {
             Ok(count) => println!("{count} {words}: right"),
             Err(message) => {
                 println!("DIFFERENCE: {message}");

@@ -1,8 +1,5 @@
-//! Two threads that ask at once: the slices that are read are shared, and can't be written while they are; each
-//! thread has its own for what is written. First both ask the same, then each something else.
-
-use std::sync::Barrier;
-use std::thread;
+//! Two threads that read at once: the slices that are read are shared, and can't be written while they are; each
+//! thread has its own for what is written.
 
 use plain::format::validate_format;
 use plain::report::{what, Report};
@@ -13,6 +10,7 @@ use skiff::sys;
 
 use super::decoding::filled;
 use super::{Given, Reply};
+use crate::at_once::by_two_threads;
 use crate::case::{op, Case};
 use crate::fence::{ReadOnly, Turn};
 use crate::generate::rows;
@@ -22,9 +20,8 @@ use crate::room::Room;
 use crate::show::describe;
 use crate::trap;
 
-/// So many cases, each of which is asked so often by each thread.
+/// So many cases are drawn.
 const CASES: u64 = 3_000;
-const ROUNDS: usize = 12;
 
 /// Of a decoded row so many records are asked for.
 const MOST_RECORDS: usize = 40;
@@ -109,44 +106,11 @@ impl Question {
     }
 }
 
-/// The cases of one round, by their numbers: both threads in step, or each going its own way.
-pub fn order(count: usize, round: usize, thread: usize) -> Vec<usize> {
-    let forth = 0..count;
-    match (round % 4, thread) {
-        (0, _) | (1, 0) => forth.collect(),
-        (1, _) => forth.rev().collect(),
-        (_, thread) => forth.map(|index| (index + thread * round) % count).collect(),
-    }
-}
-
-fn rounds(questions: &[Question], thread: usize, together: &Barrier) -> Result<u64, String> {
-    let mut calls = 0;
-    let mut wrong = Ok(());
-    for round in 0..ROUNDS {
-        together.wait();
-        for index in order(questions.len(), round, thread) {
-            let question = &questions[index];
-            let asked = || question.ask((round * questions.len() + index) as u64);
-            match trap::while_asked(&|| describe(&question.case), asked) {
-                Ok(more) => calls += more,
-                // The other thread waits for this one at the next round, so all rounds are gone through.
-                Err(call) if wrong.is_ok() => {
-                    wrong = Err(format!("two threads at once: {call}\n{}", describe(&question.case)));
-                }
-                Err(_) => {}
-            }
-        }
-    }
-    wrong.map(|()| calls)
-}
-
 /// How many calls were right, or the first that was not.
 pub fn check() -> Result<u64, String> {
     let questions: Vec<Question> = (0..CASES).map(Question::new).collect();
-    let together = Barrier::new(2);
-    let (one, other) = thread::scope(|scope| {
-        let other = scope.spawn(|| rounds(&questions, 1, &together));
-        (rounds(&questions, 0, &together), other.join().expect("a thread ends"))
-    });
-    Ok(one? + other?)
+    by_two_threads(&questions, |question, number| {
+        let told = || describe(&question.case);
+        trap::while_asked(&told, || question.ask(number)).map_err(|call| format!("{call}\n{}", told()))
+    })
 }

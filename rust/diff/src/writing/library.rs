@@ -177,9 +177,10 @@ fn read_back(case: &WriteCase, row: &Row, number: u64) -> Result<(), String> {
     Report::of_encoded(&Ok(*row)).write_to(&mut wanted);
     for bytes in [&canonical.bytes, &round_trip::loosened(&canonical, number as u8)] {
         let stream = round_trip::stream(case, bytes, number as usize % 5, number as usize % 3);
-        let [references, input] = [&stream.references, &stream.input].map(|slice| turn.hold(slice));
+        let given: [&[u8]; 3] = [&stream.references, &[], &stream.input];
+        let [references, registry, input] = given.map(|slice| turn.hold(slice));
         let format =
-            Format { records: &schema_records, names: &names, references: &references, registry: &[] };
+            Format { records: &schema_records, names: &names, references: &references, registry: &registry };
         let settings = numbers(stream.settings);
         let lent = [case.value.records.len(), case.value.payload.len()];
         let [mut records, mut payload] = lent.map(|bytes| turn.hold(&vec![0xA5; bytes]));

@@ -1,8 +1,5 @@
 //! Two threads that write at once: the slices that are read are shared, and can't be written while they are; each
-//! thread has its own for output and answer. First both ask the same, then each something else.
-
-use std::sync::Barrier;
-use std::thread;
+//! thread has its own for output and answer.
 
 use plain::answer::Refusal;
 use plain::reading::Row;
@@ -11,15 +8,14 @@ use plain::tables::record_count;
 use super::library::{answers, slices, Given};
 use super::run::calls;
 use super::{describe, plain_encoded, WriteCase};
+use crate::at_once::by_two_threads;
 use crate::fence::{ReadOnly, Turn};
 use crate::generate::writes;
-use crate::in_process::threads::order;
 use crate::rng::Rng;
 use crate::trap;
 
-/// So many cases are drawn, and each thread asks about all of them so often.
+/// So many cases are drawn.
 const CASES: u64 = 1_000;
-const ROUNDS: usize = 8;
 
 struct Question {
     case: WriteCase,
@@ -45,35 +41,12 @@ impl Question {
     }
 }
 
-fn rounds(questions: &[Question], thread: usize, together: &Barrier) -> Result<u64, String> {
-    let mut calls = 0;
-    let mut wrong = Ok(());
-    for round in 0..ROUNDS {
-        together.wait();
-        for index in order(questions.len(), round, thread) {
-            let question = &questions[index];
-            let asked = || question.ask((round * questions.len() + index) as u64);
-            match trap::while_asked(&|| describe(&question.case), asked) {
-                Ok(more) => calls += more,
-                // The other thread waits for this one at the next round, so all rounds are gone through.
-                Err(why) if wrong.is_ok() => {
-                    wrong = Err(format!("two threads at once: {why}\n{}", describe(&question.case)));
-                }
-                Err(_) => {}
-            }
-        }
-    }
-    wrong.map(|()| calls)
-}
-
 /// How many calls were right, or the first that was not.
 pub fn check() -> Result<u64, String> {
     let drawn = (0..CASES).flat_map(|number| calls(writes::random(&mut Rng::for_case(2, number)).1, number));
     let questions: Vec<Question> = drawn.zip(0..).map(|(case, number)| Question::new(case, number)).collect();
-    let together = Barrier::new(2);
-    let (one, other) = thread::scope(|scope| {
-        let other = scope.spawn(|| rounds(&questions, 1, &together));
-        (rounds(&questions, 0, &together), other.join().expect("a thread ends"))
-    });
-    Ok(one? + other?)
+    by_two_threads(&questions, |question, number| {
+        let told = || describe(&question.case);
+        trap::while_asked(&told, || question.ask(number)).map_err(|why| format!("{why}\n{}", told()))
+    })
 }
