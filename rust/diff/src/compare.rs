@@ -5,10 +5,11 @@ use std::fmt;
 use std::io;
 
 use plain::answer::number::TRUNCATED;
+use plain::format::validate_format;
 
 use crate::case::{Answer, Case};
 use crate::generate::{self, Kind};
-use crate::judge::plain_answer;
+use crate::judge::{checked, plain_answer, tables};
 use crate::original::{self, Said};
 use crate::program::Program;
 use crate::rng::Rng;
@@ -21,8 +22,12 @@ const BATCH_CASES: usize = 20_000;
 #[derive(Debug, Clone)]
 pub struct Expected {
     pub plain: Answer,
+    /// A refusal that the original does not know and that the case calls for.
+    pub unknown: Option<u64>,
     /// None outside the original's domain.
     pub original: Option<Said>,
+    /// Where it can't be asked about the row: what the plain reading and the original say of the format.
+    pub format: Option<(Answer, Said)>,
 }
 
 impl Expected {
@@ -32,13 +37,21 @@ impl Expected {
 
     /// Where the plain reading's answer is at hand.
     pub fn with(case: &Case, plain: Answer) -> Self {
-        let original = original::ask(case, &plain);
-        Self { plain, original }
+        let original = original::ask(case);
+        let of_format = || Some((checked(validate_format(&tables(case))), original::ask_format(case)?));
+        let format = if case.reads() && original.is_none() { of_format() } else { None };
+        Self { plain, unknown: original::laid::refusal(case), original, format }
     }
 
-    /// The readings agree with each other.
+    /// The readings agree with each other, and the plain one refuses for what the original does not know just where
+    /// it has to.
     pub fn is_one(&self) -> bool {
-        self.original.as_ref().is_none_or(|said| said.agrees_with(&self.plain))
+        let number = self.plain.number;
+        let known = self.unknown.map_or(![1, 2, 3].contains(&number), |unknown| unknown == number);
+        let agree = |(plain, said): &(Answer, Said)| said.agrees_with(plain);
+        known
+            && self.original.as_ref().is_none_or(|said| said.agrees_with(&self.plain))
+            && self.format.as_ref().is_none_or(agree)
     }
 
     /// The program's line is exactly the plain reading's, and the original has nothing against it.
@@ -52,6 +65,8 @@ impl Expected {
 pub struct Tally {
     pub cases: u64,
     pub with_original: u64,
+    /// Of the others, those whose format it was asked about.
+    pub with_format: u64,
     pub kinds: BTreeMap<Kind, u64>,
     pub numbers: BTreeMap<u64, u64>,
     /// What cut streams were cut in.
@@ -62,6 +77,7 @@ impl Tally {
     pub fn add(&mut self, kind: Kind, expected: &Expected) {
         self.cases += 1;
         self.with_original += u64::from(expected.original.is_some());
+        self.with_format += u64::from(expected.format.is_some());
         *self.kinds.entry(kind).or_default() += 1;
         *self.numbers.entry(expected.plain.number).or_default() += 1;
         if expected.plain.number == TRUNCATED {
@@ -72,7 +88,11 @@ impl Tally {
 
 impl fmt::Display for Tally {
     fn fmt(&self, formatter: &mut fmt::Formatter<'_>) -> fmt::Result {
-        write!(formatter, "{} cases ({} also by the original); by kind:", self.cases, self.with_original)?;
+        write!(formatter, "{} cases ({} also by the original", self.cases, self.with_original)?;
+        if self.with_format > 0 {
+            write!(formatter, ", of {} more the format", self.with_format)?;
+        }
+        write!(formatter, "); by kind:")?;
         for (kind, count) in &self.kinds {
             write!(formatter, " {kind} {count},")?;
         }
@@ -189,4 +209,34 @@ pub fn run(program: &Program, seed: u64, count: u64) -> Result<Tally, Stop> {
     }
     run.finish_batch()?;
     Ok(run.tally)
+}
+
+#[cfg(test)]
+mod tests {
+    use super::*;
+    use crate::case::op;
+    use crate::generate::rows::edges::{schema_a, FULL};
+    use crate::generate::rows::usual;
+    use crate::plan::{inline, lay_out};
+    use plain::settings::Settings;
+
+    /// Were the plain reading to refuse a good format as the library might, it would stand alone: the original is
+    /// asked all the same.
+    #[test]
+    fn a_refusal_that_both_readings_share_is_seen() {
+        let mut case = Case { op: op::SKIP, input: FULL.to_vec(), ..Case::default() }.with_settings(usual());
+        let block = lay_out(&schema_a(), &mut case.records, &mut case.names);
+        case.references.extend(inline(block));
+        let dear = Settings { node_charge: 1, ..usual() };
+        for settings in [usual(), dear] {
+            for op in [op::SKIP, op::RUN, op::DECODE, op::FORMAT] {
+                let case = Case { op, ..case.clone() }.with_settings(settings);
+                assert!(Expected::of(&case).is_one());
+                for number in [1, 2, 3] {
+                    let refused = Answer { number, ..Answer::default() };
+                    assert!(!Expected::with(&case, refused).is_one(), "{op} {number}");
+                }
+            }
+        }
+    }
 }

@@ -6,9 +6,13 @@
 #[cfg(feature = "double")]
 extern crate double as _;
 
+#[cfg(feature = "library")]
+pub mod at_once;
 pub mod bench;
 pub mod case;
 pub mod compare;
+#[cfg(feature = "library")]
+pub mod fence;
 pub mod generate;
 #[cfg(feature = "library")]
 pub mod in_process;
@@ -22,4 +26,6 @@ pub mod rng;
 pub mod room;
 pub mod show;
 pub mod shrink;
+#[cfg(feature = "library")]
+pub mod trap;
 pub mod writing;

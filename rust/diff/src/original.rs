@@ -1,8 +1,11 @@
-//! What the original answers to a case, on demand 2's domain: calls that are not answered 1, 2 or 3,
-//! with UTF-8 names and, where rows are read, its own node charge. The original knows no places, so it
+//! What the original answers to a case, on demand 2's domain: calls that are not to be answered 1, 2 or 3,
+//! with UTF-8 names and, where rows are read, its own node charge. Which those are is told by [`laid`], never by the
+//! plain reading. The original knows no places, so it
 //! is compared in number and carried values, in what it accepts, and in a run's rows and bytes.
 
+pub mod laid;
 mod rows;
+pub mod views;
 pub mod writing;
 
 pub use rows::node_charge;
@@ -11,7 +14,7 @@ use std::collections::BTreeMap;
 use std::fmt;
 
 use oracle::{CodecError, Encoder, Format, Schema, SchemaError, SchemaRef, WireType};
-use plain::answer::number::{BAD_VALUE_TABLE, NO_NODE_ROOM, NO_OUTPUT_ROOM, NO_PAYLOAD_ROOM};
+use plain::answer::number::{NO_NODE_ROOM, NO_OUTPUT_ROOM, NO_PAYLOAD_ROOM};
 use plain::decoding::ValueTable;
 use plain::tables::{entries, record_count, references, schema_record, Block, Reference, Span};
 use plain::value_table::{value, Said as Scalar};
@@ -19,6 +22,7 @@ use plain::value_table::{value, Said as Scalar};
 use crate::case::{op, Answer, Case};
 use crate::judge::lone_block;
 use crate::writing::WriteCase;
+use views::View;
 use writing::Wrote;
 
 /// The original's types in document 01's code order.
@@ -49,8 +53,8 @@ fn code(wire_type: WireType) -> u64 {
     TYPES.iter().position(|known| *known == wire_type).expect("all twenty are listed") as u64
 }
 
-/// Number and carried values; the table of a row; a run's rows and bytes; what a decoded row is, and each value
-/// in it; what was written of a value, and where it has to stand.
+/// Number and carried values; the table of a row; a run's rows and bytes; what a decoded row is, each value in it
+/// and each node; what was written of a value, and where it has to stand.
 #[derive(Debug, Clone, PartialEq, Eq)]
 pub struct Said {
     pub number: u64,
@@ -59,12 +63,22 @@ pub struct Said {
     pub run: Option<[u64; 2]>,
     pub row: Option<ValueTable>,
     pub scalars: Vec<Scalar>,
+    pub views: Vec<View>,
     pub wrote: Option<(u64, Vec<u8>)>,
 }
 
 impl Said {
+    /// The plain reading's value query tells just these values, record by record, and its row view these nodes.
+    fn is_told(&self, row: &ValueTable) -> bool {
+        let told = (0..record_count(&row.records)).map(|index| value(&row.records, index));
+        told.eq(self.scalars.iter().map(|scalar| Ok(*scalar)))
+            && self.views.len() == self.scalars.len()
+            && views::are_told(&self.views, &row.records)
+    }
+
     fn new(number: u64, values: [u64; 3]) -> Self {
-        Self { number, table: None, values, run: None, row: None, scalars: Vec::new(), wrote: None }
+        let (scalars, views) = (Vec::new(), Vec::new());
+        Self { number, table: None, values, run: None, row: None, scalars, views, wrote: None }
     }
 
     fn accepted() -> Self {
@@ -85,7 +99,7 @@ impl Said {
                     && self.table.is_none_or(|table| table == answer.place)
                     && self.values == answer.values
                     && self.run == answer.run
-                    && row.as_ref().is_none_or(|row| stands_in(row, answer) && are_told(&self.scalars, row))
+                    && row.as_ref().is_none_or(|row| stands_in(row, answer) && self.is_told(row))
                     && self.wrote.as_ref().is_none_or(|(at, bytes)| stands_at(*at, bytes, answer))
             }
         }
@@ -98,12 +112,6 @@ fn stands_in(row: &ValueTable, answer: &Answer) -> bool {
         records.starts_with(&row.records) && payload.starts_with(&row.payload)
     };
     answer.lent.as_ref().is_some_and(begins)
-}
-
-/// The plain reading's value query tells just these values, record by record.
-fn are_told(scalars: &[Scalar], row: &ValueTable) -> bool {
-    let told = (0..record_count(&row.records)).map(|index| value(&row.records, index));
-    told.eq(scalars.iter().map(|scalar| Ok(*scalar)))
 }
 
 /// The output has what was written where it has to stand.
@@ -125,10 +133,9 @@ impl fmt::Display for Said {
     }
 }
 
-/// Asks the original; none outside its domain. `plain` tells whether the forms and depths are right,
-/// without which there are no trees to give it.
-pub fn ask(case: &Case, plain: &Answer) -> Option<Said> {
-    if (1..=3).contains(&plain.number) {
+/// Asks the original; none outside its domain.
+pub fn ask(case: &Case) -> Option<Said> {
+    if laid::refusal(case).is_some() {
         return None;
     }
     match case.op {
@@ -170,13 +177,20 @@ pub fn ask(case: &Case, plain: &Answer) -> Option<Said> {
             })
         }
         op::SKIP | op::RUN => rows::ask(case),
-        op::DECODE => rows::decode(case, plain),
-        // It has no value tables, and none is made of what is none.
+        op::DECODE => rows::decode(case),
+        // It has no value tables.
         op::CHECK_TABLE => None,
-        op::ENCODE if plain.number == BAD_VALUE_TABLE => None,
         op::ENCODE => writing::write(&WriteCase::of(case)).map(|wrote| said(case, wrote)),
         other => panic!("no such operation: {other}"),
     }
+}
+
+/// What it says of a case's format, whatever else the case is; none where that was laid out from no trees.
+pub fn ask_format(case: &Case) -> Option<Said> {
+    if laid::format_refusal(case).is_some() {
+        return None;
+    }
+    Some(format(case)?.map_or_else(|error| refused(case, error), |_| Said::accepted()))
 }
 
 fn said(case: &Case, wrote: Wrote) -> Said {
@@ -289,7 +303,7 @@ mod tests {
     fn a_decoded_row_is_compared_in_every_byte() {
         let case = decoding([64, 2]);
         let right = plain_answer(&case);
-        let said = ask(&case, &right).expect("it is in the domain");
+        let said = ask(&case).expect("it is in the domain");
         assert!(said.agrees_with(&right));
         for (slice, bytes) in [64, 2].into_iter().enumerate() {
             for at in 0..bytes {
@@ -317,7 +331,7 @@ mod tests {
         };
         let right = plain_answer(&case);
         assert_eq!(right.output.as_ref().map(|output| &output[3..13]), Some(&FULL[..]));
-        let said = ask(&case, &right).expect("it is in the domain");
+        let said = ask(&case).expect("it is in the domain");
         assert!(said.agrees_with(&right));
         for at in 3..13 {
             let mut wrong = right.clone();
@@ -334,7 +348,7 @@ mod tests {
         for lent in [[63, 2], [64, 1]] {
             let case = decoding(lent);
             let right = plain_answer(&case);
-            let said = ask(&case, &right).expect("it is in the domain");
+            let said = ask(&case).expect("it is in the domain");
             assert!([NO_NODE_ROOM, NO_PAYLOAD_ROOM].contains(&right.number) && said.agrees_with(&right));
             let [need, ..] = right.values;
             assert!(!said.agrees_with(&Answer { values: [need + 1, 0, 0], ..right }));

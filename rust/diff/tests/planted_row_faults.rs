@@ -7,8 +7,12 @@ use std::process::Command;
 
 /// The exit code and what was printed.
 fn run(fault: &str, count: &str) -> (Option<i32>, String) {
+    with_words(fault, &["--count", count, "--seed", "7"])
+}
+
+fn with_words(fault: &str, words: &[&str]) -> (Option<i32>, String) {
     let output = Command::new(env!("CARGO_BIN_EXE_row-diff"))
-        .args(["--count", count, "--seed", "7"])
+        .args(words)
         .env("DOUBLE_FAULT", fault)
         .output()
         .expect("row-diff runs");
@@ -122,9 +126,62 @@ fn what_decoding_leaves_in_the_slices() {
     found("decodes_with_a_short_answer", ONE_COLUMN + 48, &["library:  returned 1, answer slice"]);
 }
 
+/// Both are stopped by a page that can't be read, and told as differences.
+#[test]
+fn a_byte_beside_a_slice() {
+    for fault in ["reads_one_byte_past", "reads_one_byte_before"] {
+        let (code, text) = run(fault, "1000");
+        assert_eq!(code, Some(1), "{fault}: {text}");
+        assert!(text.contains("DIFFERENCE: a call reads or writes outside of the slices"), "{fault}: {text}");
+        assert!(text.contains("the row at 0") || text.contains("run over"), "{fault}: {text}");
+    }
+}
+
+/// What no case is long enough for, and what a single thread never shows.
+#[test]
+fn many_rows_and_two_threads() {
+    let (code, text) = with_words("miscounts_after_100000_rows", &["--only", "rows"]);
+    assert_eq!(code, Some(1), "{text}");
+    let told = "DIFFERENCE: a run over 3000000 rows of the client's schema, which end well";
+    assert!(text.contains(told) && text.contains("rows 3000001"), "{text}");
+
+    let (code, text) = with_words("keeps_state_between_calls", &["--only", "threads"]);
+    assert_eq!(code, Some(1), "{text}");
+    assert!(text.contains("DIFFERENCE: two threads at once: "), "{text}");
+}
+
+/// A search that one byte counts for. All but the registry goes; that has to stay too long for it.
+#[test]
+fn a_registry_that_is_searched_in_part() {
+    let (code, text) = run("registry_searched_up_to_255", "1000");
+    assert_eq!(code, Some(1), "{text}");
+    assert!(text.contains("DIFFERENCE in a case of ") && text.contains("registry: 2"), "{text}");
+}
+
+/// Where there is no room for slices of 4,294,967,296 bytes the run has not done what it should have.
+#[test]
+fn slices_that_there_is_no_room_for() {
+    let limited = format!("ulimit -v 4000000; exec {} --only huge", env!("CARGO_BIN_EXE_row-diff"));
+    let output = Command::new("sh").args(["-c", &limited]).output().expect("a shell runs");
+    assert_eq!(output.status.code(), Some(2));
+    assert!(String::from_utf8_lossy(&output.stderr).contains("huge could not be tried"));
+}
+
 #[test]
 fn a_value_without_its_sign() {
-    found("value_loses_its_sign", ONE_COLUMN + 40, &["THE VALUE OF A RECORD IS ANSWERED OTHERWISE"]);
+    found("value_loses_its_sign", ONE_COLUMN + 40, &[VALUE]);
+}
+
+const VALUE: &str = "THE VALUE OF A RECORD, OR WHAT THE ROW VIEW TELLS OF IT, IS ANSWERED OTHERWISE";
+
+/// A tuple whose first field has something below it, and a tag that does not fit in a byte.
+#[test]
+fn a_row_that_is_seen_otherwise() {
+    found("field_counts_a_grandchild", ONE_COLUMN + 100, &[VALUE, "decode the row"]);
+    found("after_is_the_next_record", ONE_COLUMN + 10, &[VALUE, "decode the row"]);
+    let (code, text) = run("tag_is_cut_to_8_bits", "1000");
+    assert_eq!(code, Some(1), "{text}");
+    assert!(text.contains(VALUE), "{text}");
 }
 
 #[test]

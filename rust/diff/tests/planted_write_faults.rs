@@ -22,6 +22,23 @@ fn a_right_library_passes_and_all_is_met() {
     assert!(text.trim_end().ends_with("0 differences"), "{text}");
 }
 
+/// It is stopped by a page that can't be read, and told as a difference.
+#[test]
+fn a_byte_beside_a_slice() {
+    for fault in ["reads_one_byte_past", "reads_one_byte_before"] {
+        let (code, text) = run(fault, "1000");
+        assert_eq!(code, Some(1), "{fault}: {text}");
+        assert!(text.contains("DIFFERENCE: a call reads or writes outside of the slices"), "{fault}: {text}");
+    }
+}
+
+#[test]
+fn two_threads() {
+    let (code, text) = run("keeps_state_between_calls", "60000");
+    assert_eq!(code, Some(1), "{text}");
+    assert!(text.contains("DIFFERENCE: two threads at once: encode"), "{text}");
+}
+
 #[test]
 fn each_fault_is_found() {
     for fault in [

@@ -8,7 +8,7 @@ use plain::tables::{Block, FormatTables};
 use plain::value_table::{case, value, value_record};
 use plain::wire_type::parse;
 
-use crate::fault::named;
+use crate::fault::{looks_past, named};
 
 pub fn format_answer(tables: &FormatTables, answer: &mut [u8]) -> u32 {
     let checked: Checked = if named() == "passes_every_format" { Ok(()) } else { validate_format(tables) };
@@ -34,6 +34,7 @@ pub fn name_answer(name: &[u8], answer: &mut [u8]) -> u32 {
 }
 
 pub fn value_answer(records: &[u8], index: u64, answer: &mut [u8]) -> u32 {
+    looks_past(records);
     let mut said = value(records, index);
     if let Ok(said) = &mut said {
         if named() == "value_loses_its_sign" && said.case == case::SIGNED {

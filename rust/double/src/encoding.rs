@@ -6,7 +6,7 @@ use plain::report::{what, Report, REPORT_BYTES};
 use plain::settings::{Settings, MOST};
 use plain::value_table::{check, is_formed};
 
-use crate::fault::named;
+use crate::fault::{kept, looks_past, named};
 
 /// A record of a table, by where it begins, whose kind is this.
 fn last_is(kind: u8, records: &[u8]) -> bool {
@@ -22,6 +22,7 @@ pub fn encode_answer(given: Given, output: &mut [u8], position: u64, answer: &mu
     if answer.len() < REPORT_BYTES && fault != "encodes_with_a_short_answer" {
         return 1;
     }
+    looks_past(given.value_records);
     // An output may be too long to be kept; faults are planted in short ones.
     let before = if fault.is_empty() { Vec::new() } else { output.to_vec() };
     let limit = given.settings.max_blob_bytes;
@@ -76,6 +77,7 @@ pub fn encode_answer(given: Given, output: &mut [u8], position: u64, answer: &mu
             }
         }
         "tag_is_placed_at_its_parent" if report.number == 17 => report.place -= 1,
+        "keeps_state_between_calls" => report.bytes = kept(report.bytes),
         _ => {}
     }
     report.write_to(answer)
@@ -83,6 +85,7 @@ pub fn encode_answer(given: Given, output: &mut [u8], position: u64, answer: &mu
 
 pub fn check_answer(records: &[u8], payload: &[u8], answer: &mut [u8]) -> u32 {
     let fault = named();
+    looks_past(records);
     let mut checked = check(records, payload);
     match fault {
         "accepts_a_second_tree" if checked.is_err() && records.len() > 16 && records.len() % 16 == 0 => {

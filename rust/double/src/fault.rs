@@ -1,6 +1,10 @@
 //! Faults that a real library might have, each under the name of what it does wrong.
 
+use std::hint::black_box;
+use std::ptr::read_volatile;
+use std::sync::atomic::{AtomicU64, Ordering::SeqCst};
 use std::sync::OnceLock;
+use std::thread::yield_now;
 
 use plain::report::{what, Report, REPORT_BYTES};
 use plain::settings::{numbers_are_good, Settings, MOST};
@@ -12,9 +16,25 @@ pub fn named() -> &'static str {
     FAULT.get_or_init(|| std::env::var("DOUBLE_FAULT").unwrap_or_default())
 }
 
+/// Looks at the byte behind a slice, or at the one before it, where that is the fault.
+pub fn looks_past(slice: &[u8]) {
+    let beside = match named() {
+        "reads_one_byte_past" => slice.as_ptr().wrapping_add(slice.len()),
+        "reads_one_byte_before" => slice.as_ptr().wrapping_sub(1),
+        _ => return,
+    };
+    // SAFETY: there is none. This is what a wrong library does, and what the harness has to find.
+    black_box(unsafe { read_volatile(beside) });
+}
+
 pub fn answer(call: Call, answer: &mut [u8]) -> u32 {
     let fault = named();
-    let returned = report(fault, &call).write_to(answer);
+    looks_past(call.input);
+    let mut report = report(fault, &call);
+    if fault == "keeps_state_between_calls" {
+        report.bytes = kept(report.bytes);
+    }
+    let returned = report.write_to(answer);
     match fault {
         "writes_past_the_report" if answer.len() > REPORT_BYTES => answer[REPORT_BYTES] = 0,
         "writes_into_a_short_answer" if (1..REPORT_BYTES).contains(&answer.len()) => answer[0] = 2,
@@ -25,7 +45,23 @@ pub fn answer(call: Call, answer: &mut [u8]) -> u32 {
     returned
 }
 
+/// A number as it comes back from a place that all calls share.
+pub fn kept(number: u64) -> u64 {
+    static KEPT: AtomicU64 = AtomicU64::new(0);
+    KEPT.store(number, SeqCst);
+    yield_now();
+    KEPT.load(SeqCst)
+}
+
+/// Of the registry an index of one byte can't reach the rest.
+const REACHED: usize = 255 * 16;
+
 fn report(fault: &str, call: &Call) -> Report {
+    let mut call = *call;
+    if fault == "registry_searched_up_to_255" && call.tables.registry.len() > REACHED {
+        call.tables.registry = &call.tables.registry[..REACHED];
+    }
+    let call = &call;
     let right = call.report();
     let refused = right.what == what::REFUSAL;
     let settings = call.settings;
@@ -55,6 +91,7 @@ fn report(fault: &str, call: &Call) -> Report {
             Report { number: 13, place: right.place + 2, carried: [0; 3], ..right }
         }
         "counts_the_refused_row" if refused && call.is_run => Report { rows: right.rows + 1, ..right },
+        "miscounts_after_100000_rows" if right.rows > 100_000 => Report { rows: right.rows + 1, ..right },
         "int256_is_no_payload" if right.payload >= 32 => Report { payload: right.payload - 32, ..right },
         "position_is_cut_to_32_bits" if !call.is_run => {
             Call { position: call.position % (1 << 32), ..*call }.report()

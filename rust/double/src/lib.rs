@@ -8,6 +8,7 @@ mod checking;
 mod decoding;
 mod encoding;
 mod fault;
+mod viewing;
 
 use std::slice;
 

@@ -7,7 +7,8 @@
 //! The format side: [`wire_type`], [`tables`], [`forms`], [`depth`], [`rules`] and the calls in
 //! [`format`]. Reading: [`settings`], the [`walk`] over a row, the calls in [`reading`] and
 //! [`decoding`], and the [`report`] that the C functions write. Writing: [`value_table`] and
-//! [`encoding`]. What the listing program prints: [`listing`].
+//! [`encoding`]. What a host sees of a decoded row, record by record: [`view`]. What the listing program prints:
+//! [`listing`].
 
 pub mod answer;
 pub mod decoding;
@@ -22,6 +23,7 @@ pub mod rules;
 pub mod settings;
 pub mod tables;
 pub mod value_table;
+pub mod view;
 pub mod walk;
 pub mod wire_type;
 

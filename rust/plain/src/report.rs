@@ -4,6 +4,7 @@ use crate::answer::number::SETTING;
 use crate::answer::{Checked, Refusal};
 use crate::reading::{Row, Run, Skipped};
 use crate::value_table::Said;
+use crate::view::Viewed;
 
 pub const REPORT_BYTES: usize = 88;
 
@@ -78,6 +79,14 @@ impl Report {
             Ok(Said { case, number, length }) => {
                 Self { table: *case, records: *number, payload: *length, ..Self::default() }
             }
+            Err(refusal) => Self::of_refusal(refusal),
+        }
+    }
+
+    /// What the row view tells is one number, in the records' place.
+    pub fn of_viewed(viewed: &Viewed) -> Self {
+        match viewed {
+            Ok(records) => Self { records: *records, ..Self::default() },
             Err(refusal) => Self::of_refusal(refusal),
         }
     }

@@ -59,7 +59,7 @@ pub fn value_records(records: &[u8]) -> Vec<ValueRecord> {
 
 /// What can be said of a record alone: its kind, byte 1, its size and its data. Where a payload starts is
 /// a matter of the others.
-fn record_is_formed(record: &ValueRecord) -> bool {
+pub(crate) fn record_is_formed(record: &ValueRecord) -> bool {
     let (size_is_formed, data_is_formed) = match record.kind {
         INT128 => (record.size == 16, true),
         INT256 => (record.size == 32, true),
@@ -159,8 +159,8 @@ pub mod case {
     pub const CHILDREN: u64 = 6;
 }
 
-/// The value query as a call: 1 for a record that is not there, then 18.
-pub fn value(records: &[u8], index: u64) -> Result<Said, Refusal> {
+/// One record by itself: 1 where it is not there, then 18.
+pub fn seen(records: &[u8], index: u64) -> Result<ValueRecord, Refusal> {
     if !is_short_enough(records) || index >= record_count(records) {
         return Err(Refusal::bare(SETTING));
     }
@@ -168,6 +168,12 @@ pub fn value(records: &[u8], index: u64) -> Result<Said, Refusal> {
     if !is_whole(records) || !record_is_formed(&record) {
         return Err(Refusal::bare(BAD_VALUE_TABLE));
     }
+    Ok(record)
+}
+
+/// The value query as a call.
+pub fn value(records: &[u8], index: u64) -> Result<Said, Refusal> {
+    let record = seen(records, index)?;
     let data = record.data;
     let signed = match record.kind {
         2 => i64::from(data[0] as i8),

@@ -124,6 +124,47 @@ extern "C" {
         answer: *mut u8,
         answer_len: usize,
     ) -> u32;
+    #[link_name = "skiff1_kind"]
+    fn skiff_kind(
+        value_records: *const u8,
+        value_records_len: usize,
+        record: u64,
+        answer: *mut u8,
+        answer_len: usize,
+    ) -> u32;
+    #[link_name = "skiff1_tag"]
+    fn skiff_tag(
+        value_records: *const u8,
+        value_records_len: usize,
+        record: u64,
+        answer: *mut u8,
+        answer_len: usize,
+    ) -> u32;
+    #[link_name = "skiff1_child_count"]
+    fn skiff_child_count(
+        value_records: *const u8,
+        value_records_len: usize,
+        record: u64,
+        answer: *mut u8,
+        answer_len: usize,
+    ) -> u32;
+    #[link_name = "skiff1_after"]
+    fn skiff_after(
+        value_records: *const u8,
+        value_records_len: usize,
+        record: u64,
+        answer: *mut u8,
+        answer_len: usize,
+    ) -> u32;
+    #[link_name = "skiff1_field"]
+    fn skiff_field(
+        value_records: *const u8,
+        value_records_len: usize,
+        record: u64,
+        field: u64,
+        answer: *mut u8,
+        answer_len: usize,
+    ) -> u32;
 }
 
 /// The three settings as numbers, unchecked: the library checks them.
@@ -327,4 +368,39 @@ pub fn parse(name: &[u8], answer: &mut [u8]) -> u32 {
 pub fn value(records: &[u8], index: u64, answer: &mut [u8]) -> u32 {
     // SAFETY: as in `skip`.
     unsafe { lend!(skiff_value: read records; number index; written answer;) }
+}
+
+/// `skiff_kind`: the refusal's number, 0 where the record's kind is in the answer.
+#[inline]
+pub fn kind(records: &[u8], record: u64, answer: &mut [u8]) -> u32 {
+    // SAFETY: as in `skip`.
+    unsafe { lend!(skiff_kind: read records; number record; written answer;) }
+}
+
+/// `skiff_tag`: the refusal's number, 0 where the tag by which its parent chose the record is in the answer.
+#[inline]
+pub fn tag(records: &[u8], record: u64, answer: &mut [u8]) -> u32 {
+    // SAFETY: as in `skip`.
+    unsafe { lend!(skiff_tag: read records; number record; written answer;) }
+}
+
+/// `skiff_child_count`: the refusal's number, 0 where the number of the record's children is in the answer.
+#[inline]
+pub fn child_count(records: &[u8], record: u64, answer: &mut [u8]) -> u32 {
+    // SAFETY: as in `skip`.
+    unsafe { lend!(skiff_child_count: read records; number record; written answer;) }
+}
+
+/// `skiff_after`: the refusal's number, 0 where the record behind the record's whole subtree is in the answer.
+#[inline]
+pub fn after(records: &[u8], record: u64, answer: &mut [u8]) -> u32 {
+    // SAFETY: as in `skip`.
+    unsafe { lend!(skiff_after: read records; number record; written answer;) }
+}
+
+/// `skiff_field`: the refusal's number, 0 where the record of a tuple's field is in the answer.
+#[inline]
+pub fn field(records: &[u8], record: u64, field: u64, answer: &mut [u8]) -> u32 {
+    // SAFETY: as in `skip`.
+    unsafe { lend!(skiff_field: read records; number record; number field; written answer;) }
 }

@@ -41,19 +41,14 @@ fn main() -> ExitCode {
     } else if !cfg!(feature = "encode") {
         println!("THE LIBRARY IS NOT ASKED: the plain reading is compared with the original");
     }
+    #[cfg(feature = "encode")]
+    diff::trap::set();
     println!("seed {seed}");
     match run(seed, count) {
         Ok(tally) => {
             #[cfg(feature = "encode")]
-            match diff::writing::huge::check() {
-                None => println!("SLICES OVER 4,294,967,295 BYTES WERE NOT TRIED: there is no room for one"),
-                Some(Ok(calls)) => {
-                    println!("{calls} calls with slices of 4,294,967,295 bytes and one more: right")
-                }
-                Some(Err(message)) => {
-                    println!("DIFFERENCE: {message}");
-                    return ExitCode::from(1);
-                }
+            if let Some(code) = stops_short() {
+                return code;
             }
             println!("{tally} 0 differences");
             ExitCode::SUCCESS
@@ -67,6 +62,28 @@ fn main() -> ExitCode {
             ExitCode::from(1)
         }
     }
+}
+
+/// The parts of a run that come after the cases; the status where one of them ends it.
+#[cfg(feature = "encode")]
+fn stops_short() -> Option<ExitCode> {
+    let Some(huge) = diff::writing::huge::check() else {
+        eprintln!("write-diff: slices over 4,294,967,295 bytes were not tried: there is no room for one");
+        return Some(ExitCode::from(2));
+    };
+    for (checked, words) in [
+        (diff::writing::threads::check(), "calls by two threads at once"),
+        (huge, "calls with slices of 4,294,967,295 bytes and one more"),
+    ] {
+        match checked {
+            Ok(calls) => println!("{calls} {words}: right"),
+            Err(message) => {
+                println!("DIFFERENCE: {message}");
+                return Some(ExitCode::from(1));
+            }
+        }
+    }
+    None
 }
 
 /// Shrinks a differing case and prints it.

@@ -5,16 +5,17 @@ use plain::report::Report;
 use plain::wire_type::{parse, NAMES};
 use skiff::sys;
 
-use super::{given, Reply};
-use crate::case::Case;
+use super::{Given, Reply};
+use crate::fence::Turn;
 use crate::judge::tables;
+use crate::trap;
 
 /// Whether the library checks a case's format as the plain reading does.
-pub fn format_is_right(case: &Case, answer_size: usize) -> bool {
-    let (_, format) = given(case);
-    let report = Report::of_checked(&validate_format(&tables(case)));
-    Reply::of(answer_size, |answer| sys::check_format(&format, answer))
-        == Reply::expected(&report, answer_size)
+pub(super) fn format_is_right(given: &Given, answer_size: usize) -> bool {
+    let format = given.format();
+    let report = Report::of_checked(&validate_format(&tables(given.case)));
+    let got = Reply::of(answer_size, given.turn.place(), |answer| sys::check_format(&format, answer));
+    got == Reply::expected(&report, answer_size)
 }
 
 /// The first name that the library takes for another wire type than the plain reading does: of each type the
@@ -33,8 +34,14 @@ pub fn misread_name(answer_size: usize) -> Option<Vec<u8>> {
         let longer = (0..=255).map(|byte| [name, &[byte]].concat());
         begun.chain(longer).chain(exchanged(name)).chain([name.to_ascii_uppercase()]).collect()
     };
-    NAMES.iter().flat_map(|name| damaged(name.as_bytes())).find(|name| {
-        let got = Reply::of(answer_size, |answer| sys::parse(name, answer));
-        got != Reply::expected(&Report::of_parsed(parse(name)), answer_size)
-    })
+    let mut names = NAMES.iter().flat_map(|name| damaged(name.as_bytes())).zip(0..);
+    let misread = |(name, number): &(Vec<u8>, u64)| {
+        let turn = Turn::new(*number);
+        let held = turn.hold(name);
+        let got = trap::while_asked(&|| format!("the name {name:?}"), || {
+            Reply::of(answer_size, turn.place(), |answer| sys::parse(&held, answer))
+        });
+        got != Reply::expected(&Report::of_parsed(parse(name)), answer_size) || *held != **name
+    };
+    names.find(misread).map(|(name, _)| name)
 }

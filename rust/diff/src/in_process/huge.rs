@@ -2,9 +2,6 @@
 //! written, so they cost address space and hardly any memory; where even that can't be had, the caller is
 //! told.
 
-use std::alloc::{alloc_zeroed, dealloc, Layout};
-use std::slice;
-
 use plain::decoding::decode;
 use plain::reading::{run, skip};
 use plain::report::Report;
@@ -14,39 +11,19 @@ use skiff::sys::{self, Numbers};
 use skiff::Format;
 
 use super::{filling, numbers, Reply, LENT_FILLING};
+use crate::fence::{Fenced, Place};
 use crate::generate::rows::usual;
 use crate::plan::{inline, lay_out, over, table_of, Plan};
+use crate::trap;
 
 pub(crate) const BOUND: usize = MOST as usize;
 
 /// Of a lent slice only so many bytes are filled before a call and looked at after it.
 const NEAR: usize = 256;
 
-/// One byte more than a slice may have, all zero.
-pub(crate) struct Zeros {
-    start: *mut u8,
-    layout: Layout,
-}
-
-impl Zeros {
-    pub(crate) fn new() -> Option<Self> {
-        let layout = Layout::from_size_align(BOUND + 1, 16).ok()?;
-        // SAFETY: the layout has a size that is not 0.
-        let start = unsafe { alloc_zeroed(layout) };
-        (!start.is_null()).then_some(Self { start, layout })
-    }
-
-    pub(crate) fn bytes(&mut self) -> &mut [u8] {
-        // SAFETY: so many bytes were allocated, all of them zero at first, and the borrow is the only one.
-        unsafe { slice::from_raw_parts_mut(self.start, self.layout.size()) }
-    }
-}
-
-impl Drop for Zeros {
-    fn drop(&mut self) {
-        // SAFETY: it was allocated with this layout.
-        unsafe { dealloc(self.start, self.layout) }
-    }
+/// One byte more than a slice may have, all zero, between unreadable pages. None where there is no room.
+pub(crate) fn zeros() -> Option<Fenced> {
+    Fenced::new(BOUND + 1)
 }
 
 /// A format of one table of one column.
@@ -95,7 +72,8 @@ impl<'a> Call<'a> {
         let (tables, input) = self.plain();
         let report = Report::of_skip(&skip(&self.settings, &tables, input, self.position));
         let (numbers, format, input) = self.library();
-        let got = Reply::of(88, |answer| sys::skip(numbers, &format, input, self.position, answer));
+        let got =
+            Reply::of(88, Place::End, |answer| sys::skip(numbers, &format, input, self.position, answer));
         same("skip", Reply::expected(&report, 88), got)
     }
 
@@ -103,7 +81,7 @@ impl<'a> Call<'a> {
         let (tables, input) = self.plain();
         let report = Report::of_run(&run(&self.settings, &tables, input));
         let (numbers, format, input) = self.library();
-        let got = Reply::of(88, |answer| sys::run(numbers, &format, input, answer));
+        let got = Reply::of(88, Place::End, |answer| sys::run(numbers, &format, input, answer));
         same("run", Reply::expected(&report, 88), got)
     }
 
@@ -129,7 +107,7 @@ impl Reply {
         for (slice, from) in [&mut *records, &mut *payload].into_iter().zip(LENT_FILLING) {
             slice.iter_mut().take(NEAR).zip(from..).for_each(|(byte, index)| *byte = filling(index));
         }
-        let reply = Self::of(88, |answer| call(records, payload, answer));
+        let reply = Self::of(88, Place::End, |answer| call(records, payload, answer));
         let near = |slice: &[u8]| slice[..slice.len().min(NEAR)].to_vec();
         Self { lent: Some([near(records), near(payload)]), ..reply }
     }
@@ -144,8 +122,10 @@ fn same(call: &str, wanted: Reply, got: Reply) -> Right {
 
 /// How many calls were right; an error tells the first that was not. None where there is no room.
 pub fn check() -> Option<Right> {
-    let (mut zeros, mut lent) = (Zeros::new()?, Zeros::new()?);
-    Some(all(zeros.bytes(), lent.bytes()))
+    let (mut zeros, mut lent) = (zeros()?, zeros()?);
+    Some(trap::while_asked(&|| "a slice of 4,294,967,295 bytes or one more".to_owned(), || {
+        all(zeros.bytes(), lent.bytes())
+    }))
 }
 
 fn all(zeros: &mut [u8], lent: &mut [u8]) -> Right {

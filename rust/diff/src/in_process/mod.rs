@@ -3,6 +3,8 @@
 pub mod checks;
 pub mod decoding;
 pub mod huge;
+pub mod long;
+pub mod threads;
 pub mod values;
 
 use std::collections::BTreeSet;
@@ -16,14 +18,21 @@ use skiff::Format;
 
 use crate::case::{op, Case};
 use crate::compare::{Expected, Tally};
+use crate::fence::{self, Held, Place, Slices, Turn};
 use crate::generate::{rows, Kind};
 use crate::judge::{line, plain_report};
 use crate::rng::Rng;
 use crate::room::Room;
+use crate::show::describe;
+use crate::trap;
 use values::Queried;
 
-/// Answer slices come in these lengths, in turn: too short ones, just long enough, and longer ones.
-const ANSWER_SIZES: [usize; 16] = [88, 89, 200, 88, 96, 88, 200, 89, 87, 88, 88, 200, 0, 89, 88, 120];
+/// Answer slices come in these lengths, in turn: just long enough, and longer ones.
+const ANSWER_SIZES: [usize; 8] = [88, 89, 200, 96, 88, 120, 88, 89];
+
+/// Each sixteenth case comes once more, with a slice that is too short for an answer.
+const SHORT_SIZES: [usize; 5] = [87, 0, 1, 80, 8];
+const SHORT_EACH: u64 = 16;
 
 /// Of a lent slice no more bytes are printed.
 const MOST_SHOWN: usize = 160;
@@ -51,34 +60,62 @@ fn numbers(settings: Settings) -> Numbers {
     Numbers { node_charge, max_blob_bytes, max_row_bytes }
 }
 
-/// A case's numbers and format as the library takes them.
-fn given(case: &Case) -> (Numbers, Format<'_>) {
-    let Case { records, names, references, registry, .. } = case;
-    (numbers(case.settings()), Format { records, names, references, registry })
+/// What the library is given of a case: its numbers, and each of its slices between unreadable pages.
+struct Given<'a> {
+    case: &'a Case,
+    slices: [&'a [u8]; 5],
+    /// For the slices that are written.
+    turn: Turn,
+}
+
+impl Given<'_> {
+    fn numbers(&self) -> Numbers {
+        numbers(self.case.settings())
+    }
+
+    fn format(&self) -> Format<'_> {
+        let [records, names, references, registry, _] = self.slices;
+        Format { records, names, references, registry }
+    }
+
+    fn input(&self) -> &[u8] {
+        self.slices[4]
+    }
+
+    /// What the library's skip or run leaves.
+    fn read(&self, op: u32, answer_size: usize) -> Reply {
+        let (numbers, format, input) = (self.numbers(), self.format(), self.input());
+        Reply::of(answer_size, self.turn.place(), |answer| match op {
+            op::SKIP => sys::skip(numbers, &format, input, self.case.a, answer),
+            op::RUN => sys::run(numbers, &format, input, answer),
+            other => panic!("neither skip nor run: {other}"),
+        })
+    }
+
+    /// No call has written to what it was to read.
+    fn stayed(&self) -> bool {
+        self.slices.iter().zip(self.case.strings()).all(|(slice, string)| **slice == **string)
+    }
+}
+
+/// What an answer slice of so many bytes holds before a call.
+fn unanswered(bytes: usize) -> Vec<u8> {
+    (0..bytes).map(filling).collect()
 }
 
 impl Reply {
     /// A call into a filled slice of so many bytes.
-    fn of(answer_size: usize, call: impl FnOnce(&mut [u8]) -> u32) -> Self {
-        let mut answer: Vec<u8> = (0..answer_size).map(filling).collect();
+    fn of(answer_size: usize, place: Place, call: impl FnOnce(&mut [u8]) -> u32) -> Self {
+        let mut answer = Held::new(&unanswered(answer_size), place);
         let returned = call(&mut answer);
-        Self { returned, answer, lent: None }
+        Self { returned, answer: answer.to_vec(), lent: None }
     }
 
     /// What the plain reading would have left.
     pub fn expected(report: &Report, answer_size: usize) -> Self {
-        Self::of(answer_size, |answer| report.write_to(answer))
-    }
-
-    /// What the library's skip or run leaves of a case.
-    fn of_library(op: u32, case: &Case, answer_size: usize) -> Self {
-        let (numbers, format) = given(case);
-        let input = &case.input;
-        Self::of(answer_size, |answer| match op {
-            op::SKIP => sys::skip(numbers, &format, input, case.a, answer),
-            op::RUN => sys::run(numbers, &format, input, answer),
-            other => panic!("neither skip nor run: {other}"),
-        })
+        let mut answer = unanswered(answer_size);
+        let returned = report.write_to(&mut answer);
+        Self { returned, answer, lent: None }
     }
 
     /// The eleven numbers in words, or what there is instead; and what was lent.
@@ -116,22 +153,31 @@ impl Reply {
     }
 }
 
-/// A case with the length of its answer slice and, of a decoding one, the room in what it is lent.
+/// A case with the length of its answer slice, the number by which its slices are placed and, of a decoding one,
+/// the room in what it is lent.
 #[derive(Debug, Clone)]
 pub struct Asked {
     pub case: Case,
     pub answer_size: usize,
+    number: u64,
     room: Room,
 }
 
 impl Asked {
-    fn new(case: Case, answer_size: usize, room: Room) -> Self {
-        Self { case: room.lend(case), answer_size, room }
+    fn new(case: Case, number: u64, room: Room) -> Self {
+        let answer_size = ANSWER_SIZES[number as usize % ANSWER_SIZES.len()];
+        Self { case: room.lend(case), answer_size, number, room }
     }
 
     /// The same with another case.
     pub fn about(&self, case: Case) -> Self {
-        Self::new(case, self.answer_size, self.room)
+        Self { case: self.room.lend(case), ..self.clone() }
+    }
+
+    /// The same with too short an answer slice, if it is this case's turn.
+    fn short(&self) -> Option<Self> {
+        let turn = (self.number / SHORT_EACH) as usize % SHORT_SIZES.len();
+        (self.number % SHORT_EACH == 0).then(|| Self { answer_size: SHORT_SIZES[turn], ..self.clone() })
     }
 }
 
@@ -144,27 +190,36 @@ pub struct Verdict {
     pub as_checked: bool,
     /// What it was asked of a decoded row's values; none where it answers otherwise than the plain reading.
     pub queried: Option<Queried>,
+    /// No call has written to a slice that it was to read.
+    pub stayed: bool,
     pub wanted: Reply,
     pub got: Reply,
 }
 
 impl Verdict {
     pub fn of(asked: &Asked) -> Self {
+        let turn = Turn::new(asked.number);
+        let held = asked.case.strings().map(|string| turn.hold(string));
+        let given = Given { case: &asked.case, slices: held.each_ref().map(|slice| &**slice), turn };
+        trap::while_asked(&|| describe(&asked.case), || match asked.case.op {
+            op::DECODE => decoding::verdict(asked, &given),
+            _ => Self::of_reading(asked, &given),
+        })
+    }
+
+    fn of_reading(asked: &Asked, given: &Given) -> Self {
         let Asked { case, answer_size, .. } = asked;
-        if case.op == op::DECODE {
-            return decoding::verdict(asked);
-        }
         let report = plain_report(case);
         let expected = Expected::with(case, line(case.op, &report));
         let wanted = Reply::expected(&report, *answer_size);
-        let got = Reply::of_library(case.op, case, *answer_size);
-        let as_checked = checks::format_is_right(case, *answer_size);
+        let got = given.read(case.op, *answer_size);
+        let as_checked = checks::format_is_right(given, *answer_size);
         let queried = Some(Queried::default());
-        Self { expected, as_skipped: true, as_checked, queried, wanted, got }
+        Self { expected, as_skipped: true, as_checked, queried, stayed: given.stayed(), wanted, got }
     }
 
     pub fn is_good(&self) -> bool {
-        let also = self.as_skipped && self.as_checked && self.queried.is_some();
+        let also = self.as_skipped && self.as_checked && self.queried.is_some() && self.stayed;
         self.expected.is_one() && also && self.wanted == self.got
     }
 }
@@ -195,11 +250,16 @@ pub struct Tallies {
     pub reading: Tally,
     pub decoding: Tally,
     pub queried: Queried,
+    /// Cases that came once more, with too short an answer slice.
+    pub short_answers: u64,
+    pub slices: Slices,
 }
 
 impl fmt::Display for Tallies {
-    fn fmt(&self, formatter: &mut fmt::Formatter<'_>) -> fmt::Result {
-        write!(formatter, "skip and run: {} decode: {} {}", self.reading, self.decoding, self.queried)
+    fn fmt(&self, out: &mut fmt::Formatter<'_>) -> fmt::Result {
+        let Tallies { reading, decoding, queried, short_answers, slices } = self;
+        write!(out, "skip and run: {reading} decode: {decoding} {queried} ")?;
+        write!(out, "{short_answers} cases once more with a short answer slice, {slices}")
     }
 }
 
@@ -226,25 +286,30 @@ impl Run {
             op::DECODE => &mut self.tallies.decoding,
             _ => &mut self.tallies.reading,
         };
-        let answer_size = ANSWER_SIZES[tally.cases as usize % ANSWER_SIZES.len()];
-        let asked = Asked::new(case, answer_size, room);
+        let asked = Asked::new(case, tally.cases, room);
         let verdict = Verdict::of(&asked);
-        if verdict.is_good() {
-            tally.add(kind, &verdict.expected);
-            verdict.queried.iter().for_each(|more| self.tallies.queried.add(more));
-        } else {
+        if !verdict.is_good() {
             self.found = Some(asked);
+            return;
+        }
+        tally.add(kind, &verdict.expected);
+        verdict.queried.iter().for_each(|more| self.tallies.queried.add(more));
+        if let Some(short) = asked.short() {
+            self.tallies.short_answers += 1;
+            self.found = (!Verdict::of(&short).is_good()).then_some(short);
         }
     }
 }
 
 /// All fixed cases, then random ones up to `count` in all; and at least as many of decode.
 pub fn run(seed: u64, count: u64) -> Result<Tallies, Stop> {
-    if let Some(name) = ANSWER_SIZES.iter().find_map(|size| checks::misread_name(*size)) {
+    let sizes = || ANSWER_SIZES.iter().chain(&SHORT_SIZES);
+    if let Some(name) = sizes().find_map(|size| checks::misread_name(*size)) {
         return Err(Stop::Misread(name));
     }
     let mut run = Run::default();
     rows::fixed(&mut |kind, case| run.take(kind, case));
+    rows::registries::fixed(&mut |kind, case| run.take(kind, case));
     for number in run.tallies.reading.cases..count {
         if run.found.is_some() {
             break;
@@ -255,8 +320,12 @@ pub fn run(seed: u64, count: u64) -> Result<Tallies, Stop> {
     if let Some(asked) = run.found {
         return Err(Stop::Difference(Box::new(asked)));
     }
+    run.tallies.slices = fence::counted();
     let mut missing = unmet("skip and run", &run.tallies.reading, &[]);
     missing.extend(unmet("decode", &run.tallies.decoding, &[NO_NODE_ROOM, NO_PAYLOAD_ROOM]));
+    if run.tallies.slices.odd <= run.tallies.slices.all / 2 {
+        missing.push("odd addresses for most slices".to_owned());
+    }
     if missing.is_empty() {
         Ok(run.tallies)
     } else {

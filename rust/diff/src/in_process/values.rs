@@ -1,13 +1,16 @@
-//! The value query: of each record of a decoded row, and of the same table damaged.
+//! The value query and the row view: of each record of a decoded row, and of the same table damaged.
 
 use std::fmt;
 
 use plain::report::Report;
 use plain::tables::{record_count, RECORD_BYTES};
-use plain::value_table::value;
+use plain::value_table::{value, value_record};
+use plain::view::{self, Viewed};
 use skiff::sys;
 
-use super::Reply;
+use super::unanswered;
+use crate::fence::{Held, Turn};
+use crate::original::views::asked_fields;
 use crate::rng::Rng;
 
 /// What was asked: the rows, their records, those of them damaged, and how many of these were refused.
@@ -19,6 +22,10 @@ pub struct Queried {
     pub refused: u64,
     /// Records that are not there.
     pub absent: u64,
+    /// Of the row view: kinds, tags, child counts and records behind; fields; and how many of them all were refused.
+    pub viewed: u64,
+    pub fields: u64,
+    pub views_refused: u64,
 }
 
 impl Queried {
@@ -28,25 +35,91 @@ impl Queried {
         self.damaged += more.damaged;
         self.refused += more.refused;
         self.absent += more.absent;
+        self.viewed += more.viewed;
+        self.fields += more.fields;
+        self.views_refused += more.views_refused;
     }
 }
 
 impl fmt::Display for Queried {
     fn fmt(&self, out: &mut fmt::Formatter<'_>) -> fmt::Result {
-        let Queried { rows, records, damaged, refused, absent } = self;
+        let Queried { rows, records, damaged, refused, absent, viewed, fields, views_refused } = self;
         write!(
             out,
             "value: {records} records of {rows} decoded rows, {damaged} of damaged tables ({refused} refused), \
-             {absent} that are not there,"
+             {absent} that are not there, view of the same records: {viewed} kinds, tags, child counts and records \
+             behind, {fields} fields ({views_refused} of all these refused),"
         )
     }
 }
 
-/// The answer to one query, if it is what the plain reading says: whether the record's value was told.
-fn told(records: &[u8], index: u64, answer_size: usize) -> Option<bool> {
-    let wanted = value(records, index);
-    let got = Reply::of(answer_size, |answer| sys::value(records, index, answer));
-    (got == Reply::expected(&Report::of_value(&wanted), answer_size)).then_some(wanted.is_ok())
+/// A table between unreadable pages, and an answer slice that serves one query after another.
+struct Asker {
+    records: Held,
+    answer: Held,
+    unanswered: Vec<u8>,
+    wanted: Vec<u8>,
+}
+
+impl Asker {
+    fn new(records: &[u8], answer_size: usize, turn: &Turn) -> Self {
+        let unanswered = unanswered(answer_size);
+        Self {
+            records: turn.hold(records),
+            answer: turn.hold(&unanswered),
+            wanted: unanswered.clone(),
+            unanswered,
+        }
+    }
+
+    /// Whether a call answers this, in every byte.
+    fn is(&mut self, report: &Report, call: impl FnOnce(&[u8], &mut [u8]) -> u32) -> bool {
+        self.answer.copy_from_slice(&self.unanswered);
+        self.wanted.copy_from_slice(&self.unanswered);
+        let wanted = report.write_to(&mut self.wanted);
+        call(&self.records, &mut self.answer) == wanted && *self.answer == *self.wanted
+    }
+
+    /// The answer to one query, if it is what the plain reading says: whether the record's value was told.
+    fn told(&mut self, index: u64) -> Option<bool> {
+        let wanted = value(&self.records, index);
+        let report = Report::of_value(&wanted);
+        self.is(&report, |records, answer| sys::value(records, index, answer)).then_some(wanted.is_ok())
+    }
+
+    /// One call of the row view, if it answers this: whether a number was told.
+    fn seen(&mut self, wanted: &Viewed, call: impl FnOnce(&[u8], &mut [u8]) -> u32) -> Option<bool> {
+        self.is(&Report::of_viewed(wanted), call).then_some(wanted.is_ok())
+    }
+
+    /// All that the row view is asked about a record, if the answers are what the plain reading says; how many of
+    /// them there were, and of these refused.
+    fn viewed(&mut self, index: u64, queried: &mut Queried) -> Option<()> {
+        type Rule = fn(&[u8], u64) -> Viewed;
+        type Getter = fn(&[u8], u64, &mut [u8]) -> u32;
+        const GETTERS: [(Rule, Getter); 4] = [
+            (view::kind, sys::kind),
+            (view::tag, sys::tag),
+            (view::child_count, sys::child_count),
+            (view::after, sys::after),
+        ];
+        for (rule, getter) in GETTERS {
+            let wanted = rule(&self.records, index);
+            let told = self.seen(&wanted, |records, answer| getter(records, index, answer))?;
+            queried.viewed += 1;
+            queried.views_refused += u64::from(!told);
+        }
+        // A record that is not there has no fields, and neither has one that is no tuple: both are asked for one.
+        let there = index < record_count(&self.records);
+        let record = there.then(|| value_record(&self.records, index)).filter(|record| record.kind == 17);
+        for asked in asked_fields(index % (1 << 32), record.map_or(0, |record| record.size)) {
+            let wanted = view::field(&self.records, index, asked);
+            let told = self.seen(&wanted, |records, answer| sys::field(records, index, asked, answer))?;
+            queried.fields += 1;
+            queried.views_refused += u64::from(!told);
+        }
+        Some(())
+    }
 }
 
 /// Bytes that kinds, sizes and truths turn on.
@@ -77,26 +150,41 @@ fn damaged(records: &[u8]) -> Vec<u8> {
 }
 
 /// All queries about a decoded row's table; none where an answer is another than the plain reading's.
-pub fn ask(records: &[u8], answer_size: usize) -> Option<Queried> {
+pub fn ask(records: &[u8], answer_size: usize, turn: &Turn) -> Option<Queried> {
     let count = record_count(records);
     let mut queried = Queried { rows: 1, ..Queried::default() };
+    let mut whole = Asker::new(records, answer_size, turn);
     for index in 0..count {
         // Decoded records are never refused.
-        if !told(records, index, answer_size)? {
+        if !whole.told(index)? {
             return None;
         }
+        whole.viewed(index, &mut queried)?;
         queried.records += 1;
     }
     let table = damaged(records);
+    let mut damaged = Asker::new(&table, answer_size, turn);
     for index in 0..record_count(&table) {
-        queried.refused += u64::from(!told(&table, index, answer_size)?);
+        queried.refused += u64::from(!damaged.told(index)?);
+        damaged.viewed(index, &mut queried)?;
         queried.damaged += 1;
     }
-    for (table, index) in [(records, count), (&table, count), (records, count + (1 << 32))] {
-        if told(table, index, answer_size)? {
-            return None;
-        }
-        queried.absent += 1;
+    for index in [count, count + (1 << 32)] {
+        whole.viewed(index, &mut queried)?;
+        damaged.viewed(index, &mut queried)?;
     }
+    let absent = [whole.told(count)?, damaged.told(count)?, whole.told(count + (1 << 32))?];
+    if absent.contains(&true) || *whole.records != *records || *damaged.records != *table {
+        return None;
+    }
+    queried.absent += absent.len() as u64;
     Some(queried)
+}
+
+/// Some queries with too short a slice for their answers, which nothing is written to.
+pub fn ask_in_vain(records: &[u8], answer_size: usize, turn: &Turn) -> Option<Queried> {
+    let mut whole = Asker::new(records, answer_size, turn);
+    let queried = &mut Queried::default();
+    let mut told = |index| whole.told(index).is_some() && whole.viewed(index, queried).is_some();
+    (0..=record_count(records)).take(4).all(&mut told).then(Queried::default)
 }

@@ -5,14 +5,12 @@ use std::cell::Cell;
 use std::io::{self, Read};
 
 use oracle::{CodecError, Decoder, Format, Value};
-use plain::answer::context::BLOB_PAYLOAD;
-use plain::answer::number::TRUNCATED;
 use plain::decoding::ValueTable;
 use plain::value_table::{case as told, Said as Scalar};
 use plain::wire_type::NAMES;
 
-use super::{code, format, refused, Said};
-use crate::case::{op, Answer, Case};
+use super::{code, format, refused, views, Said};
+use crate::case::{op, Case};
 
 /// What the original charges for a node.
 pub fn node_charge() -> u64 {
@@ -46,7 +44,7 @@ impl Read for Rest<'_> {
     }
 }
 
-/// The plain reading has found the limits to be within 32 bits.
+/// The limits are within 32 bits, and the position is in the input.
 fn decoder<'a>(case: &Case, format: Format, rest: &'a Cell<&'a [u8]>) -> Decoder<Rest<'a>> {
     Decoder::new(Rest(rest), format)
         .with_max_blob_bytes(case.max_blob_bytes as usize)
@@ -104,26 +102,14 @@ fn skip(case: &Case, format: Format) -> Said {
 }
 
 /// For a blob that is not there `next_row` takes as much memory as its length says, before it looks for
-/// the bytes. Above this `skip_row` is asked alone.
+/// the bytes. Where the limit allows for more than this `skip_row` is asked first, and of such a row alone.
 const LONGEST_BLOB: u64 = 1 << 28;
-
-/// A blob that the input ends in, and that is too long to be made room for.
-fn is_cut_in_a_long_blob(case: &Case, plain: &Answer) -> bool {
-    if plain.number != TRUNCATED || plain.values[0] != BLOB_PAYLOAD {
-        return false;
-    }
-    let field = &case.input[plain.place as usize - 4..plain.place as usize];
-    u64::from(u32::from_le_bytes(field.try_into().expect("four bytes"))) > LONGEST_BLOB
-}
 
 /// What `next_row` says of the row at the case's position, with the row that it gives; none outside of the
 /// domain, as in `ask`.
-pub fn decode(case: &Case, plain: &Answer) -> Option<Said> {
+pub fn decode(case: &Case) -> Option<Said> {
     if case.node_charge != node_charge() {
         return None;
-    }
-    if is_cut_in_a_long_blob(case, plain) {
-        return ask(case);
     }
     let format = match format(case)? {
         Ok(format) => format,
@@ -131,7 +117,14 @@ pub fn decode(case: &Case, plain: &Answer) -> Option<Said> {
     };
     let from = &case.input[case.a as usize..];
     let rest = Cell::new(from);
-    Some(match decoder(case, format, &rest).next_row() {
+    let mut decoder = decoder(case, format, &rest);
+    if case.max_blob_bytes > LONGEST_BLOB {
+        if let Err(error @ CodecError::Truncated { context: "blob payload" }) = decoder.skip_row() {
+            return Some(row_refused(case, error));
+        }
+        rest.set(from);
+    }
+    Some(match decoder.next_row() {
         Ok(None) => Said::accepted(),
         Ok(Some((table, row))) => {
             let bytes = from.len() - rest.get().len();
@@ -140,7 +133,9 @@ pub fn decode(case: &Case, plain: &Answer) -> Option<Said> {
             let values = [bytes, flat.records.len() / 16, flat.payload.len()].map(|value| value as u64);
             let mut scalars = Vec::new();
             tell(&row, &mut 0, &mut scalars);
-            Said { table: Some(table as u64), row: Some(flat), scalars, ..Said::new(0, values) }
+            let mut views = Vec::new();
+            views::add(&row, 0, &mut views);
+            Said { table: Some(table as u64), row: Some(flat), scalars, views, ..Said::new(0, values) }
         }
         Err(error) => row_refused(case, error),
     })

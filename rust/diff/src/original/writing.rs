@@ -1,11 +1,12 @@
 //! Rows as the original writes them: the values of a flat table as its tree, handed to its `Encoder`.
 
 use oracle::{CodecError, Decoder, Encoder, Format, SchemaRef, Value, Variant};
+use plain::answer::number::BAD_VALUE_TABLE;
 use plain::decoding::ValueTable;
-use plain::value_table::{value_records, ValueRecord};
 
 use super::rows::flatten;
-use super::{code, refused, tree};
+use super::{code, laid, refused, tree};
+use crate::case::Case;
 use crate::judge::lone_block;
 use crate::writing::WriteCase;
 
@@ -38,18 +39,36 @@ const KINDS: [&str; 18] = [
     "tuple",
 ];
 
-/// Asks `Encoder::new` and `write`. None where a name is not UTF-8; the plain reading has found settings,
-/// forms, depth and the value table to be right.
+/// Asks `Encoder::new` and `write`. None where a name is not UTF-8, or the schema was laid out from no tree that is
+/// not too deep.
 pub fn write(case: &WriteCase) -> Option<Wrote> {
-    let schema = tree(&case.schema, lone_block(&case.schema), 0)?;
+    let block = lone_block(&case.schema);
+    if laid::block_refusal(&case.schema, block).is_some() {
+        return None;
+    }
+    let schema = tree(&case.schema, block, 0)?;
     Some(written(case, schema).unwrap_or_else(|error| refusal(case, error)))
 }
 
+/// A table that was laid out from no value is refused after the schema is accepted.
 fn written(case: &WriteCase, schema: oracle::Schema) -> Result<Wrote, CodecError> {
     let mut encoder =
         Encoder::new(Vec::new(), schema)?.with_max_blob_bytes(case.schema.max_blob_bytes as usize);
-    encoder.write(&value_of(&case.value))?;
+    let Some(value) = laid::value(&case.value) else {
+        return Ok(Wrote::Refused(BAD_VALUE_TABLE, [0; 3]));
+    };
+    encoder.write(&value)?;
     encoder.into_inner().map(Wrote::Row)
+}
+
+/// What `Encoder::new` says of the schema alone; none as above.
+pub fn accepts(schema: &Case) -> Option<Result<(), Wrote>> {
+    let case = WriteCase { schema: schema.clone(), ..WriteCase::default() };
+    Some(match write(&case)? {
+        // There is no value, and that is found out when the schema is accepted.
+        Wrote::Refused(BAD_VALUE_TABLE, _) => Ok(()),
+        refused => Err(refused),
+    })
 }
 
 fn refusal(case: &WriteCase, error: CodecError) -> Wrote {
@@ -76,53 +95,53 @@ fn refusal(case: &WriteCase, error: CodecError) -> Wrote {
     }
 }
 
-/// The tree of a table that is in form.
-fn value_of(table: &ValueTable) -> Value {
-    let records = value_records(&table.records);
-    let mut left = records.iter();
-    let value = next_value(&mut left, &table.payload);
-    assert!(left.next().is_none(), "the table is one tree");
-    value
-}
-
-fn next_value(left: &mut std::slice::Iter<ValueRecord>, payload: &[u8]) -> Value {
-    let record = left.next().expect("a child for each count");
-    let [b0, b1, b2, b3, ..] = record.data;
-    let long = record.data;
-    match record.kind {
+/// The value that begins at the next record; none where it is none, or has more levels than this.
+pub fn next_value(left: &mut std::slice::Iter<&[u8]>, payload: &[u8], levels: usize) -> Option<Value> {
+    let record = *left.next()?;
+    let below = levels.checked_sub(1)?;
+    let data: [u8; 8] = record.get(8..)?.try_into().ok()?;
+    let [b0, b1, b2, b3, ..] = data;
+    let size = u32::from_le_bytes(record[4..8].try_into().ok()?) as usize;
+    let stored = || {
+        let start = usize::try_from(u64::from_le_bytes(data)).ok()?;
+        payload.get(start..start.checked_add(size)?)
+    };
+    Some(match record[0] {
         0 => Value::Nothing,
         1 => Value::Boolean(b0 == 1),
         2 => Value::Int8(i8::from_le_bytes([b0])),
         3 => Value::Int16(i16::from_le_bytes([b0, b1])),
         4 => Value::Int32(i32::from_le_bytes([b0, b1, b2, b3])),
-        5 => Value::Int64(i64::from_le_bytes(long)),
-        6 => Value::Int128(i128::from_le_bytes(record.payload(payload).try_into().expect("16 bytes"))),
-        7 => Value::Int256(record.payload(payload).try_into().expect("32 bytes")),
+        5 => Value::Int64(i64::from_le_bytes(data)),
+        6 => Value::Int128(i128::from_le_bytes(stored()?.try_into().ok()?)),
+        7 => Value::Int256(stored()?.try_into().ok()?),
         8 => Value::Uint8(b0),
         9 => Value::Uint16(u16::from_le_bytes([b0, b1])),
         10 => Value::Uint32(u32::from_le_bytes([b0, b1, b2, b3])),
-        11 => Value::Uint64(u64::from_le_bytes(long)),
-        12 => Value::Double(f64::from_bits(u64::from_le_bytes(long))),
-        13 => Value::Bytes(record.payload(payload).to_vec()),
-        14 => Value::Yson(record.payload(payload).to_vec()),
+        11 => Value::Uint64(u64::from_le_bytes(data)),
+        12 => Value::Double(f64::from_bits(u64::from_le_bytes(data))),
+        13 => Value::Bytes(stored()?.to_vec()),
+        14 => Value::Yson(stored()?.to_vec()),
         15 => {
-            let tag = next_tag(left);
-            Value::Variant { tag, value: Box::new(next_value(left, payload)) }
+            let tag = next_tag(left)?;
+            Value::Variant { tag, value: Box::new(next_value(left, payload, below)?) }
         }
         16 => {
-            let item = |left: &mut std::slice::Iter<ValueRecord>| Variant {
-                tag: next_tag(left),
-                value: next_value(left, payload),
-            };
-            Value::RepeatedVariants((0..record.size).map(|_| item(left)).collect())
+            let items = (0..size).map(|_| {
+                let tag = next_tag(left)?;
+                Some(Variant { tag, value: next_value(left, payload, below)? })
+            });
+            Value::RepeatedVariants(items.collect::<Option<_>>()?)
         }
-        17 => Value::Tuple((0..record.size).map(|_| next_value(left, payload)).collect()),
-        other => panic!("the table is in form, but has a kind {other}"),
-    }
+        17 => Value::Tuple((0..size).map(|_| next_value(left, payload, below)).collect::<Option<_>>()?),
+        _ => return None,
+    })
 }
 
-fn next_tag(left: &std::slice::Iter<ValueRecord>) -> u16 {
-    left.as_slice()[0].tag as u16
+/// The tag of the record that comes next.
+fn next_tag(left: &std::slice::Iter<&[u8]>) -> Option<u16> {
+    let record = left.as_slice().first()?;
+    Some(u16::from_le_bytes(record.get(2..4)?.try_into().ok()?))
 }
 
 /// What the original reads of a row that was accepted: the flat table of its value, if it is a row of

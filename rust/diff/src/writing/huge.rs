@@ -11,8 +11,9 @@ use super::library::numbers;
 use crate::generate::rows::usual;
 use crate::generate::writes::draw::{lay_out, Body, Node};
 use crate::generate::writes::schema_of;
-use crate::in_process::huge::{Zeros, BOUND};
+use crate::in_process::huge::{zeros, BOUND};
 use crate::plan::{table_of, Plan};
+use crate::trap;
 
 /// How many calls were right, or the first that was not.
 type Right = Result<u64, String>;
@@ -54,8 +55,10 @@ fn both(given: &Given, output: &mut [u8], position: u64) -> Right {
 
 /// None where there is no room for such slices.
 pub fn check() -> Option<Right> {
-    let (mut zeros, mut lent) = (Zeros::new()?, Zeros::new()?);
-    Some(all(zeros.bytes(), lent.bytes()))
+    let (mut zeros, mut lent) = (zeros()?, zeros()?);
+    Some(trap::while_asked(&|| "a slice of 4,294,967,295 bytes or one more".to_owned(), || {
+        all(zeros.bytes(), lent.bytes())
+    }))
 }
 
 fn all(zeros: &[u8], lent: &mut [u8]) -> Right {

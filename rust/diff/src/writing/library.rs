@@ -1,9 +1,5 @@
 //! The library's writing calls, linked into this process. Every slice that a call is given stands between
-//! unreadable pages: against the one before it or, at an odd address mostly, against the one after it.
-
-use std::cell::RefCell;
-use std::ffi::c_void;
-use std::{ptr, slice};
+//! unreadable pages: against one of them, or at an odd address.
 
 use plain::answer::Refusal;
 use plain::encoding::written;
@@ -17,52 +13,10 @@ use skiff::sys::{self, Numbers};
 use skiff::{Format, SchemaBlock, ValueTable};
 
 use super::run::Tally;
-use super::{filled, round_trip, WriteCase};
+use super::{describe, filled, round_trip, WriteCase};
+use crate::fence::Turn;
 use crate::judge::lone_block;
-
-extern "C" {
-    fn mmap(at: *mut c_void, bytes: usize, may: i32, how: i32, file: i32, offset: i64) -> *mut c_void;
-    fn mprotect(at: *mut c_void, bytes: usize, may: i32) -> i32;
-}
-
-const NOT_AT_ALL: i32 = 0;
-const READ_AND_WRITE: i32 = 3;
-const PRIVATE_AND_NO_FILE: i32 = 0x22;
-
-const PAGE: usize = 4096;
-/// A page before, so many bytes, a page after.
-const HELD: usize = 512 * PAGE;
-
-/// Memory between two pages that nobody may read or write.
-struct Fenced(*mut u8);
-
-impl Fenced {
-    fn new() -> Self {
-        // SAFETY: memory that nobody else has, of which the pages in the middle are opened.
-        unsafe {
-            let all = mmap(ptr::null_mut(), HELD + 2 * PAGE, NOT_AT_ALL, PRIVATE_AND_NO_FILE, -1, 0);
-            assert_ne!(all as isize, -1, "there is memory");
-            let start = all.cast::<u8>().add(PAGE);
-            assert_eq!(mprotect(start.cast(), HELD, READ_AND_WRITE), 0, "it can be opened");
-            Self(start)
-        }
-    }
-
-    /// The bytes, against the fence before them or after them.
-    fn hold(&mut self, bytes: &[u8], at_end: bool) -> &mut [u8] {
-        assert!(bytes.len() <= HELD, "no case is so long");
-        // SAFETY: so many bytes lie between the fences, and the borrow is the only one.
-        let held = unsafe { slice::from_raw_parts_mut(self.0, HELD) };
-        let start = if at_end { HELD - bytes.len() } else { 0 };
-        let held = &mut held[start..start + bytes.len()];
-        held.copy_from_slice(bytes);
-        held
-    }
-}
-
-thread_local! {
-    static FENCES: RefCell<[Fenced; 6]> = RefCell::new(std::array::from_fn(|_| Fenced::new()));
-}
+use crate::trap;
 
 /// What a call left.
 #[derive(Debug, Clone, PartialEq, Eq)]
@@ -77,63 +31,79 @@ pub fn numbers(settings: Settings) -> Numbers {
     Numbers { node_charge, max_blob_bytes, max_row_bytes }
 }
 
-fn encode(case: &WriteCase, answer_size: usize, at_end: bool) -> Left {
-    FENCES.with_borrow_mut(|[records, names, value_records, payload, output, answer]| {
-        let block = SchemaBlock {
-            records: records.hold(&case.schema.records, at_end),
-            names: names.hold(&case.schema.names, at_end),
-            first: case.schema.a,
-            count: case.schema.b,
-        };
-        let value = ValueTable {
-            records: value_records.hold(&case.value.records, at_end),
-            payload: payload.hold(&case.value.payload, at_end),
-        };
-        let output = output.hold(&filled(case.output), at_end);
-        let answer = answer.hold(&filled(answer_size), at_end);
-        let settings = numbers(case.schema.settings());
-        let returned = sys::encode(settings, &block, &value, output, case.position, answer);
-        assert!(block.records == case.schema.records && block.names == case.schema.names, "read only");
-        assert!(value.records == case.value.records && value.payload == case.value.payload, "read only");
-        Left { returned, answer: answer.to_vec(), output: output.to_vec() }
-    })
+/// What the library is given of a case, each slice by itself.
+pub(super) struct Given<'a> {
+    pub case: &'a WriteCase,
+    /// Its records and its names.
+    pub schema: [&'a [u8]; 2],
+    /// Its records and its payload.
+    pub value: [&'a [u8]; 2],
+    /// For the slices that are written.
+    pub turn: Turn,
 }
 
-fn check_table(case: &WriteCase, answer_size: usize, at_end: bool) -> Left {
-    FENCES.with_borrow_mut(|[records, payload, answer, ..]| {
-        let value = ValueTable {
-            records: records.hold(&case.value.records, at_end),
-            payload: payload.hold(&case.value.payload, at_end),
-        };
-        let answer = answer.hold(&filled(answer_size), at_end);
-        let returned = sys::check_value_table(&value, answer);
+/// The slices of a case that are read.
+pub(super) fn slices(case: &WriteCase) -> [&Vec<u8>; 4] {
+    [&case.schema.records, &case.schema.names, &case.value.records, &case.value.payload]
+}
+
+impl<'a> Given<'a> {
+    pub fn new(case: &'a WriteCase, slices: [&'a [u8]; 4], turn: Turn) -> Self {
+        let [records, names, value_records, payload] = slices;
+        Self { case, schema: [records, names], value: [value_records, payload], turn }
+    }
+
+    fn block(&self) -> SchemaBlock<'_> {
+        let [records, names] = self.schema;
+        SchemaBlock { records, names, first: self.case.schema.a, count: self.case.schema.b }
+    }
+
+    fn table(&self) -> ValueTable<'_> {
+        let [records, payload] = self.value;
+        ValueTable { records, payload }
+    }
+
+    /// What a call leaves in an answer slice of so many bytes.
+    fn left(&self, answer_size: usize, call: impl FnOnce(&mut [u8]) -> u32) -> Left {
+        let mut answer = self.turn.hold(&filled(answer_size));
+        let returned = call(&mut answer);
         Left { returned, answer: answer.to_vec(), output: Vec::new() }
-    })
-}
+    }
 
-fn check_schema(case: &WriteCase, answer_size: usize, at_end: bool) -> Left {
-    FENCES.with_borrow_mut(|[records, names, answer, ..]| {
-        let records = records.hold(&case.schema.records, at_end);
-        let names = names.hold(&case.schema.names, at_end);
-        let answer = answer.hold(&filled(answer_size), at_end);
-        let returned = sys::check_encoder_schema(records, names, case.schema.a, case.schema.b, answer);
-        Left { returned, answer: answer.to_vec(), output: Vec::new() }
-    })
-}
+    fn encode(&self, answer_size: usize) -> Left {
+        let mut output = self.turn.hold(&filled(self.case.output));
+        let settings = numbers(self.case.schema.settings());
+        let left = self.left(answer_size, |answer| {
+            sys::encode(settings, &self.block(), &self.table(), &mut output, self.case.position, answer)
+        });
+        Left { output: output.to_vec(), ..left }
+    }
 
-/// The value of each record, of the whole table or not, and of one that is not there.
-fn values(case: &WriteCase, answer_size: usize, at_end: bool) -> Result<(), String> {
-    FENCES.with_borrow_mut(|[records, answer, ..]| {
-        let records = records.hold(&case.value.records, at_end);
+    fn check_table(&self, answer_size: usize) -> Left {
+        self.left(answer_size, |answer| sys::check_value_table(&self.table(), answer))
+    }
+
+    fn check_schema(&self, answer_size: usize) -> Left {
+        let SchemaBlock { records, names, first, count } = self.block();
+        self.left(answer_size, |answer| sys::check_encoder_schema(records, names, first, count, answer))
+    }
+
+    /// The value of each record, of the whole table or not, and of one that is not there.
+    fn values(&self, answer_size: usize) -> Result<(), String> {
+        let ValueTable { records, .. } = self.table();
         for index in 0..=record_count(records) {
-            let answer = answer.hold(&filled(answer_size), at_end);
-            let returned = sys::value(records, index, answer);
-            let got = Left { returned, answer: answer.to_vec(), output: Vec::new() };
+            let got = self.left(answer_size, |answer| sys::value(records, index, answer));
             let report = Report::of_value(&value(records, index));
             same(&format!("value of record {index}"), &got, &expected(&report, answer_size, &[]))?;
         }
         Ok(())
-    })
+    }
+
+    fn stayed(&self) -> Result<(), String> {
+        let given = self.schema.iter().chain(&self.value);
+        let stayed = given.zip(slices(self.case)).all(|(held, slice)| **held == **slice);
+        stayed.then_some(()).ok_or_else(|| "a call writes to a slice that it was to read".to_owned())
+    }
 }
 
 fn expected(report: &Report, answer_size: usize, output: &[u8]) -> Left {
@@ -162,73 +132,65 @@ pub fn verdict(
     output: &[u8],
     tally: &mut Tally,
 ) -> Result<(), String> {
-    let size = ANSWER_SIZES[number as usize % ANSWER_SIZES.len()];
-    let at_end = number % 3 != 0;
-    let report = Report::of_encoded(done);
-    same("encode", &encode(case, size, at_end), &expected(&report, size, output))?;
-    let ValueTable { records, payload } =
-        ValueTable { records: &case.value.records, payload: &case.value.payload };
-    let table_report = Report::of_checked(&check(records, payload));
-    same("check of a value table", &check_table(case, size, at_end), &expected(&table_report, size, &[]))?;
-    let schema = Report::of_checked(&validate_encoder(
-        &case.schema.records,
-        &case.schema.names,
-        lone_block(&case.schema),
-    ));
-    same("check of the schema", &check_schema(case, size, at_end), &expected(&schema, size, &[]))?;
-    values(case, size, at_end)?;
-    if number % 16 == 0 {
-        let size = SHORT_SIZES[number as usize / 16 % SHORT_SIZES.len()];
-        // The value of each record and of one more, and three calls besides.
-        tally.short_answers += 4 + record_count(records);
-        let untouched = filled(case.output);
-        same("encode", &encode(case, size, at_end), &expected(&report, size, &untouched))?;
-        same(
-            "check of a value table",
-            &check_table(case, size, at_end),
-            &expected(&table_report, size, &[]),
-        )?;
-        same("check of the schema", &check_schema(case, size, at_end), &expected(&schema, size, &[]))?;
-        values(case, size, at_end)?;
-    }
-    match done {
-        Ok(row) => read_back(case, row, number),
-        Err(_) => Ok(()),
-    }
+    trap::while_asked(&|| describe(case), || {
+        let turn = Turn::new(number);
+        let held = slices(case).map(|slice| turn.hold(slice));
+        let given = Given::new(case, held.each_ref().map(|slice| &**slice), turn);
+        answers(&given, ANSWER_SIZES[number as usize % ANSWER_SIZES.len()], done, output)?;
+        if number % 16 == 0 {
+            // The value of each record and of one more, and three calls besides.
+            tally.short_answers += 4 + record_count(&case.value.records);
+            let size = SHORT_SIZES[number as usize / 16 % SHORT_SIZES.len()];
+            answers(&given, size, done, &filled(case.output))?;
+        }
+        given.stayed()?;
+        match done {
+            Ok(row) => read_back(case, row, number),
+            Err(_) => Ok(()),
+        }
+    })
+}
+
+/// Each call, with an answer slice of so many bytes; `output` is what encoding leaves.
+pub(super) fn answers(
+    given: &Given,
+    size: usize,
+    done: &Result<Row, Refusal>,
+    output: &[u8],
+) -> Result<(), String> {
+    let WriteCase { schema, value, .. } = given.case;
+    let encoded = Report::of_encoded(done);
+    same("encode", &given.encode(size), &expected(&encoded, size, output))?;
+    let table = Report::of_checked(&check(&value.records, &value.payload));
+    same("check of a value table", &given.check_table(size), &expected(&table, size, &[]))?;
+    let block = Report::of_checked(&validate_encoder(&schema.records, &schema.names, lone_block(schema)));
+    same("check of the schema", &given.check_schema(size), &expected(&block, size, &[]))?;
+    given.values(size)
 }
 
 /// The library's `decode` and `skip` of the row, canonical and with other bytes for true.
 fn read_back(case: &WriteCase, row: &Row, number: u64) -> Result<(), String> {
     let canonical = written(&case.given()).expect("it was written before");
+    let turn = Turn::new(!number);
+    let [schema_records, names] = [&case.schema.records, &case.schema.names].map(|slice| turn.hold(slice));
+    let mut wanted = [0; 88];
+    Report::of_encoded(&Ok(*row)).write_to(&mut wanted);
     for bytes in [&canonical.bytes, &round_trip::loosened(&canonical, number as u8)] {
         let stream = round_trip::stream(case, bytes, number as usize % 5, number as usize % 3);
-        let format = Format {
-            records: &case.schema.records,
-            names: &case.schema.names,
-            references: &stream.references,
-            registry: &[],
-        };
+        let given: [&[u8]; 3] = [&stream.references, &[], &stream.input];
+        let [references, registry, input] = given.map(|slice| turn.hold(slice));
+        let format =
+            Format { records: &schema_records, names: &names, references: &references, registry: &registry };
         let settings = numbers(stream.settings);
-        let (mut records, mut payload) =
-            (vec![0xA5; case.value.records.len()], vec![0xA5; case.value.payload.len()]);
-        let report = Report::of_encoded(&Ok(*row));
-        let mut wanted = [0; 88];
-        report.write_to(&mut wanted);
-        let mut answer = [0; 88];
-        sys::decode(
-            settings,
-            &format,
-            &stream.input,
-            stream.position,
-            &mut records,
-            &mut payload,
-            &mut answer,
-        );
-        if answer != wanted || records != case.value.records || payload != case.value.payload {
+        let lent = [case.value.records.len(), case.value.payload.len()];
+        let [mut records, mut payload] = lent.map(|bytes| turn.hold(&vec![0xA5; bytes]));
+        let mut answer = turn.hold(&[0; 88]);
+        sys::decode(settings, &format, &input, stream.position, &mut records, &mut payload, &mut answer);
+        if *answer != wanted || *records != *case.value.records || *payload != *case.value.payload {
             return Err("the library decodes another value of what is written".to_owned());
         }
-        sys::skip(settings, &format, &stream.input, stream.position, &mut answer);
-        if answer != wanted {
+        sys::skip(settings, &format, &input, stream.position, &mut answer);
+        if *answer != wanted {
             return Err("the library skips what is written otherwise".to_owned());
         }
     }

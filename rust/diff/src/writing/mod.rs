@@ -9,6 +9,8 @@ pub mod library;
 pub mod round_trip;
 pub mod run;
 pub mod shrink;
+#[cfg(feature = "encode")]
+pub mod threads;
 
 use plain::answer::Refusal;
 use plain::decoding::ValueTable;

@@ -5,12 +5,15 @@ use std::fmt;
 
 use plain::answer::Refusal;
 use plain::encoding::{written, Written};
+use plain::format::validate_encoder;
 use plain::reading::Row;
 use plain::value_table::check;
 
 use super::{filled, plain_encoded, round_trip, WriteCase};
 use crate::generate::{writes, Kind};
-use crate::original::writing::{read_back, write, Wrote};
+use crate::judge::lone_block;
+use crate::original::laid;
+use crate::original::writing::{accepts, read_back, write, Wrote};
 use crate::rng::Rng;
 
 /// How many calls there were, by kind and by answer.
@@ -18,6 +21,8 @@ use crate::rng::Rng;
 pub struct Tally {
     pub calls: u64,
     pub with_original: u64,
+    /// Of the others, those whose schema it was asked about.
+    pub with_schema: u64,
     pub round_trips: u64,
     /// Checks of a value table: accepted, and refused by 18.
     pub tables: [u64; 2],
@@ -30,7 +35,12 @@ pub struct Tally {
 impl fmt::Display for Tally {
     fn fmt(&self, out: &mut fmt::Formatter<'_>) -> fmt::Result {
         let [good, bad] = self.tables;
-        write!(out, "encode: {} cases ({} also by the original); by kind:", self.calls, self.with_original)?;
+        let Tally { calls, with_original, with_schema, .. } = self;
+        write!(
+            out,
+            "encode: {calls} cases ({with_original} also by the original, of {with_schema} more the schema)"
+        )?;
+        write!(out, "; by kind:")?;
         for (kind, count) in &self.kinds {
             write!(out, " {kind} {count},")?;
         }
@@ -42,7 +52,10 @@ impl fmt::Display for Tally {
             }
         }
         write!(out, " {} round trips; value tables: {good} accepted, {bad} refused", self.round_trips)?;
-        write!(out, "; {} calls more with a short answer slice:", self.short_answers)
+        write!(out, "; {} calls more with a short answer slice;", self.short_answers)?;
+        #[cfg(feature = "encode")]
+        write!(out, " {}", crate::fence::counted())?;
+        Ok(())
     }
 }
 
@@ -102,11 +115,31 @@ fn verdict(case: &WriteCase, number: u64, tally: &mut Tally) -> Result<(), Strin
     if !rest_stayed(case, &done, &output) {
         return Err("the plain reading writes elsewhere".to_owned());
     }
-    let wrote = if [1, 2, 3, 18].contains(&answer) { None } else { write(case) };
+    let is_table = check(&case.value.records, &case.value.payload).is_ok();
+    if is_table != laid::value(&case.value).is_some() {
+        return Err(format!(
+            "plain: a value table or none: {is_table}; laid out from a value: {}",
+            !is_table
+        ));
+    }
+    // What the original does not know is refused where it has to be; all else it is asked about.
+    let unknown = laid::write_refusal(case);
+    if unknown.map_or([1, 2, 3].contains(&answer), |unknown| unknown != answer) {
+        return Err(format!("plain: {done:?}; for what the original does not know: {unknown:?}"));
+    }
+    let wrote = if unknown.is_none() { write(case) } else { None };
     if let Some(wrote) = &wrote {
         tally.with_original += 1;
         if !is_one(case, &done, &output, wrote) {
             return Err(format!("plain: {done:?}; original: {wrote:?}"));
+        }
+    } else if let Some(accepted) = accepts(&case.schema) {
+        // Under numbers that are refused it has the schema alone.
+        tally.with_schema += 1;
+        let checked = validate_encoder(&case.schema.records, &case.schema.names, lone_block(&case.schema));
+        let told = checked.map_err(|refusal| Wrote::Refused(refusal.number, refusal.carried));
+        if told != accepted {
+            return Err(format!("the schema, plain: {told:?}; original: {accepted:?}"));
         }
     }
     if let Ok(row) = &done {

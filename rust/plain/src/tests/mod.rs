@@ -5,6 +5,7 @@ mod encoding;
 mod format;
 mod listing;
 mod reading;
+mod view;
 
 use crate::tables::Block;
 

@@ -5,6 +5,7 @@ pub mod decoding;
 pub mod edges;
 pub mod exhaustive;
 pub mod limits;
+pub mod registries;
 pub mod values;
 
 use plain::settings::Settings;

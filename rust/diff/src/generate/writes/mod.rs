@@ -12,6 +12,7 @@ use super::trees::{random_case, random_size, random_table_plans, widened};
 use super::{damage as schema_damage, Kind};
 use crate::case::{op, Case};
 use crate::judge::lone_block;
+use crate::original::writing::accepts;
 use crate::plan::lay_out;
 use crate::rng::Rng;
 use crate::writing::WriteCase;
@@ -45,7 +46,7 @@ fn good(rng: &mut Rng) -> (Case, Node) {
     loop {
         let schema = random_schema(rng);
         let block = lone_block(&schema);
-        if plain::format::validate_encoder(&schema.records, &schema.names, block).is_ok() {
+        if accepts(&schema) == Some(Ok(())) {
             let value = draw(rng, &schema.records, block);
             return (schema, value);
         }

@@ -1,0 +1,176 @@
+//! What the original has no rules for: numbers out of their bounds (1), flat tables that were laid out from no tree
+//! (2, and 18 for values), trees that are too deep (3). Where none of that is so the original is asked, whatever the
+//! plain reading says. Tables were laid out from trees where laying out again what they seem to hold gives the same
+//! bytes.
+
+use oracle::Value;
+use plain::decoding::ValueTable;
+use plain::settings::{Settings, MOST, MOST_NODE_CHARGE};
+use plain::tables::Block;
+
+use super::rows::flatten;
+use super::writing::next_value;
+use crate::case::{op, Case};
+use crate::judge::lone_block;
+use crate::plan::{inline, record, words};
+use crate::writing::WriteCase;
+
+/// Levels of a tree, nodes of a block.
+const MOST_LEVELS: usize = 64;
+const MOST_NODES: usize = 131_072;
+
+fn word(bytes: &[u8], at: usize) -> u32 {
+    u32::from_le_bytes(bytes[at..at + 4].try_into().expect("four bytes"))
+}
+
+/// A stretch of the name store, if it is one.
+fn name(names: &[u8], start: u32, length: u32) -> Option<&[u8]> {
+    names.get(start as usize..start as usize + length as usize)
+}
+
+/// How many levels the tree has that a block was laid out from; none where it was laid out from no tree.
+fn levels(records: &[u8], names: &[u8], block: Block) -> Option<usize> {
+    let [first, count] = [block.first, block.count].map(|number| usize::try_from(number).ok());
+    let (first, count) = (first?, count.filter(|count| (1..=MOST_NODES).contains(count))?);
+    let given = records.get(first.checked_mul(16)?..first.checked_add(count)?.checked_mul(16)?)?;
+    // The level of each node that was met as a child, in the order in which they were.
+    let mut levels = vec![1];
+    for (index, given) in given.chunks_exact(16).enumerate() {
+        let level = *levels.get(index)?;
+        let children = word(given, 12);
+        if children as usize > count - levels.len() {
+            return None;
+        }
+        let first_child = if children == 0 { 0 } else { levels.len() as u32 };
+        let (start, length) = (word(given, 4), u16::from_le_bytes([given[2], given[3]]));
+        let again = match given[1] {
+            0 => record(given[0], 0, 0, 0, first_child, children),
+            _ => record(given[0], 1, length, start, first_child, children),
+        };
+        if given[0] > 19 || *given != again || name(names, start, u32::from(length)).is_none() {
+            return None;
+        }
+        levels.resize(levels.len() + children as usize, level + 1);
+    }
+    (levels.len() == count).then(|| levels.into_iter().max().unwrap_or(0))
+}
+
+/// The refusal that a tree's levels stand for, if they do for one.
+fn by_levels(levels: Option<usize>) -> Option<u64> {
+    match levels {
+        None => Some(2),
+        Some(levels) => (levels > MOST_LEVELS).then_some(3),
+    }
+}
+
+fn is_whole(table: &[u8]) -> bool {
+    table.len() % 16 == 0
+}
+
+/// 2 or 3, where a lone block is to be refused so.
+pub fn block_refusal(case: &Case, block: Block) -> Option<u64> {
+    let levels = levels(&case.records, &case.names, block);
+    by_levels(levels.filter(|_| is_whole(&case.records)))
+}
+
+/// The same of a format. All forms come before all depths.
+pub fn format_refusal(case: &Case) -> Option<u64> {
+    let Case { records, names, references, registry, .. } = case;
+    if ![records, references, registry].into_iter().all(|table| is_whole(table)) {
+        return Some(2);
+    }
+    let mut deepest = 0;
+    let mut meet = |first: u32, count: u32| {
+        let block = Block { first: first.into(), count: count.into() };
+        deepest = deepest.max(levels(records, names, block)?);
+        Some(block)
+    };
+    let reference = |given: &[u8], meet: &mut dyn FnMut(u32, u32) -> Option<Block>| {
+        let (one, other) = (word(given, 4), word(given, 8));
+        let again = if given[0] == 0 {
+            inline(meet(one, other)?)
+        } else {
+            name(names, one, other).map(|_| words([1, one, other, 0]))?
+        };
+        (*given == again).then_some(())
+    };
+    // A map's entries: each name once, in order.
+    let mut before: Option<&[u8]> = None;
+    let mut entry = |given: &[u8], meet: &mut dyn FnMut(u32, u32) -> Option<Block>| {
+        let name = name(names, word(given, 0), word(given, 4))?;
+        let ascends = before.replace(name).is_none_or(|before| before < name);
+        meet(word(given, 8), word(given, 12)).filter(|_| ascends).map(|_| ())
+    };
+    let laid_out = references.chunks_exact(16).all(|given| reference(given, &mut meet).is_some())
+        && registry.chunks_exact(16).all(|given| entry(given, &mut meet).is_some());
+    by_levels(laid_out.then_some(deepest))
+}
+
+fn are_in_bounds(settings: &Settings) -> bool {
+    let limits = [settings.max_blob_bytes, settings.max_row_bytes];
+    (1..=MOST_NODE_CHARGE).contains(&settings.node_charge) && limits.iter().all(|limit| *limit <= MOST)
+}
+
+/// What a case has to be refused by for what the original does not know; none where it is for the original to say.
+pub fn refusal(case: &Case) -> Option<u64> {
+    let position = if case.op == op::RUN { 0 } else { case.a };
+    match case.op {
+        op::SKIP | op::RUN | op::DECODE => {
+            let numbers_are_good = are_in_bounds(&case.settings()) && position <= case.input.len() as u64;
+            if numbers_are_good {
+                format_refusal(case)
+            } else {
+                Some(1)
+            }
+        }
+        op::FORMAT | op::TABLE_SCHEMA => format_refusal(case),
+        op::VALIDATE | op::ENCODER => block_refusal(case, lone_block(case)),
+        op::ENCODE => write_refusal(&WriteCase::of(case)),
+        op::CHECK_TABLE => {
+            let table = ValueTable { records: case.references.clone(), payload: case.registry.clone() };
+            value(&table).is_none().then_some(18)
+        }
+        _ => None,
+    }
+}
+
+/// The same of a writing call; whether its value table is one comes after what the original says of the schema.
+pub fn write_refusal(case: &WriteCase) -> Option<u64> {
+    if !are_in_bounds(&case.schema.settings()) || case.position > case.output as u64 {
+        return Some(1);
+    }
+    block_refusal(&case.schema, lone_block(&case.schema))
+}
+
+/// The tree of values that a table was laid out from; none where there is none, or it is too deep.
+pub fn value(table: &ValueTable) -> Option<Value> {
+    let records: Vec<&[u8]> = table.records.chunks(16).collect();
+    let mut left = records.iter();
+    let value = next_value(&mut left, &table.payload, MOST_LEVELS)?;
+    let mut again = ValueTable::default();
+    flatten(&value, 0, &mut again);
+    (left.len() == 0 && again == *table).then_some(value)
+}
+
+#[cfg(test)]
+mod tests {
+    use super::*;
+    use crate::generate;
+    use crate::judge::plain_answer;
+    use crate::rng::Rng;
+
+    /// Over good and damaged cases of all kinds the two ways to tell are one.
+    #[test]
+    fn layouts_are_told_as_the_plain_reading_tells_them() {
+        let mut met = [0; 4];
+        for number in 0..30_000 {
+            let rng = &mut Rng::for_case(11, number);
+            let (_, case) = if number % 2 == 0 { generate::random(rng) } else { generate::rows::random(rng) };
+            let plain = plain_answer(&case).number;
+            let told = refusal(&case);
+            assert_eq!(told.unwrap_or(0), if plain <= 3 { plain } else { 0 }, "{case:?}");
+            met[told.unwrap_or(0) as usize] += 1;
+        }
+        assert!(met.iter().all(|count| *count > 20), "{met:?}");
+    }
+}
