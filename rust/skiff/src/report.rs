@@ -70,6 +70,12 @@ impl Report {
         })
     }
 
+    /// Of a call that sees one number of a record, which stands in the records' place.
+    pub(crate) fn viewed(&self) -> Result<u64, Refusal> {
+        self.accepted()?;
+        Ok(self.records)
+    }
+
     /// Of a call that finds a row, an end or a refusal.
     #[inline]
     pub(crate) fn extent(&self) -> Result<Option<Extent>, Refusal> {

@@ -45,6 +45,49 @@ impl ValueTable<'_> {
     pub fn value(&self, record: u64) -> Result<Scalar, Refusal> {
         Report::of(|answer| sys::value(self.records, record, answer)).scalar()
     }
+
+    /// The kind of a record: 0 to 14 as the wire codes, 15 a variant, 16 a repeated variant, 17 a tuple.
+    /// Refused as [`ValueTable::value`] is.
+    pub fn kind(&self, record: u64) -> Result<u8, Refusal> {
+        let kind = Report::of(|answer| sys::kind(self.records, record, answer)).viewed()?;
+        u8::try_from(kind).map_err(|_| Refusal::from_numbers(0, 0, [kind, 0, 0]))
+    }
+
+    /// The tag by which its parent chose a record, 0 where it did not. Refused as [`ValueTable::value`] is.
+    pub fn tag(&self, record: u64) -> Result<u16, Refusal> {
+        let tag = Report::of(|answer| sys::tag(self.records, record, answer)).viewed()?;
+        u16::try_from(tag).map_err(|_| Refusal::from_numbers(0, 0, [tag, 0, 0]))
+    }
+
+    /// How many children a record has. Refused as [`ValueTable::value`] is.
+    pub fn child_count(&self, record: u64) -> Result<u64, Refusal> {
+        Report::of(|answer| sys::child_count(self.records, record, answer)).viewed()
+    }
+
+    /// The number of the record behind a record and all below it: its next sibling's, where it has one.
+    pub fn after(&self, record: u64) -> Result<u64, Refusal> {
+        Report::of(|answer| sys::after(self.records, record, answer)).viewed()
+    }
+
+    /// The number of the record of a tuple's field, from 0 on.
+    ///
+    /// ```
+    /// use skiff::{Refusal, RowBuilder, Scalar};
+    ///
+    /// let mut row = RowBuilder::new();
+    /// let table = row.value(Some("hi")).value(7_u8).finish()?;
+    /// // The tuple, the optional column with its string, the number.
+    /// assert_eq!(table.after(0), Ok(4));
+    /// assert_eq!((table.kind(1), table.child_count(1), table.after(1)), (Ok(15), Ok(1), Ok(3)));
+    /// assert_eq!(table.tag(2), Ok(1));
+    /// assert_eq!(table.field(0, 1), Ok(3));
+    /// assert_eq!(table.value(3), Ok(Scalar::Unsigned(7)));
+    /// assert_eq!(table.field(0, 2), Err(Refusal::Setting));
+    /// # Ok::<(), skiff::Misuse>(())
+    /// ```
+    pub fn field(&self, record: u64, field: u64) -> Result<u64, Refusal> {
+        Report::of(|answer| sys::field(self.records, record, field, answer)).viewed()
+    }
 }
 
 /// What the library says of one value record by itself.
