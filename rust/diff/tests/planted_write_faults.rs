@@ -32,6 +32,15 @@ fn a_byte_beside_a_slice() {
     }
 }
 
+/// Where there is no room for slices of 4,294,967,296 bytes the run has not done what it should have.
+#[test]
+fn slices_that_there_is_no_room_for() {
+    let limited = format!("ulimit -v 4000000; exec {} --count 60000", env!("CARGO_BIN_EXE_write-diff"));
+    let output = Command::new("sh").args(["-c", &limited]).output().expect("a shell runs");
+    assert_eq!(output.status.code(), Some(2));
+    assert!(String::from_utf8_lossy(&output.stderr).contains("could not be tried"));
+}
+
 #[test]
 fn two_threads() {
     let (code, text) = run("keeps_state_between_calls", "60000");
