@@ -13,3 +13,4 @@ pub mod Once
 pub mod Unlimited
 pub mod Rows
 pub mod Columns
+pub mod RowColumns

@@ -274,21 +274,103 @@ fn put_children(
     }
 }
 
-// A row: table tag 0 and the root's value, from position `to` of the output on; and the position after it. The root is no leaf, and the row
-// enters by the children step: so the node step has one caller, is compiled into it, and a leaf costs no call.
+// ---- a row
+
+// As `put_leaf`, and as `put_value` below: a column's own, so that each has one caller, is compiled into it, and a leaf of the row costs no
+// call.
+fn put_column_leaf(
+    code: u8,
+    size: u64,
+    content: u64,
+    payload: &[u8],
+    p: WritePos,
+    out: &mut [u8],
+) -> WritePos
+    requires { ⌜ (code < 15) × (p .at + 1 < 2 ^ 64) × (p .from + leafKept code size ≤ length (now payload)) × (p .to + leafSize code size ≤ length (now out)) ⌝ }
+    ensures spot { λ r. ⌜ r ≡ record { at = p .at + 1; from = p .from + leafKept code size; to = p .to + leafSize code size } ⌝ }
+    ensures out { λ _. ⌜ now (out .exit) ≡ over (now (out .entry)) (p .to) (leafBytes (now (payload .entry)) code size content (p .from)) ⌝ }
+{
+    let at = p.at;
+    let from = p.from;
+    let to = p.to;
+    if 12 < code {
+        let n = size as usize;
+        put32(out, to, size);
+        copy(payload, from, n, out, to + 4);
+        return WritePos {
+            at: at + 1,
+            from: from + n,
+            to: to + (4 + n),
+        };
+    }
+    let width = code_width(code);
+    if 8 < width {
+        copy(payload, from, width, out, to);
+        return WritePos {
+            at: at + 1,
+            from: from + width,
+            to: to + width,
+        };
+    }
+    put_number(out, to, width, content);
+    WritePos {
+        at: at + 1,
+        from,
+        to: to + width,
+    }
+}
+
+fn put_column(
+    block: &[u8],
+    node: usize,
+    depth: usize,
+    records: &[u8],
+    payload: &[u8],
+    p: WritePos,
+    out: &mut [u8],
+) -> WritePos
+    requires { ⌜ Writable (now block) node depth (now records) (now payload) p (length (now out)) ⌝ }
+    ensures { λ r. ⌜ Placed (now (block .entry)) node depth (now (records .entry)) (now (payload .entry)) p r (now (out .entry)) (now (out .exit)) ⌝ }
+{
+    let own = value_record_at(records, p.at);
+    let code = node_code(block, node);
+    let reached = leaf_at(block, node, code, depth, records, payload, own, p, out);
+    match reached {
+        ToPut::Leaf(below, size, content, from) => {
+            put_column_leaf(below, size, content, payload, from, out)
+        }
+        ToPut::Children => {
+            // What a call lends has to lie in memory: copied here, so that a leaf is spared that.
+            let nodes = block;
+            let table = records;
+            let store = payload;
+            let start = p;
+            put_children(nodes, node, code, depth, table, store, start, own.size, out)
+        }
+    }
+}
+
+// A row: table tag 0 and the root's value, from position `to` of the output on; and the position after it. The root is a tuple, and its
+// columns are put here, one after another: only one that is no leaf takes a children step.
 pub fn put_row(block: &[u8], records: &[u8], payload: &[u8], out: &mut [u8], to: usize) -> usize
     requires { ⌜ RowWritable (now block) (now records) (now payload) to (length (now out)) ⌝ }
     ensures next { λ r. ⌜ r ≡ to + length (rowBytes (now (block .entry)) (now (records .entry)) (now (payload .entry))) ⌝ }
     ensures out { λ _. ⌜ now (out .exit) ≡ over (now (out .entry)) to (rowBytes (now (block .entry)) (now (records .entry)) (now (payload .entry))) ⌝ }
 {
     put16(out, to, 0);
-    let p = WritePos {
-        at: 0,
+    let own = value_record_at(records, 0);
+    let size = own.size;
+    let first = node_first(block, 0);
+    let mut q = WritePos {
+        at: 1,
         from: 0,
         to: to + 2,
     };
-    let own = value_record_at(records, 0);
-    let code = node_code(block, 0);
-    let q = put_children(block, 0, code, 64, records, payload, p, own.size, out);
+    let mut i: u64 = 0;
+    while i < size {
+        let column = (first + i) as usize;
+        q = put_column(block, column, 63, records, payload, q, out);
+        i += 1;
+    }
     q.to
 }
