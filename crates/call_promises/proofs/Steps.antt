@@ -91,8 +91,10 @@ use Rattle.write.proofs.judge.judge_leaf as judge-leaf
 use Rattle.write.proofs.judge.next_child as next-judged-child
 use Rattle.write.proofs.judge.judge_row as judge-row
 use Rattle.write.proofs.put.put_row as put-row
+use Rattle.write.proofs.put.put_flat_row as put-flat-row
 use Rattle.write.proofs.steps.room_for as room-for-row
 use Rattle.write.proofs.steps.place_row as place-row
+use Rattle.write.proofs.steps.place_flat_row as place-flat-row
 use Rattle.write.proofs.steps.write_row as write-row
 use Rattle.wire.proofs.codes.tag_width as tag-width
 use Rattle.windows.proofs.run_on as run-on
@@ -354,8 +356,14 @@ room-for-row-one-answer κs a x y s t p q = p ∙ sym q
 pub put-row-one-answer : OneOutcome put-row.Kinds.ps put-row.Kinds.r (λ κs (block, (records, (payload, (out, _)))). out .now ∷ []) put-row.Reads.Post
 put-row-one-answer κs a x y s t p q = (p .0 ∙ sym (q .0), rw (p .1, q .1))
 
+pub put-flat-row-one-answer : OneOutcome put-flat-row.Kinds.ps put-flat-row.Kinds.r (λ κs (block, (records, (payload, (out, _)))). out .now ∷ []) put-flat-row.Reads.Post
+put-flat-row-one-answer κs a x y s t p q = (p .0 ∙ sym (q .0), rw (p .1, q .1))
+
 pub place-row-one-answer : OneOutcome place-row.Kinds.ps place-row.Kinds.r (λ κs (block, (settings, (p, (records, (payload, (out, _)))))). out .now ∷ []) place-row.Reads.Post
 place-row-one-answer κs a x y s t p q = (p .0 ∙ sym (q .0), rw (p .1, q .1))
+
+pub place-flat-row-one-answer : OneOutcome place-flat-row.Kinds.ps place-flat-row.Kinds.r (λ κs (block, (settings, (p, (records, (payload, (out, _)))))). out .now ∷ []) place-flat-row.Reads.Post
+place-flat-row-one-answer κs a x y s t p q = (p .0 ∙ sym (q .0), rw (p .1, q .1))
 
 pub write-row-one-answer : OneOutcome write-row.Kinds.ps write-row.Kinds.r (λ κs (block, (settings, (records, (payload, (out, _))))). out .now ∷ []) write-row.Reads.Post
 write-row-one-answer κs a x y s t p q = (p .0 ∙ sym (q .0), rw (p .1, q .1))

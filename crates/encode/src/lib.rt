@@ -16,7 +16,7 @@ use schema::encoder_rules_at_once;
 use value::table_form;
 use write::flat::flat_row;
 use write::judge::AtOnce;
-use write::steps::place_row;
+use write::steps::place_flat_row;
 use write::steps::write_row;
 
 // Settings and slices are inside document 01's bounds, and the position in what counts of the output.
@@ -68,7 +68,7 @@ fn encode_by(
 {
     let now = flat_row(block, settings, records, payload);
     if let AtOnce::Fits(p) = now {
-        return place_row(block, settings, p, records, payload, output, at);
+        return place_flat_row(block, settings, p, records, payload, output, at);
     }
     let form = table_form(records, payload);
     match form {

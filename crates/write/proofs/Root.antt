@@ -11,12 +11,13 @@ use Rattle.rules.specs.Choice.{pick, _and_}
 use Rattle.rules.specs.Bytes.{le, over}
 use Rattle.rules.specs.Block.{nodeAt}
 use Rattle.rules.specs.Value.{Value, nothing, boolean, number, wide, blob, variant, repeated, tuple, Items, done, item, Values, none, more, recordsOf}
-use Rattle.rules.specs.ValueRecord.{valueRecordsIn, wholeValueRecords, ValueRecordIn}
+use Rattle.rules.specs.ValueRecord.{valueRecordsIn, wholeValueRecords, valueRecordAt, ValueRecordIn}
 use Rattle.rules.specs.ValueTable as table-of
 use Rattle.rules.specs.ValueTable.{headOf, Parsed, Whole, Broken, tagAt, valueAt, ifWholeTable, tableValue}
 use Rattle.rules.specs.Walk.{Limits, blobLimit}
 use Rattle.rules.specs.Reading.{limits}
 use Rattle.rules.specs.declared.settings.Settings.{Settings}
+use Rattle.rules.specs.declared.table_record.ValueRecord.{ValueRecord}
 use Rattle.rules.specs.Writing as rule
 use Rattle.rules.specs.Writing.{Wrote, Put, _>>=_, fitting, tagged, write, writeI, writeV, writeRow}
 use Rattle.rules.proofs.Over.{over-at}
@@ -25,7 +26,7 @@ use Rattle.value_laws.proofs.Records.{tag-is}
 use Rattle.value_laws.proofs.Parse.{Holds, holds, Reads, reads}
 use Rattle.write.specs.Table.{IsWhole, wholeValue, wholeEnd, valueStandingAt}
 use Rattle.write.specs.Judging.{only, judgePos, judged, Judgeable, judgedAt, RowJudgeable, judgedRow}
-use Rattle.write.specs.Putting.{IsPut, putOf, written, Writable, Placed, RowWritable, rowBytes}
+use Rattle.write.specs.Putting.{IsPut, putOf, written, Writable, Parted, Placed, RowWritable, rowBytes}
 use Rattle.write.specs.declared.put.WritePos.{WritePos}
 use Rattle.write.proofs.Standing.{spot, whole-is, stands, head, inside}
 
@@ -120,6 +121,9 @@ module _ (sch table store : List ℕ) (to room : ℕ) (k : RowWritable sch table
 
   pub root-in : ValueRecordIn 0 (length table)
   root-in = inside table store (omega (arith, k .short)) (stands table store (omega (arith, k .short)) 64 0 0 (omega arith) (rw whole-stands (k .whole)))
+
+  pub root-parted : (v : ValueRecord) → v ≡ valueRecordAt table 0 → (code : ℕ) → code ≡ nodeAt sch 0 .code → Parted sch 0 code table (record { at = 0; from = 0; to = to + 2 }) (v .size)
+  root-parted v m code e = record { is = e; compound = omega (arith, e, k .tuple); count = ap (λ (u : ValueRecord). u .size) m }
 
   pub row-placed : (q : WritePos) (out out′ out″ : List ℕ) → out′ ≡ over out to (le 2 0) → Placed sch 0 64 table store (record { at = 0; from = 0; to = to + 2 }) q out′ out″ → (q .to ≡ to + length (rowBytes sch table store)) × (out″ ≡ over out to (rowBytes sch table store))
   row-placed q out out′ out″ a p = (omega (arith, p .to-end, size), p .bytes ∙ rw (a, parts .1) (over-at (le 2 0) (putOf (written sch 0 64 table store 0 0)) out to (to + 2) (rw length-le)))

@@ -274,7 +274,26 @@ fn put_children(
     }
 }
 
-// ---- a row
+// A row: table tag 0 and the root's value, from position `to` of the output on; and the position after it. The root is no leaf, and the row
+// enters by the children step: so the node step has one caller, is compiled into it, and a leaf costs no call.
+pub fn put_row(block: &[u8], records: &[u8], payload: &[u8], out: &mut [u8], to: usize) -> usize
+    requires { ⌜ RowWritable (now block) (now records) (now payload) to (length (now out)) ⌝ }
+    ensures next { λ r. ⌜ r ≡ to + length (rowBytes (now (block .entry)) (now (records .entry)) (now (payload .entry))) ⌝ }
+    ensures out { λ _. ⌜ now (out .exit) ≡ over (now (out .entry)) to (rowBytes (now (block .entry)) (now (records .entry)) (now (payload .entry))) ⌝ }
+{
+    put16(out, to, 0);
+    let p = WritePos {
+        at: 0,
+        from: 0,
+        to: to + 2,
+    };
+    let own = value_record_at(records, 0);
+    let code = node_code(block, 0);
+    let q = put_children(block, 0, code, 64, records, payload, p, own.size, out);
+    q.to
+}
+
+// ---- a flat row
 
 // As `put_leaf`, and as `put_value` below: a column's own, so that each has one caller, is compiled into it, and a leaf of the row costs no
 // call.
@@ -350,9 +369,14 @@ fn put_column(
     }
 }
 
-// A row: table tag 0 and the root's value, from position `to` of the output on; and the position after it. The root is a tuple, and its
-// columns are put here, one after another: only one that is no leaf takes a children step.
-pub fn put_row(block: &[u8], records: &[u8], payload: &[u8], out: &mut [u8], to: usize) -> usize
+// A row, as `put_row` puts it, by a loop over its columns: only one that is no leaf takes a children step, and a flat row takes none.
+pub fn put_flat_row(
+    block: &[u8],
+    records: &[u8],
+    payload: &[u8],
+    out: &mut [u8],
+    to: usize,
+) -> usize
     requires { ⌜ RowWritable (now block) (now records) (now payload) to (length (now out)) ⌝ }
     ensures next { λ r. ⌜ r ≡ to + length (rowBytes (now (block .entry)) (now (records .entry)) (now (payload .entry))) ⌝ }
     ensures out { λ _. ⌜ now (out .exit) ≡ over (now (out .entry)) to (rowBytes (now (block .entry)) (now (records .entry)) (now (payload .entry))) ⌝ }

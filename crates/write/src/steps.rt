@@ -9,6 +9,7 @@ ghost use Rattle.write.specs.Row.{roomFor, placedRow};
 use super::judge::JudgePos;
 use super::judge::Judged;
 use super::judge::judge_row;
+use super::put::put_flat_row;
 use super::put::put_row;
 use rules::Extent;
 use rules::Refusal;
@@ -67,6 +68,35 @@ pub fn place_row(
         return placed;
     };
     put_row(block, records, payload, out, at);
+    Written::Row(own)
+}
+
+// The same of a row whose columns are mostly leaves. It is apart from the other, so that each has one caller and is compiled into it.
+pub fn place_flat_row(
+    block: &[u8],
+    settings: Settings,
+    p: JudgePos,
+    records: &[u8],
+    payload: &[u8],
+    out: &mut [u8],
+    at: usize,
+) -> Written
+    requires { ⌜ RowJudgeable (now block) (now records) (now payload) × (Judged.Fits p ≡ judgedRow (now block) (limits settings) (now records) (now payload))
+        × (at ≤ min (length (now out)) 4294967295) ⌝ }
+    ensures answer { λ r. ⌜ r ≡ placedRow (now (block .entry)) (limits settings) (now (records .entry)) (now (payload .entry)) (now (out .entry)) at .answer ⌝ }
+    ensures out { λ _. ⌜ now (out .exit) ≡ placedRow (now (block .entry)) (limits settings) (now (records .entry)) (now (payload .entry)) (now (out .entry)) at .output ⌝ }
+{
+    let row = Extent {
+        table: 0,
+        bytes: p.bytes,
+        records: p.at as u64,
+        payload: p.from as u64,
+    };
+    let placed = room_for(row, at, out.len());
+    let Written::Row(own) = placed else {
+        return placed;
+    };
+    put_flat_row(block, records, payload, out, at);
     Written::Row(own)
 }
 

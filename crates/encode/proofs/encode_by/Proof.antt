@@ -12,8 +12,8 @@ flat-row-requires c κs = search needs
 enum-known-now : tie.Need-enum-known-now
 enum-known-now c = search needs
 
-place-row-requires : tie.Need-place-row-requires
-place-row-requires c κs =
+place-flat-row-requires : tie.Need-place-flat-row-requires
+place-flat-row-requires c κs =
     let s = c .before .before .before .before .before .before .before .before .before in
     let seen = c .before .before .before .before .flat-row .ensures _ (c .before .before .now .given .1) in
     (judgeable _ (s .args .settings) _ _ (s .args .output .now) (s .args .at) (s .pre .0) _ (seen .form) refl, seen .row, s .pre .1)
@@ -25,7 +25,7 @@ returns : tie.Need-returns
 returns c =
     let s = c .before .before .before .before .before .before .before .before .before .before .before .before in
     let seen = c .before .before .before .before .before .before .before .flat-row .ensures _ (c .before .before .before .before .before .now .given .1) in
-    row-encoded _ (s .args .settings) _ _ (s .args .output .now) (s .args .at) (s .pre .0) _ (seen .form) refl _ _ (c .before .before .place-row .ensures .0) (c .before .before .place-row .ensures .1)
+    row-encoded _ (s .args .settings) _ _ (s .args .output .now) (s .args .at) (s .pre .0) _ (seen .form) refl _ _ (c .before .before .place-flat-row .ensures .0) (c .before .before .place-flat-row .ensures .1)
 
 enum-told : tie.Need-enum-told
 enum-told c = search needs
@@ -61,7 +61,7 @@ encode-by-spec =
     (tie.spec
     flat-row-requires
     enum-known-now
-    place-row-requires
+    place-flat-row-requires
     same-length
     returns
     enum-told
