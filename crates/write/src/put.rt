@@ -377,18 +377,18 @@ pub fn put_flat_row(
     out: &mut [u8],
     to: usize,
 ) -> usize
-    requires { ⌜ RowWritable (now block) (now records) (now payload) to (length (now out)) ⌝ }
-    ensures next { λ r. ⌜ r ≡ to + length (rowBytes (now (block .entry)) (now (records .entry)) (now (payload .entry))) ⌝ }
-    ensures out { λ _. ⌜ now (out .exit) ≡ over (now (out .entry)) to (rowBytes (now (block .entry)) (now (records .entry)) (now (payload .entry))) ⌝ }
+    requires { ⌜ RowWritable (now block) (now records) (now payload) start (length (now out)) ⌝ }
+    ensures next { λ r. ⌜ r ≡ start + length (rowBytes (now (block .entry)) (now (records .entry)) (now (payload .entry))) ⌝ }
+    ensures out { λ _. ⌜ now (out .exit) ≡ over (now (out .entry)) start (rowBytes (now (block .entry)) (now (records .entry)) (now (payload .entry))) ⌝ }
 {
-    put16(out, to, 0);
+    put16(out, start, 0);
     let own = value_record_at(records, 0);
     let size = own.size;
     let first = node_first(block, 0);
     let mut q = WritePos {
         at: 1,
         from: 0,
-        to: to + 2,
+        to: start + 2,
     };
     let mut i: u64 = 0;
     while i < size {
