@@ -375,7 +375,7 @@ pub fn put_flat_row(
     records: &[u8],
     payload: &[u8],
     out: &mut [u8],
-    to: usize,
+    start: usize,
 ) -> usize
     requires { ⌜ RowWritable (now block) (now records) (now payload) start (length (now out)) ⌝ }
     ensures next { λ r. ⌜ r ≡ start + length (rowBytes (now (block .entry)) (now (records .entry)) (now (payload .entry))) ⌝ }
