@@ -8,7 +8,7 @@ use Rattle.rules.specs.Names.{ascii}
 use Rattle.rules.specs.Refusals.{lineOf, labelsOf, inBytes, reportOf}
 use Rattle.rules.specs.Lines.{decimal, word, carried, stoppedAt, endLine, refusedLine, runLineOf, runLine}
 use Rattle.rules.specs.declared.refusal.Why.{Why}
-use Rattle.rules.specs.declared.refusal.Why.the-variants.{Setting, BadSchemaTable, TooDeep, UnexpectedChildren, TooManyChildren, EmptyTableSchemas, UnknownRegistryReference, TableSchemaRootMustBeTuple, TableSchemaMustBeTuple, TableSchemaChildMissingName, MissingTableSchema, Truncated, RowTooLarge, BlobTooLarge, ValueDoesNotMatchSchema, TupleLength, InvalidVariantTag, BadValueTable, NoNodeRoom, NoPayloadRoom, NoOutputRoom}
+use Rattle.rules.specs.declared.refusal.Why.the-variants.{Setting, BadSchemaTable, TooDeep, UnexpectedChildren, TooManyChildren, EmptyTableSchemas, UnknownRegistryReference, TableSchemaRootMustBeTuple, TableSchemaMustBeTuple, TableSchemaChildMissingName, MissingTableSchema, Truncated, RowTooLarge, BlobTooLarge, ValueDoesNotMatchSchema, TupleLength, InvalidVariantTag, BadValueTable, NoNodeRoom, NoPayloadRoom, NoOutputRoom, NoIndexRoom, IndexMismatch, NoSuchRow}
 use Rattle.rules.specs.declared.refusal.Refusal.{Refusal}
 use Rattle.rules.specs.declared.refusal.RefusalLine.{RefusalLine}
 use Rattle.rules.specs.declared.answer.Ran.{Ran}
@@ -39,6 +39,9 @@ name-word BadValueTable = refl
 name-word (NoNodeRoom needed) = refl
 name-word (NoPayloadRoom needed) = refl
 name-word (NoOutputRoom needed) = refl
+name-word NoIndexRoom = refl
+name-word IndexMismatch = refl
+name-word NoSuchRow = refl
 
 module _ (r : Refusal) (rows bytes : ℕ) where
   abbrev number : List ℕ

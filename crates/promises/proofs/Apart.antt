@@ -4,7 +4,9 @@ use Prim.Native.Nat.{ℕ, _-_}
 use mathlib.Core.Path.{_≡_, refl, sym, ap, _∙_}
 use mathlib.Core.List.{List, [], _∷_}
 use native.Mathlib.Omega.{arith}
+use lib.Dec.{leb}
 use lib.ListN.{getD}
+use Rattle.rules.specs.Choice.{pick}
 use Rattle.rules.specs.Refusals.{lineOf}
 use Rattle.rules.specs.Answers.{Said, said, noneSaid, rowSaid, readSaid, stopSaid, writtenSaid, checkedSaid}
 use Rattle.rules.specs.declared.refusal.Refusal.{Refusal}
@@ -17,7 +19,7 @@ use Rattle.rules.specs.declared.answer.Stop.{Stop}
 use Rattle.rules.specs.declared.answer.Written.{Written}
 use Rattle.rules.proofs.Answers.{refusal-number, one-row}
 
--- the reasons in the order of their numbers, with three values
+-- the reasons of document 01 in the order of their numbers, with three values
 cases : ℕ → ℕ → ℕ → List Why
 cases a b c =
     why.Setting
@@ -43,12 +45,16 @@ cases a b c =
     ∷ why.NoOutputRoom a
     ∷ []
 
+-- and those of document 02, from 30 on
+later : List Why
+later = why.NoIndexRoom ∷ why.IndexMismatch ∷ why.NoSuchRow ∷ []
+
 -- the one of a number and what it carries
 back : ℕ → List ℕ → Why
-back n xs = getD (cases (getD xs 0 0) (getD xs 1 0) (getD xs 2 0)) (n - 1) why.Setting
+back n xs = pick (leb 30 n) (getD later (n - 30) why.Setting) (getD (cases (getD xs 0 0) (getD xs 1 0) (getD xs 2 0)) (n - 1) why.Setting)
 
 back-line : (w : Why) → back (lineOf w .number) (lineOf w .carries) ≡ w
-unfolding back cases lineOf
+unfolding back cases later lineOf pick
 back-line why.Setting = refl
 back-line why.BadSchemaTable = refl
 back-line why.TooDeep = refl
@@ -70,6 +76,9 @@ back-line why.BadValueTable = refl
 back-line (why.NoNodeRoom needed) = refl
 back-line (why.NoPayloadRoom needed) = refl
 back-line (why.NoOutputRoom needed) = refl
+back-line why.NoIndexRoom = refl
+back-line why.IndexMismatch = refl
+back-line why.NoSuchRow = refl
 
 pub refusals-apart : (r r′ : Refusal) → said r ≡ said r′ → r ≡ r′
 unfolding said

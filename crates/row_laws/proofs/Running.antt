@@ -12,7 +12,7 @@ use Rattle.rules.specs.Bytes.{Bytes}
 use Rattle.rules.specs.Format.{Format}
 use Rattle.rules.specs.Value.{Value}
 use Rattle.rules.specs.Walk.{Limits, Pos, Answer, Got, after}
-use Rattle.rules.specs.Reading.{limits, door, through, start, rowAt, extent, skipped, skipFrom, skipRule, RowSpan, Run, goOn, runFrom, byteCount, Iterated, at-end, at-refusal, one-row, refusedRun, endedRun, runRule}
+use Rattle.rules.specs.Reading.{limits, door, through, start, rowAt, extent, skipped, skipFrom, skipRule, Run, goOn, runFrom, byteCount, Iterated, at-end, at-refusal, one-row, refusedRun, endedRun, runRule}
 use Rattle.rules.specs.Answers.{readSaid, stopSaid}
 use Rattle.rules.specs.declared.settings.Settings.{Settings}
 use Rattle.rules.specs.declared.refusal.Refusal.{Refusal}
@@ -21,6 +21,7 @@ use Rattle.rules.specs.declared.answer.Door.the-variants as door-is
 use Rattle.rules.specs.declared.answer.Extent.{Extent}
 use Rattle.rules.specs.declared.answer.Read.{Read}
 use Rattle.rules.specs.declared.answer.Read.the-variants.{Row, End, Refused}
+use Rattle.rules.specs.declared.answer.RowSpan.{RowSpan}
 use Rattle.rules.specs.declared.answer.Stop.{Stop}
 use Rattle.row_laws.proofs.TableRows.{row-agrees}
 use Rattle.row_laws.proofs.Door.{MayAsk, through-end, door-asked, behind-open}

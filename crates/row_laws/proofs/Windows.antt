@@ -17,7 +17,7 @@ use Rattle.rules.specs.Refusals.{lineOf, refusalNumber, Setting}
 use Rattle.rules.specs.Format.{Format, sizesOk, formatRules, formatRule}
 use Rattle.rules.specs.Value.{Value}
 use Rattle.rules.specs.Walk.{Limits, Pos, Answer, Got, onward}
-use Rattle.rules.specs.Reading.{settingsOk, limits, whenAccepted, door, through, rowAt, extent, skipped, refusedRun, endedRun, runRule, ranOf, skipFrom, RowSpan, Run, goOn, runFrom, rowCount, byteCount}
+use Rattle.rules.specs.Reading.{settingsOk, limits, whenAccepted, door, through, rowAt, extent, skipped, refusedRun, endedRun, runRule, ranOf, skipFrom, Run, goOn, runFrom, rowCount, byteCount}
 use Rattle.rules.specs.Windows.{moved, PlaceInside, movedAnswer, WasCut, movedStop, movedRow, goesOn, continued, added, runAfter}
 use Rattle.rules.specs.declared.settings.Settings.{Settings}
 use Rattle.rules.specs.declared.refusal.Refusal.{Refusal}
@@ -27,6 +27,7 @@ use Rattle.rules.specs.declared.answer.Door.the-variants as door-is
 use Rattle.rules.specs.declared.answer.Extent.{Extent}
 use Rattle.rules.specs.declared.answer.Read.{Read}
 use Rattle.rules.specs.declared.answer.Read.the-variants.{Row, End, Refused}
+use Rattle.rules.specs.declared.answer.RowSpan.{RowSpan}
 use Rattle.rules.specs.declared.answer.Stop.{Stop}
 use Rattle.rules.specs.declared.answer.Ran.{Ran}
 use Rattle.rules.proofs.Tests.{and-both, and-false}

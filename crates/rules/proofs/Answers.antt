@@ -38,6 +38,9 @@ line-number why.BadValueTable e = omega arith
 line-number (why.NoNodeRoom needed) e = omega arith
 line-number (why.NoPayloadRoom needed) e = omega arith
 line-number (why.NoOutputRoom needed) e = omega arith
+line-number why.NoIndexRoom e = omega arith
+line-number why.IndexMismatch e = omega arith
+line-number why.NoSuchRow e = omega arith
 
 pub refusal-number : (r : Refusal) → said r .number ≡ 0 → ⊥
 unfolding said

@@ -21,6 +21,7 @@ pub mod Reasons
 pub mod Good
 pub mod Answers
 pub mod Windows
+pub mod Index
 pub mod Writing
 pub mod Lines
 pub mod RoundTrip

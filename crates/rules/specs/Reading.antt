@@ -25,6 +25,7 @@ use Rattle.rules.specs.declared.answer.Checked.{Checked}
 use Rattle.rules.specs.declared.answer.Door.{Door}
 use Rattle.rules.specs.declared.answer.Door.the-variants.{Open}
 use Rattle.rules.specs.declared.answer.Extent.{Extent}
+use Rattle.rules.specs.declared.answer.RowSpan.{RowSpan}
 use Rattle.rules.specs.declared.answer.Read.{Read}
 use Rattle.rules.specs.declared.answer.Read.the-variants.{Row, End}
 use Rattle.rules.specs.declared.answer.Stop.{Stop}
@@ -121,11 +122,6 @@ unfoldable pub skipRule : Format → Settings → List ℕ → ℕ → Read
 skipRule f s inp at = through (door f s inp at) Read.Refused End (skipped at (rowAt f inp (limits s) at))
 
 -- ---- the run: the rows that are accepted one after another from a position on, and why it stops
-pub record RowSpan : Type 0 where
-  pub offset : ℕ
-  pub size : ℕ
-  pub table : ℕ
-
 pub record Run : Type 0 where
   pub rows : List RowSpan
   pub stop : Stop

@@ -17,7 +17,7 @@ use Rattle.rules.specs.declared.refusal.Why.the-variants as why
 use Rattle.rules.specs.declared.answer.Checked.{Checked}
 use Rattle.rules.specs.declared.answer.Checked.the-variants.{Accepted, Refused}
 
--- A line of document 01's table of refusals: number, name, carried values and what each of them is, and whether the place is an offset in
+-- A line of the documents' table of refusals: number, name, carried values and what each of them is, and whether the place is an offset in
 -- the stream that is read, so that it moves with the stream.
 pub record Line : Type 0 where
   pub number : ℕ
@@ -55,6 +55,9 @@ lineOf why.BadValueTable = stays 18 "BadValueTable" [] []
 lineOf (why.NoNodeRoom needed) = moves 19 "NoNodeRoom" (needed ∷ []) (label.Needed ∷ [])
 lineOf (why.NoPayloadRoom needed) = moves 20 "NoPayloadRoom" (needed ∷ []) (label.Needed ∷ [])
 lineOf (why.NoOutputRoom needed) = stays 21 "NoOutputRoom" (needed ∷ []) (label.Needed ∷ [])
+lineOf why.NoIndexRoom = stays 30 "NoIndexRoom" [] []
+lineOf why.IndexMismatch = stays 31 "IndexMismatch" [] []
+lineOf why.NoSuchRow = stays 32 "NoSuchRow" [] []
 
 abbrev pub refusalNumber : Refusal → ℕ
 refusalNumber r = lineOf (r .why) .number
@@ -135,6 +138,15 @@ NoPayloadRoom needed place = record { why = why.NoPayloadRoom needed; place = pl
 
 abbrev pub NoOutputRoom : ℕ → ℕ → Refusal
 NoOutputRoom needed place = record { why = why.NoOutputRoom needed; place = place }
+
+abbrev pub NoIndexRoom : Refusal
+NoIndexRoom = record { why = why.NoIndexRoom; place = 0 }
+
+abbrev pub IndexMismatch : Refusal
+IndexMismatch = record { why = why.IndexMismatch; place = 0 }
+
+abbrev pub NoSuchRow : Refusal
+NoSuchRow = record { why = why.NoSuchRow; place = 0 }
 
 -- ---- checks one after another
 

@@ -10,11 +10,12 @@ use Rattle.rules.specs.Choice.{pick, _and_}
 use Rattle.rules.specs.Refusals.{Setting, lineOf, refusalNumber}
 use Rattle.rules.specs.Walk.{Answer, Got, onward}
 use Rattle.rules.specs.Format.{Format}
-use Rattle.rules.specs.Reading.{RowSpan, Run, byteCount, ranOf, refusedRun, runRule}
+use Rattle.rules.specs.Reading.{Run, byteCount, ranOf, refusedRun, runRule}
 use Rattle.rules.specs.declared.refusal.Refusal.{Refusal}
 use Rattle.rules.specs.declared.answer.Stop.{Stop}
 use Rattle.rules.specs.declared.answer.Stop.the-variants.{End, Refused}
 use Rattle.rules.specs.declared.answer.Ran.{Ran}
+use Rattle.rules.specs.declared.answer.RowSpan.{RowSpan}
 use Rattle.rules.specs.declared.settings.Settings.{Settings}
 
 -- A refusal of a slice, told of a stream in which the slice starts at n: in reading, places count from the slice's start, and the table of

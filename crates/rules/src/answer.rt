@@ -35,6 +35,13 @@ pub struct Extent {
     pub payload: u64,
 }
 
+// A row of a stream: where it begins, how long it is, and which table it is of.
+pub struct RowSpan {
+    pub offset: u64,
+    pub size: u64,
+    pub table: u64,
+}
+
 // What reading at a position answers.
 pub enum Read {
     Row(Extent),

@@ -1,6 +1,6 @@
 // The types that all crates share, a file for each topic: wire types, records of the flat tables, settings, refusals, answers, what
 // a host is told of a value record.
-// What is right is written down in specs/, as definitions that read beside document 01.
+// What is right is written down in specs/, as definitions that read beside documents 01 and 02.
 pub mod answer;
 pub mod host_answer;
 pub mod refusal;
@@ -15,6 +15,7 @@ pub use answer::Order;
 pub use answer::Purpose;
 pub use answer::Ran;
 pub use answer::Read;
+pub use answer::RowSpan;
 pub use answer::Stop;
 pub use answer::Written;
 pub use host_answer::Queried;

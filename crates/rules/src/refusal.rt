@@ -1,9 +1,9 @@
-// Why a call is refused, and document 01's table of refusals in code: a new refusal is a case and an arm here.
+// Why a call is refused, and the documents' table of refusals in code: a new refusal is a case and an arm here.
 ghost use mathlib.Core.Path.{_≡_};
 ghost use Rattle.rules.specs.Refusals.{lineOf, inBytes, reportOf};
 
-// Why a call is refused: a case for each number of document 01, from 1 on and in order, with the values that it carries. Types are
-// wire codes, kinds are kinds of value records.
+// Why a call is refused: a case for each number of documents 01 and 02, in their order, with the values that it carries. Types are wire
+// codes, kinds are kinds of value records.
 pub enum Why {
     Setting,
     BadSchemaTable,
@@ -67,6 +67,9 @@ pub enum Why {
     NoOutputRoom {
         needed: u64,
     },
+    NoIndexRoom,
+    IndexMismatch,
+    NoSuchRow,
 }
 
 // A refusal: why, and at what place, 0 where there is none.
@@ -75,7 +78,7 @@ pub struct Refusal {
     pub place: u64,
 }
 
-// A refusal in numbers: document 01's number, the place, and the carried values, 0 where there is none.
+// A refusal in numbers: the documents' number, the place, and the carried values, 0 where there is none.
 pub struct Report {
     pub number: u32,
     pub place: u64,
@@ -190,7 +193,7 @@ impl Labels {
     };
 }
 
-// A line of document 01's table of refusals: number, name, with blanks after it, whether the place is an offset in the stream
+// A line of the documents' table of refusals: number, name, with blanks after it, whether the place is an offset in the stream
 // that is read, and carried values, 0 where there is none, with what each of them is.
 pub struct RefusalLine {
     pub number: u32,
@@ -431,6 +434,33 @@ impl Why {
                 0,
                 Labels::NEEDED,
             ),
+            Why::NoIndexRoom => line_of(
+                30,
+                *b"NoIndexRoom                 ",
+                false,
+                0,
+                0,
+                0,
+                Labels::NONE,
+            ),
+            Why::IndexMismatch => line_of(
+                31,
+                *b"IndexMismatch               ",
+                false,
+                0,
+                0,
+                0,
+                Labels::NONE,
+            ),
+            Why::NoSuchRow => line_of(
+                32,
+                *b"NoSuchRow                   ",
+                false,
+                0,
+                0,
+                0,
+                Labels::NONE,
+            ),
         }
     }
 }
@@ -459,6 +489,21 @@ impl Refusal {
 
     pub const BAD_VALUE_TABLE: Refusal = Refusal {
         why: Why::BadValueTable,
+        place: 0,
+    };
+
+    pub const NO_INDEX_ROOM: Refusal = Refusal {
+        why: Why::NoIndexRoom,
+        place: 0,
+    };
+
+    pub const INDEX_MISMATCH: Refusal = Refusal {
+        why: Why::IndexMismatch,
+        place: 0,
+    };
+
+    pub const NO_SUCH_ROW: Refusal = Refusal {
+        why: Why::NoSuchRow,
         place: 0,
     };
 

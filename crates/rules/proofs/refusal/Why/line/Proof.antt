@@ -157,6 +157,24 @@ enum-known-self-16 c = search needs
 line-of-requires-21 : tie.Need-line-of-requires-21
 line-of-requires-21 c κs = search needs
 
+enum-told-6 : tie.Need-enum-told-6
+enum-told-6 c = search needs
+
+line-of-requires-22 : tie.Need-line-of-requires-22
+line-of-requires-22 c κs = search needs
+
+enum-told-7 : tie.Need-enum-told-7
+enum-told-7 c = search needs
+
+line-of-requires-23 : tie.Need-line-of-requires-23
+line-of-requires-23 c κs = search needs
+
+enum-told-8 : tie.Need-enum-told-8
+enum-told-8 c = search needs
+
+line-of-requires-24 : tie.Need-line-of-requires-24
+line-of-requires-24 c κs = search needs
+
 returns : tie.Need-returns
 unfolding inBytes labelsOf lineOf ascii
 returns c = rw (c .before .before .before .enum-told .given .1) (c .line-of .ensures)
@@ -241,6 +259,18 @@ returns-21 : tie.Need-returns-21
 unfolding inBytes labelsOf lineOf ascii
 returns-21 c = rw (c .before .before .before .before .self16 .given .1) (c .line-of21 .ensures)
 
+returns-22 : tie.Need-returns-22
+unfolding inBytes labelsOf lineOf ascii
+returns-22 c = rw (c .before .before .before .enum-told6 .given .1) (c .line-of22 .ensures)
+
+returns-23 : tie.Need-returns-23
+unfolding inBytes labelsOf lineOf ascii
+returns-23 c = rw (c .before .before .before .enum-told7 .given .1) (c .line-of23 .ensures)
+
+returns-24 : tie.Need-returns-24
+unfolding inBytes labelsOf lineOf ascii
+returns-24 c = rw (c .before .before .before .enum-told8 .given .1) (c .line-of24 .ensures)
+
 pub line-spec : {M : Type 1} → statement M
 line-spec =
     tie.close
@@ -296,6 +326,12 @@ line-spec =
     line-of-requires-20
     enum-known-self-16
     line-of-requires-21
+    enum-told-6
+    line-of-requires-22
+    enum-told-7
+    line-of-requires-23
+    enum-told-8
+    line-of-requires-24
     returns
     returns-2
     returns-3
@@ -316,4 +352,7 @@ line-spec =
     returns-18
     returns-19
     returns-20
-    returns-21)
+    returns-21
+    returns-22
+    returns-23
+    returns-24)
