@@ -1,2 +1,4 @@
 pub mod Records
 pub mod Rows
+pub mod Ended
+pub mod Next

@@ -67,3 +67,14 @@ module _ (f : Format) (inp : List ℕ) (lim : Limits) where
   iterates-from (suc i) {at = at} h (accepted {e = x} {rows = rows} e rest) =
       let z : (at + x .bytes) + byteCount (take i rows) ≡ at + (x .bytes + byteCount (take i rows)) = omega arith in
       rw z at (iterates-from i (omega arith) rest)
+
+  -- row i begins inside the stream
+  pub begins-inside : Bytes inp → (i : ℕ) {at : ℕ} {rows : List RowSpan} {stop : Stop} → i ≤ rowCount rows → Iterates f inp lim at rows stop → at ≤ length inp → at + byteCount (take i rows) ≤ length inp
+  unfolding byteCount rowCount
+  begins-inside bs zero h x l = omega arith
+  begins-inside bs (suc i) h (ended e) l = absurd (omega arith)
+  begins-inside bs (suc i) h (refused e) l = absurd (omega arith)
+  begins-inside bs (suc i) {at = at} h (accepted {e = x} {rows = rows} e rest) l =
+      let g = skip-goes f inp lim bs at x l e in
+      let r = begins-inside bs i (omega arith) rest (g .1) in
+      omega (arith, r)
