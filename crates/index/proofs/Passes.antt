@@ -188,9 +188,9 @@ module _ (f : Format) (s : Settings) (inp : List ℕ) where
                   let st : Stands index 0 (indexOf (take count whole)) = rw k at (part-stands index 0 (indexRecordStart count) (omega arith)) in
                   let z : count ≡ i + suc (count - (i + 1)) = omega arith in
                   let t : take count whole ≡ take i whole ++ (span at e ∷ take (count - (i + 1)) (here .after)) =
-                      ap (λ (n : ℕ). take n whole) z ∙ (take-add i (suc (count - (i + 1))) whole ∙ rw (here .first)) in
+                  ap (λ (n : ℕ). take n whole) z ∙ (take-add i (suc (count - (i + 1))) whole ∙ rw (here .first)) in
                   let st′ : Stands index 0 (indexOf (take i whole) ++ (indexRecord (span at e) ++ indexOf (take (count - (i + 1)) (here .after)))) =
-                      rw (t, index-append (take i whole) (span at e ∷ take (count - (i + 1)) (here .after))) at st in
+                  rw (t, index-append (take i whole) (span at e ∷ take (count - (i + 1)) (here .after))) at st in
                   let r = stands-right index 0 (indexOf (take i whole)) (indexRecord (span at e) ++ indexOf (take (count - (i + 1)) (here .after))) st′ in
                   let n = before i (omega arith) in
                   let y : 0 + length (indexOf (take i whole)) ≡ indexRecordStart i = omega (arith, n) in

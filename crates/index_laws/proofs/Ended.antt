@@ -39,7 +39,7 @@ module _ (f : Format) (s : Settings) (inp : List ℕ) where
     pub no-rows : rows ≡ []
     pub no-bytes : length inp ≡ 0
 
-  at-end : door f s inp 0 ≡ door-is.End → length inp ≡ 0
+  pub at-end : door f s inp 0 ≡ door-is.End → length inp ≡ 0
   unfolding door pick whenAccepted
   at-end e = by (boundsOk s f inp and leb 0 (length inp)) (formatRules f) (eqb 0 (length inp)) refl e
     where
