@@ -2,10 +2,10 @@
 ghost use mathlib.Core.Path.{_≡_};
 ghost use Rattle.schema.specs.Slices.{slices};
 ghost use Rattle.skiff.specs.Calls.{checkFormatGiven, checkEncoderSchemaGiven, parseGiven};
-use super::answer::ANSWER;
-use super::answer::answer_of_checked;
-use super::answer::answer_of_known;
-use super::answer::give;
+use super::ANSWER;
+use answers::answer_of_checked;
+use answers::answer_of_known;
+use answers::give;
 
 // Whether four slices are a format.
 #[no_mangle]

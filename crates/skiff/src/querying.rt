@@ -1,9 +1,9 @@
 // The call that asks for the value of one record.
 ghost use mathlib.Core.Path.{_≡_};
 ghost use Rattle.skiff.specs.Calls.{valueGiven};
-use super::answer::ANSWER;
-use super::answer::answer_of_queried;
-use super::answer::give;
+use super::ANSWER;
+use answers::answer_of_queried;
+use answers::give;
 
 // The value of one record of a value table, as far as the record can be judged alone.
 #[no_mangle]

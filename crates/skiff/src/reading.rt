@@ -2,10 +2,10 @@
 ghost use mathlib.Core.Path.{_≡_};
 ghost use Rattle.schema.specs.Slices.{slices};
 ghost use Rattle.skiff.specs.Calls.{settingsOf, skipGiven, runGiven, decodeGiven};
-use super::answer::ANSWER;
-use super::answer::answer_of_ran;
-use super::answer::answer_of_read;
-use super::answer::give;
+use super::ANSWER;
+use answers::answer_of_ran;
+use answers::answer_of_read;
+use answers::give;
 use rules::Settings;
 
 // The row at a position.

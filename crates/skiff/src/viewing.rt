@@ -2,9 +2,9 @@
 ghost use mathlib.Core.Path.{_≡_};
 ghost use Rattle.rules.specs.View.{kindRule, tagRule, childCountRule, afterRule, fieldRule};
 ghost use Rattle.skiff.specs.Calls.{viewGiven};
-use super::answer::ANSWER;
-use super::answer::answer_of_viewed;
-use super::answer::give;
+use super::ANSWER;
+use answers::answer_of_viewed;
+use answers::give;
 use rules::Viewed;
 
 // Gives to the host what is seen.

@@ -1,12 +1,12 @@
 // The call that reads a stream in windows.
 ghost use mathlib.Core.Path.{_≡_};
 ghost use Rattle.schema.specs.Slices.{slices};
-ghost use Rattle.skiff.specs.Answers.{answerOfWindow};
+ghost use Rattle.answers.specs.Answers.{answerOfWindow};
 ghost use Rattle.skiff.specs.Calls.{settingsOf, runWindowGiven};
-use super::answer::ANSWER;
-use super::answer::AnswerNumbers;
-use super::answer::answer_of_ran;
-use super::answer::give;
+use super::ANSWER;
+use answers::AnswerNumbers;
+use answers::answer_of_ran;
+use answers::give;
 use rules::Extent;
 use rules::Settings;
 use rules::Stop;

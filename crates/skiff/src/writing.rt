@@ -1,10 +1,10 @@
 // The calls about a value table: the row that it is, written, and whether it is one.
 ghost use mathlib.Core.Path.{_≡_};
 ghost use Rattle.skiff.specs.Calls.{settingsOf, encodeGiven, checkValueTableGiven};
-use super::answer::ANSWER;
-use super::answer::answer_of_checked;
-use super::answer::answer_of_written;
-use super::answer::give;
+use super::ANSWER;
+use answers::answer_of_checked;
+use answers::answer_of_written;
+use answers::give;
 use rules::Settings;
 
 // The value of a value table, as a row at a position of the output.

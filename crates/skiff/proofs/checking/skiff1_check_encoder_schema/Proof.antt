@@ -1,6 +1,6 @@
 use borrow.Author.Needs.{needs}
 use Rattle.skiff.specs.Calls.{checkEncoderSchemaGiven}
-use Rattle.skiff.specs.Answers.{answerOfChecked}
+use Rattle.answers.specs.Answers.{answerOfChecked}
 use Rattle.skiff.proofs.Laws.{short-given, room-given}
 use Rattle.skiff.proofs.checking.skiff1_check_encoder_schema.Statement.{statement}
 use Rattle.skiff.proofs.checking.skiff1_check_encoder_schema.Tie as tie

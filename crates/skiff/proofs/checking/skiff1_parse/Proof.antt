@@ -1,6 +1,6 @@
 use borrow.Author.Needs.{needs}
 use Rattle.skiff.specs.Calls.{parseGiven}
-use Rattle.skiff.specs.Answers.{answerOfKnown}
+use Rattle.answers.specs.Answers.{answerOfKnown}
 use Rattle.skiff.proofs.Laws.{short-given, room-given}
 use Rattle.skiff.proofs.checking.skiff1_parse.Statement.{statement}
 use Rattle.skiff.proofs.checking.skiff1_parse.Tie as tie

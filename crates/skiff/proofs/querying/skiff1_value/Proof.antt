@@ -1,8 +1,7 @@
 use borrow.Author.Needs.{needs}
 use Rattle.skiff.specs.Calls.{valueGiven}
-use Rattle.skiff.specs.Answers.{answerOfQueried}
-use Rattle.skiff.proofs.Laws.{short-given, room-given}
-use Rattle.skiff.proofs.Told.{says-bits}
+use Rattle.answers.specs.Answers.{answerOfQueried}
+use Rattle.skiff.proofs.Laws.{short-given, room-given, says-bits}
 use Rattle.skiff.proofs.querying.skiff1_value.Statement.{statement}
 use Rattle.skiff.proofs.querying.skiff1_value.Tie as tie
 

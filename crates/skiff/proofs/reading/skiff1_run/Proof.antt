@@ -1,6 +1,6 @@
 use borrow.Author.Needs.{needs}
 use Rattle.skiff.specs.Calls.{runGiven}
-use Rattle.skiff.specs.Answers.{answerOfRan}
+use Rattle.answers.specs.Answers.{answerOfRan}
 use Rattle.skiff.proofs.Laws.{short-given, room-given}
 use Rattle.skiff.proofs.reading.skiff1_run.Statement.{statement}
 use Rattle.skiff.proofs.reading.skiff1_run.Tie as tie

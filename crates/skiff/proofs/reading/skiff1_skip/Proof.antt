@@ -1,6 +1,6 @@
 use borrow.Author.Needs.{needs}
 use Rattle.skiff.specs.Calls.{skipGiven}
-use Rattle.skiff.specs.Answers.{answerOfRead}
+use Rattle.answers.specs.Answers.{answerOfRead}
 use Rattle.skiff.proofs.Laws.{short-given, room-given}
 use Rattle.skiff.proofs.reading.skiff1_skip.Statement.{statement}
 use Rattle.skiff.proofs.reading.skiff1_skip.Tie as tie

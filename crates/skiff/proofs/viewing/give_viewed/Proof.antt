@@ -1,7 +1,7 @@
 use mathlib.Core.Path.{refl}
 use borrow.Author.Needs.{needs}
 use Rattle.skiff.specs.Calls.{viewGiven}
-use Rattle.skiff.specs.Answers.{answerOfViewed}
+use Rattle.answers.specs.Answers.{answerOfViewed}
 use Rattle.skiff.proofs.Laws.{short-given, room-given}
 use Rattle.skiff.proofs.viewing.give_viewed.Statement.{statement}
 use Rattle.skiff.proofs.viewing.give_viewed.Tie as tie

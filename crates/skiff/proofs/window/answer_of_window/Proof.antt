@@ -1,6 +1,6 @@
 use borrow.Author.Needs.{needs}
 use Rattle.rules.specs.Choice.{pick}
-use Rattle.skiff.proofs.Told.{window-told}
+use Rattle.answers.proofs.Told.{window-told}
 use Rattle.skiff.proofs.window.answer_of_window.Statement.{statement}
 use Rattle.skiff.proofs.window.answer_of_window.Tie as tie
 

@@ -1,6 +1,6 @@
 use borrow.Author.Needs.{needs}
 use Rattle.skiff.specs.Calls.{runWindowGiven}
-use Rattle.skiff.specs.Answers.{answerOfWindow}
+use Rattle.answers.specs.Answers.{answerOfWindow}
 use Rattle.skiff.proofs.Laws.{short-given, room-given}
 use Rattle.skiff.proofs.window.skiff1_run_window.Statement.{statement}
 use Rattle.skiff.proofs.window.skiff1_run_window.Tie as tie

@@ -1,6 +1,6 @@
 use borrow.Author.Needs.{needs}
 use Rattle.skiff.specs.Calls.{checkValueTableGiven}
-use Rattle.skiff.specs.Answers.{answerOfChecked}
+use Rattle.answers.specs.Answers.{answerOfChecked}
 use Rattle.skiff.proofs.Laws.{short-given, room-given}
 use Rattle.skiff.proofs.writing.skiff1_check_value_table.Statement.{statement}
 use Rattle.skiff.proofs.writing.skiff1_check_value_table.Tie as tie

@@ -4,7 +4,7 @@ ghost use Prim.Native.Nat.{_+_, _≤_};
 ghost use mathlib.Core.List.{_∷_, []};
 ghost use lib.ListN.{length};
 ghost use Rattle.rules.specs.Bytes.{over};
-ghost use Rattle.skiff.specs.Answers.{words, answerLayout, noRefusal, extentOfBytes, answerOfRead, answerOfRan, answerOfWritten, answerOfChecked, answerOfKnown, answerOfQueried, answerOfViewed};
+ghost use Rattle.answers.specs.Answers.{words, answerLayout, noRefusal, extentOfBytes, answerOfRead, answerOfRan, answerOfWritten, answerOfChecked, answerOfKnown, answerOfQueried, answerOfViewed};
 ghost use Rattle.scalars.specs.Numbers.{SaysBits};
 use rules::Checked;
 use rules::Extent;
@@ -18,9 +18,6 @@ use rules::Written;
 use scalars::scalar_in_numbers;
 use wire::code_of;
 use wire::store::put64;
-
-// The bytes of an answer.
-pub const ANSWER: usize = 88;
 
 // An answer in numbers: 0 a row or what is accepted, 1 an end, 2 a refusal, 3 no wire type; why it is refused; the rows, and what they or the one row take.
 pub struct AnswerNumbers {

@@ -1,7 +1,7 @@
 use borrow.Author.Needs.{needs}
-use Rattle.skiff.proofs.Told.{value-bits, value-told, query-refused}
-use Rattle.skiff.proofs.answer.answer_of_queried.Statement.{statement}
-use Rattle.skiff.proofs.answer.answer_of_queried.Tie as tie
+use Rattle.answers.proofs.Told.{value-bits, value-told, query-refused}
+use Rattle.answers.proofs.answer_of_queried.Statement.{statement}
+use Rattle.answers.proofs.answer_of_queried.Tie as tie
 
 enum-known-queried : tie.Need-enum-known-queried
 enum-known-queried c = search needs

@@ -1,9 +1,9 @@
 use borrow.Author.Needs.{needs}
 use mathlib.Core.Path.{refl}
-use Rattle.skiff.specs.Answers.{answerLayout}
-use Rattle.skiff.proofs.Laws.{eleven}
-use Rattle.skiff.proofs.answer.put_answer.Statement.{statement}
-use Rattle.skiff.proofs.answer.put_answer.Tie as tie
+use Rattle.answers.specs.Answers.{answerLayout}
+use Rattle.answers.proofs.Laws.{eleven}
+use Rattle.answers.proofs.put_answer.Statement.{statement}
+use Rattle.answers.proofs.put_answer.Tie as tie
 
 put64-requires : tie.Need-put64-requires
 put64-requires c κs = search needs

@@ -1,7 +1,7 @@
 use borrow.Author.Needs.{needs}
-use Rattle.skiff.proofs.Told.{number-told, view-refused}
-use Rattle.skiff.proofs.answer.answer_of_viewed.Statement.{statement}
-use Rattle.skiff.proofs.answer.answer_of_viewed.Tie as tie
+use Rattle.answers.proofs.Told.{number-told, view-refused}
+use Rattle.answers.proofs.answer_of_viewed.Statement.{statement}
+use Rattle.answers.proofs.answer_of_viewed.Tie as tie
 
 enum-known-viewed : tie.Need-enum-known-viewed
 enum-known-viewed c = search needs

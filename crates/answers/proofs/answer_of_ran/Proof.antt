@@ -1,7 +1,7 @@
 use borrow.Author.Needs.{needs}
-use Rattle.skiff.proofs.Told.{ran-end, ran-refused}
-use Rattle.skiff.proofs.answer.answer_of_ran.Statement.{statement}
-use Rattle.skiff.proofs.answer.answer_of_ran.Tie as tie
+use Rattle.answers.proofs.Told.{ran-end, ran-refused}
+use Rattle.answers.proofs.answer_of_ran.Statement.{statement}
+use Rattle.answers.proofs.answer_of_ran.Tie as tie
 
 enum-told : tie.Need-enum-told
 enum-told c = search needs

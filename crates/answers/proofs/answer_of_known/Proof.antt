@@ -1,7 +1,7 @@
 use borrow.Author.Needs.{needs}
-use Rattle.skiff.proofs.Told.{known-wire, known-none}
-use Rattle.skiff.proofs.answer.answer_of_known.Statement.{statement}
-use Rattle.skiff.proofs.answer.answer_of_known.Tie as tie
+use Rattle.answers.proofs.Told.{known-wire, known-none}
+use Rattle.answers.proofs.answer_of_known.Statement.{statement}
+use Rattle.answers.proofs.answer_of_known.Tie as tie
 
 enum-known-known : tie.Need-enum-known-known
 enum-known-known c = search needs

@@ -1,7 +1,7 @@
 use borrow.Author.Needs.{needs}
-use Rattle.skiff.proofs.Told.{checked-accepted, checked-refused}
-use Rattle.skiff.proofs.answer.answer_of_checked.Statement.{statement}
-use Rattle.skiff.proofs.answer.answer_of_checked.Tie as tie
+use Rattle.answers.proofs.Told.{checked-accepted, checked-refused}
+use Rattle.answers.proofs.answer_of_checked.Statement.{statement}
+use Rattle.answers.proofs.answer_of_checked.Tie as tie
 
 enum-told : tie.Need-enum-told
 enum-told c = search needs

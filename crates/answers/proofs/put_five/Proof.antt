@@ -1,7 +1,7 @@
 use borrow.Author.Needs.{needs}
-use Rattle.skiff.proofs.Laws.{five}
-use Rattle.skiff.proofs.answer.put_five.Statement.{statement}
-use Rattle.skiff.proofs.answer.put_five.Tie as tie
+use Rattle.answers.proofs.Laws.{five}
+use Rattle.answers.proofs.put_five.Statement.{statement}
+use Rattle.answers.proofs.put_five.Tie as tie
 
 put64-requires : tie.Need-put64-requires
 put64-requires c κs = search needs

@@ -2,11 +2,9 @@
 -- Assumes nothing.
 use Prim.Native.Nat.{ℕ}
 use mathlib.Core.Path.{_≡_}
-use mathlib.Core.List.{List}
 use Rattle.rules.specs.Choice.{pick}
 use Rattle.rules.specs.Refusals.{reportOf}
 use Rattle.rules.specs.Wire.{codeOf}
-use Rattle.rules.specs.Query.{queryRule}
 use Rattle.rules.specs.Windows.{goesOn}
 use Rattle.rules.specs.declared.refusal.Report.{Report}
 use Rattle.rules.specs.declared.wire_type.WireType.{WireType}
@@ -29,9 +27,8 @@ use Rattle.rules.specs.declared.answer.Stop.{Stop}
 use Rattle.rules.specs.declared.answer.Stop.the-variants as stop
 use Rattle.scalars.specs.Numbers.{HasBits, SaysBits, scalarNumbers}
 use Rattle.scalars.specs.declared.ScalarNumbers.{ScalarNumbers}
-use Rattle.scalars.proofs.Said.{query-says-bits}
-use Rattle.skiff.specs.declared.answer.AnswerNumbers.{AnswerNumbers}
-use Rattle.skiff.specs.Answers.{noRefusal, extentOfBytes, answerOfRead, answerOfWritten, answerOfChecked, answerOfKnown, answerOfQueried, answerOfViewed, answerOfRan, whatOf, whyOf, answerOfWindow}
+use Rattle.answers.specs.declared.AnswerNumbers.{AnswerNumbers}
+use Rattle.answers.specs.Answers.{noRefusal, extentOfBytes, answerOfRead, answerOfWritten, answerOfChecked, answerOfKnown, answerOfQueried, answerOfViewed, answerOfRan, whatOf, whyOf, answerOfWindow}
 
 pub told-row : (w : Report) (x : Read) (e : Extent) → x ≡ read.Row e → w ≡ noRefusal → record { what = 0; why = w; rows = 1; row = e } ≡ answerOfRead x
 unfolding answerOfRead
@@ -43,9 +40,6 @@ unfolding answerOfKnown
 known-wire w x t code p q c = rw (p, q, c)
 
 -- a record's value
-pub says-bits : (x : Queried) (table : List ℕ) (i : ℕ) → x ≡ queryRule table i → SaysBits x
-says-bits x table i e = rw e (query-says-bits table i)
-
 pub value-bits : (x : Queried) (s : Scalar) → SaysBits x → x ≡ queried.Value s → HasBits s
 unfolding SaysBits
 value-bits x s b p = rw p at b

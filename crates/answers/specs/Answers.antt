@@ -25,7 +25,7 @@ use Rattle.rules.specs.declared.answer.Ran.{Ran}
 use Rattle.rules.specs.declared.answer.Stop.{Stop}
 use Rattle.rules.specs.declared.answer.Stop.the-variants as stop
 use Rattle.scalars.specs.Numbers.{scalarNumbers}
-use Rattle.skiff.specs.declared.answer.AnswerNumbers.{AnswerNumbers}
+use Rattle.answers.specs.declared.AnswerNumbers.{AnswerNumbers}
 
 -- numbers, one after another
 unfoldable pub words : List ℕ → List ℕ

@@ -1,7 +1,7 @@
 use borrow.Author.Needs.{needs}
-use Rattle.skiff.proofs.Told.{written-row, written-refused}
-use Rattle.skiff.proofs.answer.answer_of_written.Statement.{statement}
-use Rattle.skiff.proofs.answer.answer_of_written.Tie as tie
+use Rattle.answers.proofs.Told.{written-row, written-refused}
+use Rattle.answers.proofs.answer_of_written.Statement.{statement}
+use Rattle.answers.proofs.answer_of_written.Tie as tie
 
 enum-known-answer : tie.Need-enum-known-answer
 enum-known-answer c = search needs
