@@ -87,9 +87,9 @@ use Rattle.value.proofs.table_form as table-form
 use Rattle.fill.proofs.fill_row as fill-row
 use Rattle.decode.proofs.steps.fill_at as fill-at
 use Rattle.decode.proofs.steps.decode_row as decode-row
-use Rattle.write.proofs.judge.judge_leaf as judge-leaf
-use Rattle.write.proofs.judge.next_child as next-judged-child
-use Rattle.write.proofs.judge.judge_row as judge-row
+use Rattle.judge.proofs.walk.judge_leaf as judge-leaf
+use Rattle.judge.proofs.walk.next_child as next-judged-child
+use Rattle.judge.proofs.walk.judge_row as judge-row
 use Rattle.write.proofs.put.put_row as put-row
 use Rattle.write.proofs.put.put_flat_row as put-flat-row
 use Rattle.write.proofs.steps.room_for as room-for-row

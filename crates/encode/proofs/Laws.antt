@@ -28,11 +28,11 @@ use Rattle.rules.proofs.Tests.{and-both}
 use Rattle.rules.proofs.Checks.{refused-not, then-both, pick-accepted}
 use Rattle.block_laws.proofs.Good.{FormedBlock, form-accepts}
 use Rattle.read.proofs.Nodes.{formed-sound}
-use Rattle.write.specs.Table.{IsWhole, wholeValue}
-use Rattle.write.specs.Judging.{RowJudgeable}
-use Rattle.write.specs.Flat.{RowFlat}
+use Rattle.judge.specs.Table.{IsWhole, wholeValue}
+use Rattle.judge.specs.Judging.{RowJudgeable}
+use Rattle.judge.specs.Flat.{RowFlat}
 use Rattle.write.specs.Row.{placedRow}
-use Rattle.write.proofs.Columns.{accepted-whole}
+use Rattle.judge.proofs.Columns.{accepted-whole}
 
 -- a position that is at most m lies below the less of n and m just if it lies below n
 pub within-both : (p n m : ℕ) → p ≤ m → leb p n ≡ leb p (min n m)

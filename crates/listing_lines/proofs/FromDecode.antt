@@ -38,8 +38,8 @@ use Rattle.value_laws.proofs.Flat.{parses}
 use Rattle.value_laws.proofs.Sizes.{length-heads, length-pays}
 use Rattle.promises.proofs.Tables.{written-first, Held, decoded-held}
 use Rattle.schema.specs.Slices.{slices}
-use Rattle.write.specs.Table.{IsWhole, wholeValue}
-use Rattle.write.proofs.Standing.{spot}
+use Rattle.judge.specs.Table.{IsWhole, wholeValue}
+use Rattle.judge.proofs.Standing.{spot}
 use Rattle.lines.specs.Puts.{TextPut}
 use Rattle.listing_lines.specs.Rows.{rootValue, RowListable}
 use Rattle.listing_lines.specs.Pieces.{PieceShown, showPiece, pieceShown}

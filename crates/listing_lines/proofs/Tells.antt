@@ -23,9 +23,9 @@ use Rattle.rules.proofs.Codes.{every-form}
 use Rattle.rules.proofs.Stands.{stands-part, stands-in}
 use Rattle.value_laws.proofs.Records.{size-is, content-is}
 use Rattle.value_laws.proofs.Parse.{Reads}
-use Rattle.write.proofs.Codes.{fixed-range, sized-range, widest}
+use Rattle.judge.proofs.Codes.{fixed-range, sized-range, widest}
 use Rattle.value_laws.proofs.Children.{children}
-use Rattle.write.proofs.Standing.{spot, head, kind-told, size-small, from-in, from-end, count-told, parent}
+use Rattle.judge.proofs.Standing.{spot, head, kind-told, size-small, from-in, from-end, count-told, parent}
 use Rattle.texts.specs.Records.{isStored, kept, IsNumber, Told, contentText}
 use Rattle.listing_lines.specs.Rows.{childCount}
 

@@ -17,10 +17,10 @@ use Rattle.rules.proofs.Over.{length-over, over-at}
 use Rattle.value_laws.proofs.Records.{Shows, tag-is}
 use Rattle.value_laws.proofs.Parse.{Holds, holds, Reads, ReadsI, reads}
 use Rattle.value_laws.proofs.Span.{lands-here, span-in}
-use Rattle.write.specs.Table.{IsWhole, wholeValue, wholeEnd, valueStandingAt}
+use Rattle.judge.specs.Table.{IsWhole, wholeValue, wholeEnd, valueStandingAt}
 use Rattle.write.specs.declared.put.WritePos.{WritePos}
 use Rattle.value_laws.proofs.Children.{untagged, children}
-use Rattle.write.proofs.Standing.{spot, whole-is, head, stands, inside, kind-told, at-end, from-end, from-in, far, deep, below-reads, Turn, turn, turn-stands}
+use Rattle.judge.proofs.Standing.{spot, whole-is, head, stands, inside, kind-told, at-end, from-end, from-in, far, deep, below-reads, Turn, turn, turn-stands}
 use Rattle.lines.specs.Puts.{TextPut}
 use Rattle.lines.proofs.Putting.{put-both}
 use Rattle.texts.specs.Records.{kept, Told, recordLine}

@@ -10,7 +10,7 @@ use Rattle.rules.specs.Value.{Value}
 use Rattle.rules.specs.ValueTable.{Parsed, tagAt, valueAt}
 use Rattle.rules.specs.Listing.{linesOf}
 use Rattle.rules.specs.declared.table_record.ValueRecord.{ValueRecord}
-use Rattle.write.specs.Table.{IsWhole, wholeValue, wholeEnd, valueStandingAt}
+use Rattle.judge.specs.Table.{IsWhole, wholeValue, wholeEnd, valueStandingAt}
 use Rattle.write.specs.declared.put.WritePos.{WritePos}
 use Rattle.listing_lines.specs.declared.rows.RowNode.{RowNode}
 use Rattle.lines.specs.Puts.{TextPut}

@@ -3,7 +3,7 @@ ghost use mathlib.Core.Path.{_≡_};
 ghost use Prim.Native.Nat.{_≤_};
 ghost use lib.ListN.{length};
 ghost use Rattle.rules.specs.Listing.{rowLines};
-ghost use Rattle.write.specs.Table.{wholeValue};
+ghost use Rattle.judge.specs.Table.{wholeValue};
 ghost use Rattle.lines.specs.Puts.{TextPut};
 ghost use Rattle.listing_lines.specs.Rows.{childCount, Listable, Listed, rootValue, RowListable};
 use record::value_record::value_record_at;

@@ -9,36 +9,24 @@ use lib.ListN.{length}
 use Rattle.rules.specs.Bytes.{over}
 use Rattle.rules.specs.Wire.{form}
 use Rattle.rules.specs.Block.{nodeAt}
-use Rattle.rules.specs.Value.{Value, nothing, boolean, number, wide, blob, variant, repeated, tuple, Fits}
 use Rattle.rules.specs.ValueRecord.{valueRecordAt, ValueRecordIn}
-use Rattle.rules.specs.ValueTable.{valueKind, sizeOf}
 use Rattle.rules.specs.Writing.{kindFor}
 use Rattle.rules.specs.declared.table_record.ValueRecord.{ValueRecord}
 use Rattle.rules.proofs.Over.{length-over, over-none}
 use Rattle.read.specs.Children.{shapeOf}
 use Rattle.read.specs.Ready.{HasNode}
-use Rattle.write.specs.Table.{wholeValue, wholeEnd, valueStandingAt}
-use Rattle.write.specs.Putting.{tagBytes, closing, childOf, leafKept, leafSize, leafBytes, putOf, written, Writable, Parted, Placed}
+use Rattle.judge.specs.Table.{wholeValue, wholeEnd, valueStandingAt}
+use Rattle.judge.specs.Tags.{tagBytes}
+use Rattle.write.specs.Putting.{childOf, leafKept, leafSize, leafBytes, putOf, written, Writable, Parted, Placed}
 use Rattle.write.specs.Leads.{Left, LeadsToPut}
 use Rattle.write.specs.declared.put.WritePos.{WritePos}
 use Rattle.write.specs.declared.put.ToPut.{ToPut}
 use Rattle.write.specs.declared.put.ToPut.the-variants.{Leaf, Children}
-use Rattle.write.proofs.Codes.{fixed-range, raw-range, sized-range, no-end}
-use Rattle.write.proofs.Going.{variant-kind}
+use Rattle.write.proofs.Codes.{no-end}
+use Rattle.judge.proofs.Kids.{one-child}
+use Rattle.judge.proofs.Going.{variant-kind}
 use Rattle.write.proofs.Putting.{Filling, reads-whole, right-kind, is-size, fill-first, placed, record-there, sums, tag-room, may-write, fill-next}
 use Rattle.write.proofs.Stored.{parted-node, leaf-room, leaf-placed}
-
--- a variant has one child
-pub one-child : (v : Value) → Fits v → valueKind v ≡ 15 → sizeOf v ≡ 1
-unfolding valueKind sizeOf Fits
-one-child nothing f e = absurd (omega (arith, e))
-one-child (boolean x) f e = absurd (omega (arith, e))
-one-child (number k x) f e = absurd (omega (arith, e, fixed-range k (f .0) (f .1 .0)))
-one-child (wide k x) f e = absurd (omega (arith, e, raw-range k (length x) f))
-one-child (blob k x) f e = absurd (omega (arith, e, sized-range k (f .0)))
-one-child (variant t v) f e = refl
-one-child (repeated is) f e = absurd (omega (arith, e))
-one-child (tuple vs) f e = absurd (omega (arith, e))
 
 module _ (sch : List ℕ) (i depth : ℕ) (table store : List ℕ) (p : WritePos) (out : List ℕ) (k : Writable sch i depth table store p (length out)) (own : ValueRecord) (m : own ≡ valueRecordAt table (p .at)) (code : ℕ) (is : code ≡ nodeAt sch i .code) where
   pub leads-self : code < 15 → LeadsToPut sch i depth table store p out out (Leaf code (own .size) (own .content) p)

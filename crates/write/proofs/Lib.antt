@@ -1,16 +1,9 @@
 pub mod Codes
 pub mod Numbers
-pub mod Kids
-pub mod Short
-pub mod Standing
-pub mod Going
-pub mod Leaves
 pub mod Root
 pub mod Putting
 pub mod Stored
 pub mod Leads
-pub mod Once
 pub mod Unlimited
 pub mod Rows
-pub mod Columns
 pub mod RowColumns

@@ -27,15 +27,16 @@ use Rattle.value_laws.proofs.Span.{span-in, lands-here}
 use Rattle.value_laws.proofs.Children.{children}
 use Rattle.read.specs.Children.{Shape, as-variant, as-repeated, as-tuple, shapeOf}
 use Rattle.read.specs.Ready.{SoundNodes}
-use Rattle.write.specs.Table.{IsWhole, wholeValue, wholeEnd, valueStandingAt}
-use Rattle.write.specs.Judging.{taggedOf, chosenOf, countOk}
-use Rattle.write.specs.Putting.{tagBytes, closing, childOf, IsPut, putOf, unlimited, written, Writable, Parted, Placed}
+use Rattle.judge.specs.Table.{IsWhole, wholeValue, wholeEnd, valueStandingAt}
+use Rattle.judge.specs.Judging.{taggedOf, chosenOf, countOk}
+use Rattle.judge.specs.Tags.{tagBytes, closing}
+use Rattle.write.specs.Putting.{childOf, IsPut, putOf, unlimited, written, Writable, Parted, Placed}
 use Rattle.write.specs.declared.put.WritePos.{WritePos}
-use Rattle.write.specs.declared.judge.Chosen.{Chosen}
-use Rattle.write.specs.declared.judge.Chosen.the-variants as chosen-is
-use Rattle.write.proofs.Kids.{choosing, chosenFor, kids, unfit, opens}
-use Rattle.write.proofs.Standing.{spot, stands, inside, size-small, tag-small, deep, parent, below-reads, count-told, Turn, turn, turn-stands}
-use Rattle.write.proofs.Going.{compound-kind, Choice, choice, counted-tuple}
+use Rattle.judge.specs.declared.walk.Chosen.{Chosen}
+use Rattle.judge.specs.declared.walk.Chosen.the-variants as chosen-is
+use Rattle.judge.proofs.Kids.{choosing, chosenFor, kids, unfit, opens}
+use Rattle.judge.proofs.Standing.{spot, stands, inside, size-small, tag-small, deep, parent, below-reads, count-told, Turn, turn, turn-stands}
+use Rattle.judge.proofs.Going.{compound-kind, Choice, choice, counted-tuple}
 
 -- ---- what was put, taken apart
 

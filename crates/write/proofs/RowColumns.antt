@@ -10,8 +10,9 @@ use Rattle.rules.specs.Bytes.{over}
 use Rattle.rules.specs.Block.{nodeAt}
 use Rattle.rules.specs.ValueRecord.{valueRecordAt}
 use Rattle.read.specs.Children.{shapeOf, as-tuple}
-use Rattle.write.specs.Table.{wholeEnd, valueStandingAt}
-use Rattle.write.specs.Putting.{tagBytes, closing, childOf, putOf, written, Writable, Parted, Placed, RowWritable}
+use Rattle.judge.specs.Table.{wholeEnd, valueStandingAt}
+use Rattle.judge.specs.Tags.{tagBytes, closing}
+use Rattle.write.specs.Putting.{childOf, putOf, written, Writable, Parted, Placed, RowWritable}
 use Rattle.write.specs.declared.put.WritePos.{WritePos}
 use Rattle.write.proofs.Putting.{Filling, fill-first, placed, sums, may-write, fill-next}
 use Rattle.write.proofs.Root.{root-writable}

@@ -22,16 +22,16 @@ use Rattle.rules.specs.declared.answer.Extent.{Extent}
 use Rattle.rules.specs.declared.answer.Written.{Written}
 use Rattle.rules.specs.declared.answer.Written.the-variants.{Row, Refused}
 use Rattle.value_laws.proofs.Parse.{Reads}
-use Rattle.write.specs.Table.{wholeValue, wholeEnd, valueStandingAt}
-use Rattle.write.specs.Judging.{RowJudgeable, judgedRow}
+use Rattle.judge.specs.Table.{wholeValue, wholeEnd, valueStandingAt}
+use Rattle.judge.specs.Judging.{RowJudgeable, judgedRow}
 use Rattle.write.specs.Putting.{IsPut, putOf, unlimited, RowWritable, rowBytes}
 use Rattle.write.specs.Row.{roomFor, placedRow}
-use Rattle.write.specs.declared.judge.JudgePos.{JudgePos}
-use Rattle.write.specs.declared.judge.Judged.{Judged}
-use Rattle.write.specs.declared.judge.Judged.the-variants as judged-is
-use Rattle.write.proofs.Standing.{spot, stands, at-end, from-end}
-use Rattle.write.proofs.Going.{Putting, judged-fits, judged-refused}
-use Rattle.write.proofs.Root.{table-stands}
+use Rattle.judge.specs.declared.walk.JudgePos.{JudgePos}
+use Rattle.judge.specs.declared.walk.Judged.{Judged}
+use Rattle.judge.specs.declared.walk.Judged.the-variants as judged-is
+use Rattle.judge.proofs.Standing.{spot, stands, at-end, from-end}
+use Rattle.judge.proofs.Going.{Putting, judged-fits, judged-refused}
+use Rattle.judge.proofs.Root.{table-stands}
 use Rattle.write.proofs.Unlimited.{row-free}
 
 -- ---- the test of the room

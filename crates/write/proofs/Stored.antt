@@ -23,12 +23,12 @@ use Rattle.rules.proofs.Stands.{length-le, stands-part}
 use Rattle.value_laws.proofs.Records.{content-is}
 use Rattle.value_laws.proofs.Parse.{Reads}
 use Rattle.value_laws.proofs.Codes.{nothing-taken, boolean-taken}
-use Rattle.write.specs.Table.{wholeValue, valueStandingAt}
+use Rattle.judge.specs.Table.{wholeValue, valueStandingAt}
 use Rattle.write.specs.Putting.{leafKept, leafSize, leafBytes, putOf, unlimited, written, Writable, Parted, Placed}
 use Rattle.write.specs.declared.put.WritePos.{WritePos}
-use Rattle.write.proofs.Codes.{leaf-kind, fixed-range, raw-range, sized-range}
+use Rattle.judge.proofs.Codes.{leaf-kind, fixed-range, raw-range, sized-range}
 use Rattle.write.proofs.Numbers.{LeafIs, blob-is, wide-is, narrow-is}
-use Rattle.write.proofs.Standing.{spot, head, at-end, from-end, from-in, length-told, inside}
+use Rattle.judge.proofs.Standing.{spot, head, at-end, from-end, from-in, length-told, inside}
 use Rattle.write.proofs.Putting.{reads-whole, all-put, right-kind}
 
 -- a number of few bytes is one of eight

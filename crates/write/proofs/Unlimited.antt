@@ -19,7 +19,7 @@ use Rattle.rules.specs.Writing.{Put, _>>=_, fitting, tagged, write, writeI, wri
 use Rattle.rules.proofs.Tests.{either}
 use Rattle.value_laws.proofs.Says.{Any, WroteSays, puts, refuses, then, put, fits, tags}
 use Rattle.write.specs.Putting.{unlimited}
-use Rattle.write.proofs.Short.{relax}
+use Rattle.judge.proofs.Short.{relax}
 
 -- a test that holds
 yes : {A : Type 0} (x y : A) → pick true x y ≡ x

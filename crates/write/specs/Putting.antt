@@ -7,7 +7,7 @@ use lib.ListN.{length}
 use lib.Dec.{ltb, leb}
 use Rattle.rules.specs.Choice.{pick}
 use Rattle.rules.specs.Bytes.{le, part, over}
-use Rattle.rules.specs.Wire.{form, widthOf, endTag}
+use Rattle.rules.specs.Wire.{form, widthOf}
 use Rattle.rules.specs.Block.{nodeAt}
 use Rattle.rules.specs.Walk.{Limits}
 use Rattle.rules.specs.ValueRecord.{valueRecordAt}
@@ -16,22 +16,11 @@ use Rattle.rules.specs.Writing.{Wrote, Put, Refused, write, writeRow}
 use Rattle.read.specs.Fields.{payloadOfFixed}
 use Rattle.read.specs.Children.{Shape, as-variant, as-repeated, as-tuple}
 use Rattle.read.specs.Ready.{HasNode, SoundNodes}
-use Rattle.write.specs.Table.{IsWhole, wholeValue, wholeEnd, valueStandingAt}
-use Rattle.write.specs.Judging.{only}
+use Rattle.judge.specs.Table.{IsWhole, wholeValue, wholeEnd, valueStandingAt}
+use Rattle.judge.specs.Judging.{only}
 use Rattle.write.specs.declared.put.WritePos.{WritePos}
 
 -- ---- steps
-
--- the bytes of a tag, and those after the last child
-unfoldable pub tagBytes : Shape → ℕ → List ℕ
-tagBytes (as-variant w) t = le w t
-tagBytes (as-repeated w) t = le w t
-tagBytes as-tuple t = []
-
-unfoldable pub closing : Shape → List ℕ
-closing (as-variant w) = []
-closing (as-repeated w) = le w (endTag w)
-closing as-tuple = []
 
 -- the child after i others, whose record bears a tag
 unfoldable pub childOf : Shape → ℕ → ℕ → ℕ → ℕ

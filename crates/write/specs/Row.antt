@@ -11,7 +11,7 @@ use Rattle.rules.specs.Refusals.{NoOutputRoom}
 use Rattle.rules.specs.declared.answer.Extent.{Extent}
 use Rattle.rules.specs.declared.answer.Written.{Written}
 use Rattle.rules.specs.declared.answer.Written.the-variants.{Row, Refused}
-use Rattle.write.specs.Table.{wholeValue}
+use Rattle.judge.specs.Table.{wholeValue}
 
 -- the row, where so much room holds it, or 21 with its bytes and the output position
 unfoldable pub roomFor : ℕ → ℕ → Extent → Written

@@ -1,5 +1,3 @@
-// The writing side of the wire: the walk that judges a value table under a table's block, the test for room, and the walk that writes the row.
-pub mod flat;
-pub mod judge;
+// The writing side of the wire: a value table that was judged is given room and written as a row.
 pub mod put;
 pub mod steps;

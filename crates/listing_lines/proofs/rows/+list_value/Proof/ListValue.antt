@@ -1,5 +1,5 @@
 use Rattle.rules.specs.Listing.{linesBelowI}
-use Rattle.write.specs.Table.{wholeValue, wholeEnd, valueStandingAt}
+use Rattle.judge.specs.Table.{wholeValue, wholeEnd, valueStandingAt}
 use Rattle.value_laws.proofs.Children.{children}
 use Rattle.listing_lines.proofs.Walks.{Going, none-left, record-in, has-depth, line-asked, count-low, from-low, going-first, listed, child-listable, going-next}
 use borrow.Author.Needs.{needs}

@@ -1,5 +1,5 @@
 use Rattle.read.specs.Children.{shapeOf}
-use Rattle.write.specs.Table.{wholeEnd, valueStandingAt}
+use Rattle.judge.specs.Table.{wholeEnd, valueStandingAt}
 use Rattle.write.specs.Putting.{putOf, written}
 use Rattle.write.proofs.Putting.{Filling, record-in, has-depth, code-in, fill-first, last-room, placed, record-there, sums, tag-room, may-write, fill-next}
 use native.Mathlib.Omega.{arith}

@@ -1,0 +1,9 @@
+pub mod Codes
+pub mod Kids
+pub mod Short
+pub mod Standing
+pub mod Going
+pub mod Leaves
+pub mod Root
+pub mod Once
+pub mod Columns

@@ -1,0 +1,4 @@
+pub mod Table
+pub mod Judging
+pub mod Tags
+pub mod Flat
