@@ -36,6 +36,7 @@ module _ (f : Format) (s : Settings) (inp : List ℕ) where
 
   -- or there was nothing to read
   pub record Empty : Type 0 where
+    pub shut : door f s inp 0 ≡ door-is.End
     pub no-rows : rows ≡ []
     pub no-bytes : length inp ≡ 0
 
@@ -67,7 +68,7 @@ module _ (f : Format) (s : Settings) (inp : List ℕ) where
           let q : rows ≡ runFrom f inp (limits s) (suc (length inp)) 0 .rows = ap (λ (x : Run). x .rows) r in
           let z : runFrom f inp (limits s) (suc (length inp)) 0 .stop ≡ Stop.End = rw r at end in
           inl (record { may = o .0; goes = rw (q, ← z) (run-iterates f inp (limits s) bs (suc (length inp)) 0 (omega arith) (omega arith)) })
-      by door-is.End e = let r = ran-by door-is.End e in inr (record { no-rows = unfold endedRun in ap (λ (x : Run). x .rows) r; no-bytes = at-end e })
+      by door-is.End e = let r = ran-by door-is.End e in inr (record { shut = e; no-rows = unfold endedRun in ap (λ (x : Run). x .rows) r; no-bytes = at-end e })
       by (door-is.Refused x) e = absurd (never x (rw (ran-by (door-is.Refused x) e) at end))
         where
           never : (x : Refusal) → refusedRun x .stop ≡ Stop.End → ⊥

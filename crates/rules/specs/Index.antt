@@ -149,3 +149,11 @@ indexedRowRule f s inp index n rs ps =
     pick (shortOk index)
     (through (door f s inp 0) (λ r. untouched (Read.Refused r) rs ps) found found)
     (untouched (Read.Refused Setting) rs ps)
+
+-- What an accepted build leaves of a slice: the records of the stream's rows from its start, and all other bytes as they were. Read back they
+-- are the very rows that the run accepts, in order.
+pub record HoldsRows (f : Format) (s : Settings) (inp slice : List ℕ) (x : Indexed) : Type 0 where
+  pub answer : x .answer ≡ ranOf (runRule f s inp)
+  pub records : take (indexRecordStart (rowCount (runRule f s inp .rows))) (x .index) ≡ indexOf (runRule f s inp .rows)
+  pub rest : drop (indexRecordStart (rowCount (runRule f s inp .rows))) (x .index) ≡ drop (indexRecordStart (rowCount (runRule f s inp .rows))) slice
+  pub rows : indexedRows (x .index) 0 (rowCount (runRule f s inp .rows)) ≡ runRule f s inp .rows

@@ -9,16 +9,18 @@ use Rattle.rules.specs.Choice.{pick}
 use Rattle.rules.specs.Bytes.{over}
 use Rattle.rules.specs.Reading.{Decoded, untouched}
 use Rattle.rules.specs.Writing.{Encoded}
+use Rattle.rules.specs.Index.{Indexed}
 use Rattle.rules.specs.Query.{queryRule}
 use Rattle.rules.specs.declared.host_answer.Queried.{Queried}
 use Rattle.rules.specs.declared.host_answer.Viewed.{Viewed}
+use Rattle.rules.specs.declared.answer.Ran.{Ran}
 use Rattle.rules.specs.declared.answer.Read.{Read}
 use Rattle.rules.specs.declared.answer.Written.{Written}
 use Rattle.scalars.specs.Numbers.{SaysBits}
 use Rattle.scalars.proofs.Said.{query-says-bits}
 use Rattle.answers.specs.declared.AnswerNumbers.{AnswerNumbers}
-use Rattle.answers.specs.Answers.{answerLayout, answerOfRead, answerOfWritten}
-use Rattle.skiff.specs.Calls.{Given, given, viewGiven, givenRow, givenOutput}
+use Rattle.answers.specs.Answers.{answerLayout, answerOfRead, answerOfRan, answerOfWritten}
+use Rattle.skiff.specs.Calls.{Given, given, viewGiven, givenRow, givenOutput, givenIndex}
 
 -- ---- what a call gives
 
@@ -59,3 +61,14 @@ pub room-output : (x : Written) (e : Encoded) (a : AnswerNumbers) (s s′ out ou
     record { number = n; answer = s′; output = out′ } ≡ givenOutput s e out
 unfolding givenOutput pick
 room-output x e a s s′ out out′ n h p q g = rw (← q, ← p, le-leb 88 (length s) h, g .0, g .1)
+
+-- ---- what building and extending an index give: its slice too
+
+pub short-index : (s : List ℕ) (x : Indexed) (index : List ℕ) → length s < 88 → record { number = 1; answer = s; index = index } ≡ givenIndex s x index
+unfolding givenIndex pick
+short-index s x index h = rw (lt-leb 88 (length s) h)
+
+pub room-index : (r : Ran) (x : Indexed) (a : AnswerNumbers) (s s′ index index′ : List ℕ) (n : ℕ) → 88 ≤ length s → a ≡ answerOfRan r → record { answer = r; index = index′ } ≡ x → (n ≡ a .why .number) × (s′ ≡ over s 0 (answerLayout a)) →
+    record { number = n; answer = s′; index = index′ } ≡ givenIndex s x index
+unfolding givenIndex pick
+room-index r x a s s′ index index′ n h p q g = rw (← q, ← p, le-leb 88 (length s) h, g .0, g .1)

@@ -13,6 +13,7 @@ use Rattle.rules.specs.Writing.{Encoded, encodeRule}
 use Rattle.rules.specs.ValueCheck.{valueTableRule}
 use Rattle.rules.specs.Query.{queryRule}
 use Rattle.rules.specs.Windows.{runAfter}
+use Rattle.rules.specs.Index.{Indexed, buildRule, checkIndexRule, extendRule, indexedRowRule}
 use Rattle.rules.specs.declared.settings.Settings.{Settings}
 use Rattle.rules.specs.declared.host_answer.Viewed.{Viewed}
 use Rattle.answers.specs.declared.AnswerNumbers.{AnswerNumbers}
@@ -94,3 +95,33 @@ givenOutput slice e out =
 
 unfoldable pub encodeGiven : Settings → List ℕ → List ℕ → ℕ → ℕ → List ℕ → List ℕ → List ℕ → ℕ → List ℕ → GivenOutput
 encodeGiven s table names first n rs ps out at slice = givenOutput slice (encodeRule s table names first n rs ps out at) out
+
+-- ---- the index
+
+-- its slice too
+pub record GivenIndex : Type 0 where
+  pub number : ℕ
+  pub answer : List ℕ
+  pub index : List ℕ
+
+-- it is as the call leaves it, but stays where there is no room for an answer
+unfoldable pub givenIndex : List ℕ → Indexed → List ℕ → GivenIndex
+givenIndex slice x index =
+    let a = answerOfRan (x .answer) in
+    pick (leb 88 (length slice))
+    (record { number = a .why .number; answer = over slice 0 (answerLayout a); index = x .index })
+    (record { number = 1; answer = slice; index = index })
+
+unfoldable pub buildIndexGiven : Format → Settings → List ℕ → List ℕ → List ℕ → GivenIndex
+buildIndexGiven f s inp index slice = givenIndex slice (buildRule f s inp index) index
+
+unfoldable pub checkIndexGiven : Format → Settings → List ℕ → List ℕ → List ℕ → Given
+checkIndexGiven f s inp index slice = given slice (answerOfRan (checkIndexRule f s inp index))
+
+-- the first `old` records stand there already
+unfoldable pub extendIndexGiven : Format → Settings → List ℕ → ℕ → List ℕ → List ℕ → GivenIndex
+extendIndexGiven f s inp old index slice = givenIndex slice (extendRule f s inp old index) index
+
+-- row n, as decode gives one
+unfoldable pub decodeIndexedGiven : Format → Settings → List ℕ → List ℕ → ℕ → List ℕ → List ℕ → List ℕ → GivenRow
+decodeIndexedGiven f s inp index n slice rs ps = givenRow slice (indexedRowRule f s inp index n rs ps) rs ps
