@@ -4,3 +4,4 @@ pub mod Host
 pub mod Charge
 pub mod Demand3
 pub mod Listing
+pub mod Index

@@ -9,6 +9,7 @@ ghost use Rattle.index.specs.Passes.{Comparable, comparedWith, sameSpan,
 use record::index_record::index_record_at;
 use record::index_record::put_index_record;
 use row::steps::row_at;
+use rules::Extent;
 use rules::Read;
 use rules::RowSpan;
 use rules::Settings;
@@ -19,17 +20,17 @@ pub enum Compared {
     Other,
 }
 
-// Two rows begin and end alike and are of one table.
-fn same_span(a: RowSpan, b: RowSpan) -> bool
-    ensures { λ r. ⌜ r ≡ sameSpan a b ⌝ }
+// A record is that of the row that was read at a position.
+fn same_span(indexed: RowSpan, at: usize, row: Extent) -> bool
+    ensures { λ r. ⌜ r ≡ sameSpan indexed (record { offset = at; size = row .bytes; table = row .table }) ⌝ }
 {
-    if a.offset != b.offset {
+    if indexed.offset != at as u64 {
         return false;
     }
-    if a.size != b.size {
+    if indexed.size != row.bytes {
         return false;
     }
-    a.table == b.table
+    indexed.table == row.table
 }
 
 // The index's first `count` records, by the stream's first rows.
@@ -55,12 +56,7 @@ pub fn compare_records(
         let Read::Row(row) = read else {
             return Compared::Other;
         };
-        let span = RowSpan {
-            offset: at as u64,
-            size: row.bytes,
-            table: row.table,
-        };
-        if !same_span(index_record_at(index, i), span) {
+        if !same_span(index_record_at(index, i), at, row) {
             return Compared::Other;
         }
         at += row.bytes as usize;

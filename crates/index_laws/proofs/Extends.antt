@@ -77,9 +77,9 @@ module _ (f : Format) (s : Settings) (inp more : List ℕ) (bs : Bytes (inp ++ m
     same-bytes : over slice (indexRecordStart old) (indexOf (drop old (all .rows))) ≡ over slice (indexRecordStart 0) (indexOf (drop 0 (all .rows)))
     same-bytes =
         let w : indexOf (all .rows) ≡ index ++ indexOf (drop old (all .rows)) =
-            ap (λ (x : List RowSpan). indexOf x) (sym (take-append-drop old (all .rows)))
-            ∙ (index-append (take old (all .rows)) (drop old (all .rows))
-            ∙ ap (λ (x : List ℕ). x ++ indexOf (drop old (all .rows))) (ap (λ (x : List RowSpan). indexOf x) first-rows ∙ sym (good .is))) in
+        ap (λ (x : List RowSpan). indexOf x) (sym (take-append-drop old (all .rows)))
+        ∙ (index-append (take old (all .rows)) (drop old (all .rows))
+        ∙ ap (λ (x : List ℕ). x ++ indexOf (drop old (all .rows))) (ap (λ (x : List RowSpan). indexOf x) first-rows ∙ sym (good .is))) in
         let m : over (over slice 0 index) (0 + length index) (indexOf (drop old (all .rows))) ≡ over slice 0 (index ++ indexOf (drop old (all .rows))) = over-more index (indexOf (drop old (all .rows))) slice 0 in
         let z : 0 + length index ≡ indexRecordStart old = omega (arith, size) in
         let m′ : over slice (indexRecordStart old) (indexOf (drop old (all .rows))) ≡ over slice 0 (index ++ indexOf (drop old (all .rows))) = rw (over-same index slice 0 st, z) at m in

@@ -88,7 +88,7 @@ module _ (f : Format) (s : Settings) (inp index : List ℕ) (bs : Bytes inp) (go
     unfolding indexOf rowCount
     record-n =
         let w : index ≡ indexOf (take n (rows f s inp)) ++ (indexRecord (span at (nth .e)) ++ indexOf (nth .after)) =
-            is .is ∙ (ap (λ (x : List RowSpan). indexOf x) (sym (take-append-drop n (rows f s inp))) ∙ (index-append (take n (rows f s inp)) (drop n (rows f s inp)) ∙ rw (nth .first))) in
+        is .is ∙ (ap (λ (x : List RowSpan). indexOf x) (sym (take-append-drop n (rows f s inp))) ∙ (index-append (take n (rows f s inp)) (drop n (rows f s inp)) ∙ rw (nth .first))) in
         let st : Stands index 0 (indexOf (take n (rows f s inp)) ++ (indexRecord (span at (nth .e)) ++ indexOf (nth .after))) = rw (← w) (stands-self index) in
         let r = stands-right index 0 (indexOf (take n (rows f s inp))) (indexRecord (span at (nth .e)) ++ indexOf (nth .after)) st in
         let l : length (indexOf (take n (rows f s inp))) ≡ indexRecordStart n = length-index (take n (rows f s inp)) ∙ ap (λ (m : ℕ). indexRecordStart m) (length-take-le n (rows f s inp) (omega arith)) in

@@ -2,12 +2,12 @@
 -- A call inherits it by a contract that says: its answer is what the rule says.
 -- Assumes nothing.
 use Prim.Native.Nat.{ℕ, _+_, _≤_, _<_, suc}
-use mathlib.Core.Path.{_≡_}
+use mathlib.Core.Path.{_≡_, refl}
 use mathlib.Core.Bool.{Bool}
-use mathlib.Core.List.{List, _++_, map}
+use mathlib.Core.List.{List, [], _∷_, _++_, map}
 use mathlib.Core.Logic.{_↔_}
 use lib.ListN.{length, take, drop}
-use Rattle.rules.specs.Bytes.{Bytes, Stands, part, over}
+use Rattle.rules.specs.Bytes.{Bytes, Stands, le, part, over}
 use Rattle.rules.specs.Answers.{Said, said, rowSaid, readSaid, stopSaid, writtenSaid, checkedSaid}
 use Rattle.rules.specs.Schema.{Schema, deep, nodes}
 use Rattle.rules.specs.Block.{records, blockTree, Denotes, Formed, blockOk, Ordered}
@@ -19,9 +19,10 @@ use Rattle.rules.specs.ValueRecord.{valueRecordStart}
 use Rattle.rules.specs.ValueTable.{TableOf, Whole, tableEnd, tableValue, valueKind}
 use Rattle.rules.specs.Grammar.{Row, TableRow}
 use Rattle.rules.specs.Walk.{Limits, Pos, Got, Refused}
-use Rattle.rules.specs.Reading.{limits, rowAt, schemaOf, Accepts, skipRule, room, recordRoom, roomTest, untouched, decodeRule, NoRow, LeavesRow, runRule, Iterated, byteCount, ranOf}
+use Rattle.rules.specs.Reading.{limits, rowAt, schemaOf, Accepts, skipRule, room, recordRoom, roomTest, untouched, decodeRule, NoRow, LeavesRow, runRule, Iterated, rowCount, byteCount, ranOf}
 use Rattle.rules.specs.Reasons.{RowReason, RowJudged}
 use Rattle.rules.specs.Windows.{movedAnswer, WasCut, goesOn, continued, added, runAfter}
+use Rattle.rules.specs.Index.{IndexOf, HoldsRows, indexRecordStart, indexRecordsIn, indexRecord, buildRule, checkIndexRule, extendRule, indexedRowRule}
 use Rattle.rules.specs.Writing.{encodeRule, encodeFrom}
 use Rattle.rules.specs.RoundTrip.{EncodeAsked, Encodable, encodedInto, EncodeRefuses, SkipAsked, HasRoom, decodedAs, PlainRow}
 use Rattle.rules.specs.Rows.{outcome, lines, outcomes}
@@ -53,13 +54,16 @@ use Rattle.row_laws.proofs.Decoding.{decode-tested}
 use Rattle.row_laws.proofs.Running.{run-iterated, run-stops}
 use Rattle.row_laws.proofs.Parts.{row-stays, row-moves}
 use Rattle.row_laws.proofs.Windows as windows
+use Rattle.index_laws.proofs.Holds as holds
+use Rattle.index_laws.proofs.Extends as extends
+use Rattle.index_laws.proofs.Numbered as numbered
 use Rattle.value_laws.proofs.Flat.{one-value}
 use Rattle.value_laws.proofs.Flat as values
 use Rattle.promises.proofs.Apart.{refusals-apart, reads-apart, stops-apart, writings-apart, checks-apart}
 use Rattle.promises.proofs.Tables.{table-encodes, decoded-row, decoded-none}
 use Rattle.promises.proofs.RoundTrip.{encoded-when, encoded-as, refused-leaves, refused-in-order, skips-back, reads-back}
 use Rattle.promises.proofs.Again as again
-use Rattle.rules.specs.Refusals.{Setting}
+use Rattle.rules.specs.Refusals.{Setting, NoSuchRow}
 use Rattle.rules.specs.Query.{queryRule}
 use Rattle.rules.specs.View.{kindRule, tagRule, childCountRule, afterRule, fieldRule}
 use Rattle.rules.specs.Preorder.{ValueNode, valuePreorder, NodeIs, valueSaid, valueChildren, FieldIs, FirstChild}
@@ -196,6 +200,65 @@ pub run-after-counts : (f : Format) (s : Settings) (inp more : List ℕ) → Byt
     runAfter f s (ranOf (runRule f s inp) .rows) (ranOf (runRule f s inp) .bytes) (drop (ranOf (runRule f s inp) .bytes) (inp ++ more)) ≡
     ranOf (runRule f s (inp ++ more))
 run-after-counts = windows.run-after
+
+-- ---- the index of a stream
+
+-- a record's bytes, computed: offset, length, table
+pub an-index-record : indexRecord (record { offset = 66051; size = 258; table = 5 }) ≡ 3 ∷ 2 ∷ 1 ∷ 0 ∷ 0 ∷ 0 ∷ 0 ∷ 0 ∷ 2 ∷ 1 ∷ 0 ∷ 0 ∷ 5 ∷ 0 ∷ 0 ∷ 0 ∷ []
+unfolding indexRecord le
+an-index-record = refl
+
+-- an accepted build leaves the records of the very rows that the run accepts, in order, and no other byte changes; a refused one leaves the slice
+pub index-holds-the-rows : (f : Format) (s : Settings) (inp slice : List ℕ) → Bytes inp → buildRule f s inp slice .answer .stop ≡ Stop.End →
+    HoldsRows f s inp slice (buildRule f s inp slice)
+index-holds-the-rows = holds.build-holds
+
+pub refused-build-leaves : (f : Format) (s : Settings) (inp slice : List ℕ) (r : Refusal) → buildRule f s inp slice .answer .stop ≡ Stop.Refused r →
+    buildRule f s inp slice .index ≡ slice
+refused-build-leaves = holds.build-leaves
+
+-- check accepts the stream's index and nothing else: what build writes, and only that
+pub check-accepts-the-index : (f : Format) (s : Settings) (inp index : List ℕ) → length index ≤ 4294967295 →
+    (checkIndexRule f s inp index .stop ≡ Stop.End) ↔ IndexOf f s inp index
+check-accepts-the-index = holds.check-exactly
+
+pub check-accepts-what-build-writes : (f : Format) (s : Settings) (inp slice : List ℕ) → Bytes inp → buildRule f s inp slice .answer .stop ≡ Stop.End →
+    checkIndexRule f s inp (take (indexRecordStart (rowCount (runRule f s inp .rows))) (buildRule f s inp slice .index)) .stop ≡ Stop.End
+check-accepts-what-build-writes = holds.build-then-check
+
+pub build-writes-what-check-accepts : (f : Format) (s : Settings) (inp index slice : List ℕ) → Bytes inp → checkIndexRule f s inp index .stop ≡ Stop.End → length index ≤ room slice →
+    (buildRule f s inp slice .answer .stop ≡ Stop.End) × (take (length index) (buildRule f s inp slice .index) ≡ index)
+build-writes-what-check-accepts = holds.check-then-build
+
+-- where the run is refused, so are build, check and extend, with all that the run answers, and nothing is written
+module _ (f : Format) (s : Settings) (inp : List ℕ) (r : Refusal) (refused : runRule f s inp .stop ≡ Stop.Refused r) where
+  pub build-refused-as-the-run : (slice : List ℕ) → buildRule f s inp slice ≡ record { answer = ranOf (runRule f s inp); index = slice }
+  build-refused-as-the-run = holds.build-refused-so f s inp r refused
+
+  pub check-refused-as-the-run : (index : List ℕ) → length index ≤ 4294967295 → checkIndexRule f s inp index ≡ ranOf (runRule f s inp)
+  check-refused-as-the-run = holds.check-refused-so f s inp r refused
+
+  pub extend-refused-as-the-run : (old : ℕ) (slice : List ℕ) → old ≤ indexRecordsIn (room slice) → extendRule f s inp old slice ≡ record { answer = ranOf (runRule f s inp); index = slice }
+  extend-refused-as-the-run = holds.extend-refused-so f s inp r refused
+
+-- the rows of a stream's index come first in the run over every longer stream that begins with it, however that run ends
+pub index-begins-a-longer-one : (f : Format) (s : Settings) (inp more : List ℕ) → Bytes (inp ++ more) → length (inp ++ more) ≤ 4294967295 → runRule f s inp .stop ≡ Stop.End →
+    take (rowCount (runRule f s inp .rows)) (runRule f s (inp ++ more) .rows) ≡ runRule f s inp .rows
+index-begins-a-longer-one = extends.rows-begin
+
+-- so, after bytes were appended, extending a slice that begins with the first part's index says what building anew says and leaves the same bytes
+pub extending-is-building : (f : Format) (s : Settings) (inp more : List ℕ) → Bytes (inp ++ more) → (index : List ℕ) → IndexOf f s inp index → (slice : List ℕ) → Stands slice 0 index → length index ≤ room slice →
+    extendRule f s (inp ++ more) (rowCount (runRule f s inp .rows)) slice ≡ buildRule f s (inp ++ more) slice
+extending-is-building = extends.extend-builds
+
+-- With an index that check accepts, row n is what decode answers and leaves where the run's row n begins, for every n below the count; from there
+-- on there is no such row (32).
+module _ (f : Format) (s : Settings) (inp index : List ℕ) (bs : Bytes inp) (good : checkIndexRule f s inp index .stop ≡ Stop.End) (n : ℕ) (rs ps : List ℕ) where
+  pub row-by-number : n < rowCount (runRule f s inp .rows) → indexedRowRule f s inp index n rs ps ≡ decodeRule f s inp (byteCount (take n (runRule f s inp .rows))) rs ps
+  row-by-number = numbered.numbered f s inp index bs good n rs ps
+
+  pub no-row-by-number : rowCount (runRule f s inp .rows) ≤ n → indexedRowRule f s inp index n rs ps ≡ untouched (Read.Refused NoSuchRow) rs ps
+  no-row-by-number = numbered.none-numbered f s inp index bs good n rs ps
 
 -- ---- value tables: records and payload are the table of one value at most, and the rule finds it
 pub value-tables : (r y : List ℕ) (v : Value) → length r ≤ 4294967295 → (tableValue r y ≡ Whole v (tableEnd r y)) ↔ TableOf v r y

@@ -38,15 +38,7 @@ pub extern "C" fn skiff1_build_index(
         max_blob_bytes,
         max_row_bytes,
     };
-    let ran = build_index(
-        settings,
-        table,
-        names,
-        references,
-        registry,
-        input,
-        index,
-    );
+    let ran = build_index(settings, table, names, references, registry, input, index);
     let stop = ran.stop;
     give(answer, answer_of_ran(ran.rows, ran.bytes, stop))
 }
@@ -77,15 +69,7 @@ pub extern "C" fn skiff1_check_index(
         max_blob_bytes,
         max_row_bytes,
     };
-    let ran = check_index(
-        settings,
-        table,
-        names,
-        references,
-        registry,
-        input,
-        index,
-    );
+    let ran = check_index(settings, table, names, references, registry, input, index);
     let stop = ran.stop;
     give(answer, answer_of_ran(ran.rows, ran.bytes, stop))
 }
