@@ -1,11 +1,11 @@
 /*
- * skiff.h: rows of Skiff streams, skipped, counted, decoded and written, and their formats checked, by a
- * proved library.
+ * skiff.h: rows of Skiff streams, skipped, counted, decoded, indexed and written, and their formats checked,
+ * by a proved library.
  *
  * Link target/staticlib/libskiff.a, which `rt staticlib skiff` writes; it is for x86-64 and needs no
  * other library. The functions keep nothing between calls, allocate nothing and write to nothing but
- * the answer slice and, in skiff_decode, the two slices for a row, in skiff_encode the output, so any number
- * of threads may call them.
+ * the answer slice and, in skiff_decode and skiff_decode_indexed, the two slices for a row, in skiff_encode
+ * the output, in skiff_build_index and skiff_extend_index the index, so any number of threads may call them.
  *
  * A slice is a pointer and a length. The pointer leads to so many bytes; where the length is 0 it is not
  * followed and may be null. The length is below 2^63. A slice that is written overlaps none of the others.
@@ -56,7 +56,10 @@ enum skiff_refusal {
     SKIFF_BAD_VALUE_TABLE = 18,
     SKIFF_NO_NODE_ROOM = 19,                   /* carries needed: records */
     SKIFF_NO_PAYLOAD_ROOM = 20,                /* carries needed: payload bytes */
-    SKIFF_NO_OUTPUT_ROOM = 21                  /* carries needed: output bytes */
+    SKIFF_NO_OUTPUT_ROOM = 21,                 /* carries needed: output bytes */
+    SKIFF_NO_INDEX_ROOM = 30,                  /* more rows than an index slice has room for */
+    SKIFF_INDEX_MISMATCH = 31,                 /* an index, or a record of it, is not the stream's */
+    SKIFF_NO_SUCH_ROW = 32                     /* the index has no record of that number */
 };
 
 /* What a stream was cut in. A type of fixed width has its own wire code, 1 to 12. */
@@ -104,7 +107,8 @@ enum skiff_what {
                                table was accepted, and then all other numbers are 0 too; or a name is
                                that of a wire type; or a record has a value, or what else was asked of it */
     SKIFF_WHAT_END = 1,     /* the position is the input's length, or the run came to it */
-    SKIFF_WHAT_REFUSAL = 2, /* refused; a run then has the rows and bytes before */
+    SKIFF_WHAT_REFUSAL = 2, /* refused; a run then has the rows and bytes before, and all of them where the
+                               index alone was refused */
     SKIFF_WHAT_NO_TYPE = 3  /* of skiff_parse: no wire type has that name, which is no refusal */
 };
 
@@ -235,6 +239,106 @@ static inline uint32_t skiff_run_window(uint64_t node_charge, uint64_t max_blob_
                                         uint8_t *answer, size_t answer_len);
 
 /*
+ * An index: for each row of a stream where it begins, so that a row is found by its number. It has a record
+ * for each row that skiff_run accepts, in order, and nothing before or behind them. A record has 16 bytes,
+ * numbers little-endian:
+ *
+ *   at 0..7    offset: where the row begins in the stream
+ *   at 8..11   length: how many bytes it has
+ *   at 12..15  table: which one it is of
+ */
+#define SKIFF_INDEX_RECORD_BYTES 16
+
+struct skiff_index_record {
+    uint64_t offset;
+    uint32_t length;
+    uint32_t table;
+};
+
+/* Record n, from 0 on, of an index that has it. It only takes the bytes apart. */
+static inline struct skiff_index_record skiff_index_record_at(const uint8_t *index, size_t n)
+{
+    const uint8_t *bytes = index + n * SKIFF_INDEX_RECORD_BYTES;
+    struct skiff_index_record record = {0, 0, 0};
+    int i;
+    for (i = 7; i >= 0; i--)
+        record.offset = record.offset << 8 | bytes[i];
+    for (i = 3; i >= 0; i--) {
+        record.length = record.length << 8 | bytes[8 + i];
+        record.table = record.table << 8 | bytes[12 + i];
+    }
+    return record;
+}
+
+/*
+ * skiff_run, and where it comes to the end, the index of its rows at the start of a slice, whose bytes after
+ * it stay. Where the run is refused, so is this, and the answer is the run's. Last comes SKIFF_NO_INDEX_ROOM,
+ * with all rows and bytes in the answer: the index needs SKIFF_ANSWER_ROWS times SKIFF_INDEX_RECORD_BYTES.
+ * Refused, it has written nothing to the slice, of which only the first 4,294,967,295 bytes count, and of
+ * these whole records.
+ */
+static inline uint32_t skiff_build_index(uint64_t node_charge, uint64_t max_blob_bytes, uint64_t max_row_bytes,
+                                         const uint8_t *records, size_t records_len,
+                                         const uint8_t *names, size_t names_len,
+                                         const uint8_t *references, size_t references_len,
+                                         const uint8_t *registry, size_t registry_len,
+                                         const uint8_t *input, size_t input_len,
+                                         uint8_t *index, size_t index_len,
+                                         uint8_t *answer, size_t answer_len);
+
+/*
+ * Whether `index` is the index of the stream: the very bytes that skiff_build_index writes. The answer is
+ * that of skiff_run; but where the run comes to the end and the index has fewer or more records, a wrong one,
+ * or bytes that are no whole record, it is SKIFF_INDEX_MISMATCH, with all rows and bytes.
+ */
+static inline uint32_t skiff_check_index(uint64_t node_charge, uint64_t max_blob_bytes, uint64_t max_row_bytes,
+                                         const uint8_t *records, size_t records_len,
+                                         const uint8_t *names, size_t names_len,
+                                         const uint8_t *references, size_t references_len,
+                                         const uint8_t *registry, size_t registry_len,
+                                         const uint8_t *input, size_t input_len,
+                                         const uint8_t *index, size_t index_len,
+                                         uint8_t *answer, size_t answer_len);
+
+/*
+ * The index of a stream to which rows were appended since its first `old` records were built: the records of
+ * the rows after those are written behind them. The whole stream is run over, and the answer has all its rows
+ * and bytes; where `old` is 0, this is skiff_build_index. Refused, it has written nothing to the slice.
+ * SKIFF_SETTING is also for an `old` that is more than the slice has whole records. After the run comes
+ * SKIFF_INDEX_MISMATCH, where the old records are not those of the stream's first rows or are more than it
+ * has rows; then SKIFF_NO_INDEX_ROOM, as in skiff_build_index.
+ */
+static inline uint32_t skiff_extend_index(uint64_t node_charge, uint64_t max_blob_bytes, uint64_t max_row_bytes,
+                                          const uint8_t *records, size_t records_len,
+                                          const uint8_t *names, size_t names_len,
+                                          const uint8_t *references, size_t references_len,
+                                          const uint8_t *registry, size_t registry_len,
+                                          const uint8_t *input, size_t input_len,
+                                          uint64_t old,
+                                          uint8_t *index, size_t index_len,
+                                          uint8_t *answer, size_t answer_len);
+
+/*
+ * Row `row`, from 0 on: skiff_decode at the offset that its index record says, so no row before it is read
+ * and no other record is looked at. With an index that skiff_check_index accepts, it is the row of that
+ * number in the run. It never says an end. Refused are in this order: settings and slices; the format;
+ * SKIFF_NO_SUCH_ROW where the index has no such whole record; SKIFF_INDEX_MISMATCH where the offset is not
+ * below the stream's length; the row; SKIFF_INDEX_MISMATCH where the row is of another table or length than
+ * the record says; and last SKIFF_NO_NODE_ROOM and SKIFF_NO_PAYLOAD_ROOM.
+ */
+static inline uint32_t skiff_decode_indexed(uint64_t node_charge, uint64_t max_blob_bytes, uint64_t max_row_bytes,
+                                            const uint8_t *records, size_t records_len,
+                                            const uint8_t *names, size_t names_len,
+                                            const uint8_t *references, size_t references_len,
+                                            const uint8_t *registry, size_t registry_len,
+                                            const uint8_t *input, size_t input_len,
+                                            const uint8_t *index, size_t index_len,
+                                            uint64_t row,
+                                            uint8_t *value_records, size_t value_records_len,
+                                            uint8_t *payload, size_t payload_len,
+                                            uint8_t *answer, size_t answer_len);
+
+/*
  * The row that a value table is, written at `position` of `output` under one schema: `count` records of the
  * record table from record `first` on, a tuple whose columns have names. The row begins with the tag of table
  * 0. Refused, it has written nothing to the output; accepted, no other byte of it. Refused are in this order:
@@ -317,8 +421,8 @@ static inline uint32_t skiff_field(const uint8_t *value_records, size_t value_re
                                    uint64_t field, uint8_t *answer, size_t answer_len);
 
 /*
- * Whether the four tables are a format. skiff_skip, skiff_decode, skiff_run and skiff_run_window check it
- * by themselves at every call, and refuse it as this does, but for settings and positions, which come first.
+ * Whether the four tables are a format. The calls that read a stream check it by themselves at every call,
+ * and refuse it as this does, but for settings and positions, which come first.
  */
 static inline uint32_t skiff_check_format(const uint8_t *records, size_t records_len,
                                           const uint8_t *names, size_t names_len,

@@ -93,6 +93,79 @@ static inline uint32_t skiff_run_window(uint64_t node_charge, uint64_t max_blob_
                              SKIFF_READ(window), rows, bytes, SKIFF_WRITTEN(answer));
 }
 
+uint32_t skiff1_build_index(uint64_t, uint64_t, uint64_t, const uint8_t *, size_t, const uint8_t *,
+                            size_t, const uint8_t *, size_t, const uint8_t *, size_t, const uint8_t *,
+                            size_t, uint8_t *, size_t, uint8_t *, size_t);
+
+static inline uint32_t skiff_build_index(uint64_t node_charge, uint64_t max_blob_bytes,
+                                         uint64_t max_row_bytes, const uint8_t *records,
+                                         size_t records_len, const uint8_t *names, size_t names_len,
+                                         const uint8_t *references, size_t references_len,
+                                         const uint8_t *registry, size_t registry_len,
+                                         const uint8_t *input, size_t input_len, uint8_t *index,
+                                         size_t index_len, uint8_t *answer, size_t answer_len)
+{
+    return skiff1_build_index(node_charge, max_blob_bytes, max_row_bytes, SKIFF_READ(records),
+                              SKIFF_READ(names), SKIFF_READ(references), SKIFF_READ(registry),
+                              SKIFF_READ(input), SKIFF_WRITTEN(index), SKIFF_WRITTEN(answer));
+}
+
+uint32_t skiff1_check_index(uint64_t, uint64_t, uint64_t, const uint8_t *, size_t, const uint8_t *,
+                            size_t, const uint8_t *, size_t, const uint8_t *, size_t, const uint8_t *,
+                            size_t, const uint8_t *, size_t, uint8_t *, size_t);
+
+static inline uint32_t skiff_check_index(uint64_t node_charge, uint64_t max_blob_bytes,
+                                         uint64_t max_row_bytes, const uint8_t *records,
+                                         size_t records_len, const uint8_t *names, size_t names_len,
+                                         const uint8_t *references, size_t references_len,
+                                         const uint8_t *registry, size_t registry_len,
+                                         const uint8_t *input, size_t input_len, const uint8_t *index,
+                                         size_t index_len, uint8_t *answer, size_t answer_len)
+{
+    return skiff1_check_index(node_charge, max_blob_bytes, max_row_bytes, SKIFF_READ(records),
+                              SKIFF_READ(names), SKIFF_READ(references), SKIFF_READ(registry),
+                              SKIFF_READ(input), SKIFF_READ(index), SKIFF_WRITTEN(answer));
+}
+
+uint32_t skiff1_extend_index(uint64_t, uint64_t, uint64_t, const uint8_t *, size_t, const uint8_t *,
+                             size_t, const uint8_t *, size_t, const uint8_t *, size_t, const uint8_t *,
+                             size_t, uint64_t, uint8_t *, size_t, uint8_t *, size_t);
+
+static inline uint32_t skiff_extend_index(uint64_t node_charge, uint64_t max_blob_bytes,
+                                          uint64_t max_row_bytes, const uint8_t *records,
+                                          size_t records_len, const uint8_t *names, size_t names_len,
+                                          const uint8_t *references, size_t references_len,
+                                          const uint8_t *registry, size_t registry_len,
+                                          const uint8_t *input, size_t input_len, uint64_t old,
+                                          uint8_t *index, size_t index_len, uint8_t *answer,
+                                          size_t answer_len)
+{
+    return skiff1_extend_index(node_charge, max_blob_bytes, max_row_bytes, SKIFF_READ(records),
+                               SKIFF_READ(names), SKIFF_READ(references), SKIFF_READ(registry),
+                               SKIFF_READ(input), old, SKIFF_WRITTEN(index), SKIFF_WRITTEN(answer));
+}
+
+uint32_t skiff1_decode_indexed(uint64_t, uint64_t, uint64_t, const uint8_t *, size_t, const uint8_t *,
+                               size_t, const uint8_t *, size_t, const uint8_t *, size_t, const uint8_t *,
+                               size_t, const uint8_t *, size_t, uint64_t, uint8_t *, size_t, uint8_t *,
+                               size_t, uint8_t *, size_t);
+
+static inline uint32_t skiff_decode_indexed(uint64_t node_charge, uint64_t max_blob_bytes,
+                                            uint64_t max_row_bytes, const uint8_t *records,
+                                            size_t records_len, const uint8_t *names, size_t names_len,
+                                            const uint8_t *references, size_t references_len,
+                                            const uint8_t *registry, size_t registry_len,
+                                            const uint8_t *input, size_t input_len, const uint8_t *index,
+                                            size_t index_len, uint64_t row, uint8_t *value_records,
+                                            size_t value_records_len, uint8_t *payload,
+                                            size_t payload_len, uint8_t *answer, size_t answer_len)
+{
+    return skiff1_decode_indexed(node_charge, max_blob_bytes, max_row_bytes, SKIFF_READ(records),
+                                 SKIFF_READ(names), SKIFF_READ(references), SKIFF_READ(registry),
+                                 SKIFF_READ(input), SKIFF_READ(index), row, SKIFF_WRITTEN(value_records),
+                                 SKIFF_WRITTEN(payload), SKIFF_WRITTEN(answer));
+}
+
 uint32_t skiff1_encode(uint64_t, uint64_t, uint64_t, const uint8_t *, size_t, const uint8_t *, size_t,
                        uint64_t, uint64_t, const uint8_t *, size_t, const uint8_t *, size_t, uint8_t *,
                        size_t, uint64_t, uint8_t *, size_t);
