@@ -22,31 +22,40 @@ struct skiff_words {
 /* By enum skiff_refusal; a null name where there is none of this number. */
 static inline struct skiff_words skiff_refusal_words(uint64_t refusal)
 {
-    static const struct skiff_words words[] = {
-        {NULL, {NULL}},
-        {"Setting", {NULL}},
-        {"BadSchemaTable", {NULL}},
-        {"TooDeep", {NULL}},
-        {"UnexpectedChildren", {"type", "count"}},
-        {"TooManyChildren", {"type", "count", "maximum"}},
-        {"EmptyTableSchemas", {NULL}},
-        {"UnknownRegistryReference", {"table"}},
-        {"TableSchemaRootMustBeTuple", {"type"}},
-        {"TableSchemaMustBeTuple", {"type"}},
-        {"TableSchemaChildMissingName", {"index"}},
-        {"MissingTableSchema", {"table"}},
-        {"Truncated", {"context"}},
-        {"RowTooLarge", {"limit"}},
-        {"BlobTooLarge", {"type", "length", "limit"}},
-        {"ValueDoesNotMatchSchema", {"type", "kind"}},
-        {"TupleLength", {"expected", "actual"}},
-        {"InvalidVariantTag", {"type", "tag", "children"}},
-        {"BadValueTable", {NULL}},
-        {"NoNodeRoom", {"needed"}},
-        {"NoPayloadRoom", {"needed"}},
-        {"NoOutputRoom", {"needed"}},
+    static const struct {
+        uint64_t number;
+        struct skiff_words words;
+    } all[] = {
+        {1, {"Setting", {NULL}}},
+        {2, {"BadSchemaTable", {NULL}}},
+        {3, {"TooDeep", {NULL}}},
+        {4, {"UnexpectedChildren", {"type", "count"}}},
+        {5, {"TooManyChildren", {"type", "count", "maximum"}}},
+        {6, {"EmptyTableSchemas", {NULL}}},
+        {7, {"UnknownRegistryReference", {"table"}}},
+        {8, {"TableSchemaRootMustBeTuple", {"type"}}},
+        {9, {"TableSchemaMustBeTuple", {"type"}}},
+        {10, {"TableSchemaChildMissingName", {"index"}}},
+        {11, {"MissingTableSchema", {"table"}}},
+        {12, {"Truncated", {"context"}}},
+        {13, {"RowTooLarge", {"limit"}}},
+        {14, {"BlobTooLarge", {"type", "length", "limit"}}},
+        {15, {"ValueDoesNotMatchSchema", {"type", "kind"}}},
+        {16, {"TupleLength", {"expected", "actual"}}},
+        {17, {"InvalidVariantTag", {"type", "tag", "children"}}},
+        {18, {"BadValueTable", {NULL}}},
+        {19, {"NoNodeRoom", {"needed"}}},
+        {20, {"NoPayloadRoom", {"needed"}}},
+        {21, {"NoOutputRoom", {"needed"}}},
+        {30, {"NoIndexRoom", {NULL}}},
+        {31, {"IndexMismatch", {NULL}}},
+        {32, {"NoSuchRow", {NULL}}},
     };
-    return words[refusal < sizeof words / sizeof *words ? refusal : 0];
+    static const struct skiff_words none = {NULL, {NULL}};
+    for (size_t i = 0; i < sizeof all / sizeof *all; i++)
+        if (all[i].number == refusal)
+            return all[i].words;
+    return none;
 }
 
 /* The name of a wire code; null where there is none. */

@@ -62,8 +62,8 @@ impl fmt::Display for Context {
     }
 }
 
-/// A case for each of the library's refusal numbers, 1 to 21, with what it carries. The place is an
-/// offset in the stream for a row, a record number for a schema, a value record in writing.
+/// A case for each of the library's refusal numbers, with what it carries. The place is an offset in the
+/// stream for a row, a record number for a schema, a value record in writing; of an index there is none.
 ///
 /// A number that is none of them, as a later library may have, is [`Refusal::Unknown`]: nothing that the
 /// library says is lost on the way here.
@@ -210,6 +210,13 @@ pub enum Refusal {
         /// The output position.
         place: u64,
     },
+    /// The stream has more rows than an index slice has room for records. What is answered beside it has the
+    /// rows: [`crate::Run::rows`].
+    NoIndexRoom,
+    /// An index, or the record of one row, is not the stream's.
+    IndexMismatch,
+    /// The index has no record of that number.
+    NoSuchRow,
     /// A number that this crate does not know, or not with these values.
     Unknown {
         /// The number.
@@ -221,30 +228,33 @@ pub enum Refusal {
     },
 }
 
-/// The words of the refusals 1 to 21: the name, and what each carried value is. include/check-refusals
+/// The words of the refusals: the number, the name, and what each carried value is. include/check-refusals
 /// compares them with the rules' and with the header's.
-const WORDS: [(&str, &[&str]); 21] = [
-    ("Setting", &[]),
-    ("BadSchemaTable", &[]),
-    ("TooDeep", &[]),
-    ("UnexpectedChildren", &["type", "count"]),
-    ("TooManyChildren", &["type", "count", "maximum"]),
-    ("EmptyTableSchemas", &[]),
-    ("UnknownRegistryReference", &["table"]),
-    ("TableSchemaRootMustBeTuple", &["type"]),
-    ("TableSchemaMustBeTuple", &["type"]),
-    ("TableSchemaChildMissingName", &["index"]),
-    ("MissingTableSchema", &["table"]),
-    ("Truncated", &["context"]),
-    ("RowTooLarge", &["limit"]),
-    ("BlobTooLarge", &["type", "length", "limit"]),
-    ("ValueDoesNotMatchSchema", &["type", "kind"]),
-    ("TupleLength", &["expected", "actual"]),
-    ("InvalidVariantTag", &["type", "tag", "children"]),
-    ("BadValueTable", &[]),
-    ("NoNodeRoom", &["needed"]),
-    ("NoPayloadRoom", &["needed"]),
-    ("NoOutputRoom", &["needed"]),
+const WORDS: [(u64, &str, &[&str]); 24] = [
+    (1, "Setting", &[]),
+    (2, "BadSchemaTable", &[]),
+    (3, "TooDeep", &[]),
+    (4, "UnexpectedChildren", &["type", "count"]),
+    (5, "TooManyChildren", &["type", "count", "maximum"]),
+    (6, "EmptyTableSchemas", &[]),
+    (7, "UnknownRegistryReference", &["table"]),
+    (8, "TableSchemaRootMustBeTuple", &["type"]),
+    (9, "TableSchemaMustBeTuple", &["type"]),
+    (10, "TableSchemaChildMissingName", &["index"]),
+    (11, "MissingTableSchema", &["table"]),
+    (12, "Truncated", &["context"]),
+    (13, "RowTooLarge", &["limit"]),
+    (14, "BlobTooLarge", &["type", "length", "limit"]),
+    (15, "ValueDoesNotMatchSchema", &["type", "kind"]),
+    (16, "TupleLength", &["expected", "actual"]),
+    (17, "InvalidVariantTag", &["type", "tag", "children"]),
+    (18, "BadValueTable", &[]),
+    (19, "NoNodeRoom", &["needed"]),
+    (20, "NoPayloadRoom", &["needed"]),
+    (21, "NoOutputRoom", &["needed"]),
+    (30, "NoIndexRoom", &[]),
+    (31, "IndexMismatch", &[]),
+    (32, "NoSuchRow", &[]),
 ];
 
 impl Refusal {
@@ -285,6 +295,9 @@ impl Refusal {
                 19 => Self::NoNodeRoom { needed: x, place },
                 20 => Self::NoPayloadRoom { needed: x, place },
                 21 => Self::NoOutputRoom { needed: x, place },
+                30 => Self::NoIndexRoom,
+                31 => Self::IndexMismatch,
+                32 => Self::NoSuchRow,
                 _ => return None,
             })
         };
@@ -329,11 +342,14 @@ impl Refusal {
             Self::NoNodeRoom { needed, place } => (19, place, [needed, 0, 0]),
             Self::NoPayloadRoom { needed, place } => (20, place, [needed, 0, 0]),
             Self::NoOutputRoom { needed, place } => (21, place, [needed, 0, 0]),
+            Self::NoIndexRoom => (30, 0, [0; 3]),
+            Self::IndexMismatch => (31, 0, [0; 3]),
+            Self::NoSuchRow => (32, 0, [0; 3]),
             Self::Unknown { number, place, carried } => (number, place, carried),
         }
     }
 
-    /// 1 to 21, or that of an unknown one.
+    /// The number that the rules have for it, or that of an unknown one.
     pub fn number(&self) -> u64 {
         self.numbers().0
     }
@@ -355,9 +371,10 @@ impl Refusal {
     }
 
     fn words(&self) -> (&'static str, &'static [&'static str]) {
-        match *self {
-            Self::Unknown { .. } => ("Unknown", &["first", "second", "third"]),
-            _ => WORDS[self.number() as usize - 1],
+        let number = self.number();
+        match WORDS.iter().find(|words| words.0 == number) {
+            Some((_, name, labels)) if !matches!(self, Self::Unknown { .. }) => (name, labels),
+            _ => ("Unknown", &["first", "second", "third"]),
         }
     }
 
@@ -403,19 +420,23 @@ impl std::error::Error for Refusal {}
 mod tests {
     use super::*;
 
-    /// Wire code 3 is also a context. A refusal that carries less has zeros, and one without a place 0.
-    fn sample(number: u64) -> Refusal {
-        let carries = WORDS[number as usize - 1].1.len();
-        let carried = std::array::from_fn(|index| if index < carries { [3, 80, 90][index] } else { 0 });
-        Refusal::from_numbers(number, if [1, 2, 3, 6, 18].contains(&number) { 0 } else { 70 }, carried)
+    const WITHOUT_PLACE: [u64; 8] = [1, 2, 3, 6, 18, 30, 31, 32];
+
+    /// One of each. Wire code 3 is also a context. A refusal that carries less has zeros, and one without a
+    /// place 0.
+    fn samples() -> impl Iterator<Item = (u64, &'static str, Refusal)> {
+        WORDS.iter().map(|&(number, name, labels)| {
+            let carried = std::array::from_fn(|index| if index < labels.len() { [3, 80, 90][index] } else { 0 });
+            let place = if WITHOUT_PLACE.contains(&number) { 0 } else { 70 };
+            (number, name, Refusal::from_numbers(number, place, carried))
+        })
     }
 
     #[test]
     fn numbers_and_refusals_are_one() {
         let mut messages = std::collections::BTreeSet::new();
-        for number in 1..=21 {
-            let refusal = sample(number);
-            assert_eq!((refusal.number(), refusal.name()), (number, WORDS[number as usize - 1].0));
+        for (number, name, refusal) in samples() {
+            assert_eq!((refusal.number(), refusal.name()), (number, name));
             assert!(!matches!(refusal, Refusal::Unknown { .. }));
             let (_, place, carried) = refusal.numbers();
             assert_eq!((refusal.place(), refusal.carried()), (place, carried));
@@ -423,14 +444,22 @@ mod tests {
             assert!(messages.insert(refusal.to_string()));
             assert!(format!("{refusal:?}").starts_with(refusal.name()));
         }
+        assert_eq!(messages.len(), WORDS.len());
     }
 
     #[test]
     fn an_unknown_number_is_a_value() {
         let all = [(0, 0, [0; 3]), (22, 1, [2, 3, 4]), (u64::MAX, u64::MAX, [u64::MAX; 3])];
         // Known numbers with a type or a context that is none, or with more than they carry.
-        let more =
-            [(4, 0, [20, 0, 0]), (12, 0, [0, 0, 0]), (12, 0, [18, 0, 0]), (1, 5, [0; 3]), (13, 0, [1, 1, 0])];
+        let more = [
+            (4, 0, [20, 0, 0]),
+            (12, 0, [0, 0, 0]),
+            (12, 0, [18, 0, 0]),
+            (1, 5, [0; 3]),
+            (13, 0, [1, 1, 0]),
+            (30, 1, [0; 3]),
+            (31, 0, [1, 0, 0]),
+        ];
         for (number, place, carried) in all.into_iter().chain(more) {
             let refusal = Refusal::from_numbers(number, place, carried);
             assert_eq!(refusal, Refusal::Unknown { number, place, carried });
@@ -442,11 +471,11 @@ mod tests {
 
     #[test]
     fn a_window_moves_offsets_alone() {
-        for number in 1..=21 {
+        for (number, _, refusal) in samples() {
             let offset = [11, 12, 13, 14, 17, 19, 20].contains(&number);
-            let moved = sample(number).moved(1000);
-            assert_eq!(moved.place(), sample(number).place() + if offset { 1000 } else { 0 });
-            assert_eq!(moved.carried(), sample(number).carried());
+            let moved = refusal.moved(1000);
+            assert_eq!(moved.place(), refusal.place() + if offset { 1000 } else { 0 });
+            assert_eq!(moved.carried(), refusal.carried());
         }
     }
 
@@ -461,6 +490,8 @@ mod tests {
         assert_eq!(words(12, [15, 0, 0]), "refused 12 Truncated (context 15 variant8-tag) at 7");
         assert_eq!(words(12, [8, 0, 0]), "refused 12 Truncated (context 8 uint8) at 7");
         assert_eq!(words(16, [2, 3, 0]), "refused 16 TupleLength (expected 2, actual 3) at 7");
+        assert_eq!(Refusal::NoSuchRow.to_string(), "refused 32 NoSuchRow at 0");
+        assert_eq!(words(1, [0; 3]), "refused 1 Unknown (first 0, second 0, third 0) at 7");
     }
 
     #[test]
