@@ -56,9 +56,8 @@ impl SchemaBlock<'_> {
         let value = row.into();
         // No value takes more than ten bytes beside its payload: a tag of two, and a number of eight.
         let most = 2 + value.records.len() / VALUE_RECORD_BYTES * 10 + value.payload.len();
-        let report =
-            Report::of(|answer| sys::append(settings.into(), self, &value, output, most, answer));
-        Self::row(&report).map_err(|refusal| self.about(refusal, &value))
+        let report = Report::of(|answer| sys::append(settings.into(), self, &value, output, most, answer));
+        report.row().map_err(|refusal| self.about(refusal, &value))
     }
 
     fn put(
@@ -69,13 +68,7 @@ impl SchemaBlock<'_> {
         position: u64,
     ) -> Result<Extent, Refusal> {
         let report = Report::of(|answer| sys::encode(settings.into(), self, value, output, position, answer));
-        Self::row(&report)
-    }
-
-    /// The row that was written; an end is nothing that these calls answer.
-    #[inline]
-    fn row(report: &Report) -> Result<Extent, Refusal> {
-        report.extent()?.ok_or(Refusal::from_numbers(0, 0, [0; 3]))
+        report.row()
     }
 
     fn about(&self, refusal: Refusal, value: &ValueTable) -> Refused {

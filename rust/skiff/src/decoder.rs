@@ -1,5 +1,7 @@
 //! Row after row of a stream, from a slice or from a reader.
 
+mod indexed;
+
 use std::fmt;
 use std::io::{self, Read};
 
@@ -8,6 +10,8 @@ use crate::source::sealed::More;
 use crate::source::{grow, FromReader, FromSlice, Source};
 use crate::sys::VALUE_RECORD_BYTES;
 use crate::{path, Error, Extent, Format, OwnedRow, Refusal, Row, Run, Settings, WindowRun};
+
+pub use indexed::IndexedRows;
 
 /// Reads a stream row by row, with buffers of its own that grow as rows need it.
 ///
@@ -141,20 +145,27 @@ impl<'f, S: Source> Decoder<'f, S> {
                     self.rows += 1;
                     false
                 }
-                Err(Refusal::NoNodeRoom { needed, .. }) => {
-                    more_room(&mut self.records, needed.saturating_mul(VALUE_RECORD_BYTES as u64))?
-                }
-                Err(Refusal::NoPayloadRoom { needed, .. }) => more_room(&mut self.payload, needed)?,
                 Ok(None) | Err(Refusal::Truncated { .. }) => match self.more()? {
                     More::Bytes => true,
                     More::Nothing => false,
                     More::TooMany => return Ok(self.too_long().to_end().map(|_| None)?),
                 },
-                Err(_) => false,
+                Err(refusal) => self.makes_room(&refusal)?,
             };
             if !asks_again {
                 return answer.map_err(|refusal| self.refused(refusal).into());
             }
+        }
+    }
+
+    /// Whether there is more room now, for a row that was refused for want of it.
+    fn makes_room(&mut self, refusal: &Refusal) -> io::Result<bool> {
+        match *refusal {
+            Refusal::NoNodeRoom { needed, .. } => {
+                more_room(&mut self.records, needed.saturating_mul(VALUE_RECORD_BYTES as u64))
+            }
+            Refusal::NoPayloadRoom { needed, .. } => more_room(&mut self.payload, needed),
+            _ => Ok(false),
         }
     }
 
@@ -175,9 +186,14 @@ impl<'f, S: Source> Decoder<'f, S> {
     }
 
     fn refused(&self, refusal: Refusal) -> Refused {
+        self.refused_at(self.at, self.rows, refusal)
+    }
+
+    /// The refusal of the row of this number, which begins at this byte of the window.
+    fn refused_at(&self, begins: usize, row: u64, refusal: Refusal) -> Refused {
         let (window, start) = self.source.window();
-        let path = path::in_stream(&self.format, &self.settings, window, self.at, &refusal);
-        let at = if refusal.is_at_an_offset() { Where::Row(self.rows) } else { Where::Nowhere };
+        let path = path::in_stream(&self.format, &self.settings, window, begins, &refusal);
+        let at = if refusal.is_at_an_offset() { Where::Row(row) } else { Where::Nowhere };
         Refused { refusal: refusal.moved(start), path: path.unwrap_or_default(), at }
     }
 

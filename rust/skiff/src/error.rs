@@ -21,6 +21,8 @@ pub struct Refused {
 pub(crate) enum Where {
     /// Bytes of a stream, and which row of it was met.
     Row(u64),
+    /// Nothing, but an index was asked for this row.
+    Indexed(u64),
     /// Value records.
     Value,
     /// Schema records.
@@ -42,12 +44,13 @@ impl Refused {
 }
 
 /// The refusal's words, then where it was met: `byte 15, row 1, column "name"` in reading, `value record 3,
-/// column "name", tag 1` in writing, `schema record 1, table 0, column "name"` of a format.
+/// column "name", tag 1` in writing, `schema record 1, table 0, column "name"` of a format, `row 7` of an index.
 impl fmt::Display for Refused {
     fn fmt(&self, out: &mut fmt::Formatter<'_>) -> fmt::Result {
         let place = self.refusal.place();
         let place = match self.at {
             Where::Row(row) => format!("byte {place}, row {row}"),
+            Where::Indexed(row) => format!("row {row}"),
             Where::Value => format!("value record {place}"),
             Where::Schema => format!("schema record {place}"),
             Where::Nowhere => String::new(),

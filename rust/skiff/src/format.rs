@@ -38,12 +38,12 @@ pub struct Extent {
 pub enum Stop {
     /// The stream ended after a row.
     End,
-    /// The next row was refused.
+    /// The next row was refused, or an index after the last one.
     Refused(Refusal),
 }
 
 /// A run over a stream. `rows` and `bytes` are those of the rows before it stopped, so `bytes` is where
-/// a refused row starts.
+/// a refused row starts. Where not the run but an index was refused, after it, they are all that there are.
 #[derive(Debug, Clone, Copy, PartialEq, Eq, Hash)]
 pub struct Run {
     /// How many rows were accepted.
@@ -56,7 +56,7 @@ pub struct Run {
 
 impl Run {
     #[inline]
-    fn of(report: &Report) -> Self {
+    pub(crate) fn of(report: &Report) -> Self {
         let stop = report.refusal.map_or(Stop::End, Stop::Refused);
         Self { rows: report.rows, bytes: report.bytes, stop }
     }

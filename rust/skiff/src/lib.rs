@@ -7,6 +7,7 @@ mod decoder;
 mod encoder;
 mod error;
 mod format;
+mod index;
 mod layout;
 mod owned;
 mod path;
@@ -26,10 +27,11 @@ mod wire_type;
 pub mod from_ytsaurus_rs {}
 
 pub use block::SchemaBlock;
-pub use decoder::{Decoder, Rows};
+pub use decoder::{Decoder, IndexedRows, Rows};
 pub use encoder::{Encoder, Sink, ToSlice, ToWriter};
 pub use error::{Error, Refused};
 pub use format::{Extent, Format, Run, Stop, WindowRun};
+pub use index::{Index, IndexRecord, OwnedIndex};
 pub use layout::{Columns, TableRef};
 pub use owned::{Value, Variant};
 pub use refusal::{Context, Refusal};

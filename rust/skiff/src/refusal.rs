@@ -426,7 +426,8 @@ mod tests {
     /// place 0.
     fn samples() -> impl Iterator<Item = (u64, &'static str, Refusal)> {
         WORDS.iter().map(|&(number, name, labels)| {
-            let carried = std::array::from_fn(|index| if index < labels.len() { [3, 80, 90][index] } else { 0 });
+            let carried =
+                std::array::from_fn(|index| if index < labels.len() { [3, 80, 90][index] } else { 0 });
             let place = if WITHOUT_PLACE.contains(&number) { 0 } else { 70 };
             (number, name, Refusal::from_numbers(number, place, carried))
         })

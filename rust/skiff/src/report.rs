@@ -88,4 +88,10 @@ impl Report {
             (None, what, ..) => Err(Refusal::from_numbers(0, what, [self.table, self.bytes, 0])),
         }
     }
+
+    /// Of a call that finds a row or a refusal; an end is nothing that it answers.
+    #[inline]
+    pub(crate) fn row(&self) -> Result<Extent, Refusal> {
+        self.extent()?.ok_or_else(|| Refusal::from_numbers(0, 0, [0; 3]))
+    }
 }

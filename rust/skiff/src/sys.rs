@@ -18,6 +18,9 @@ pub const VALUE_RECORD_BYTES: usize = 16;
 /// What one schema record takes of a record table.
 pub const SCHEMA_RECORD_BYTES: usize = 16;
 
+/// What one row takes of an index.
+pub const INDEX_RECORD_BYTES: usize = 16;
+
 /// The C functions: all of them are given settings, format and input first and the answer slice last, so
 /// that only what stands between is written for each. The version of the layouts is part of the symbol, as
 /// in the header, so that an archive of another version does not link.
@@ -57,6 +60,18 @@ reading_calls! {
     );
     "skiff1_run" fn skiff_run();
     "skiff1_run_window" fn skiff_run_window(rows: u64, bytes: u64);
+    "skiff1_build_index" fn skiff_build_index(index: *mut u8, index_len: usize);
+    "skiff1_check_index" fn skiff_check_index(index: *const u8, index_len: usize);
+    "skiff1_extend_index" fn skiff_extend_index(old: u64, index: *mut u8, index_len: usize);
+    "skiff1_decode_indexed" fn skiff_decode_indexed(
+        index: *const u8,
+        index_len: usize,
+        row: u64,
+        value_records: *mut u8,
+        value_records_len: usize,
+        payload: *mut u8,
+        payload_len: usize
+    );
 }
 
 extern "C" {
@@ -213,6 +228,9 @@ macro_rules! lend {
             $($rest)*)
     };
 }
+
+mod indexing;
+pub use indexing::{build_index, check_index, decode_indexed, extend_index};
 
 /// `skiff_skip`: the refusal's number, 0 where there is none.
 #[inline]
