@@ -4,8 +4,9 @@ use std::fs::{self, File};
 use std::io::{self, Read};
 use std::path::Path;
 
-use skiff::FormatTables;
+use skiff::{FormatTables, Settings};
 
+use crate::progress::Progress;
 use crate::schema_text;
 use crate::words::Failure;
 
@@ -69,4 +70,20 @@ pub fn input(name: &str) -> Result<Input, Failure> {
         Ok(Input { reader: Box::new(file), length: about.is_file().then_some(about.len()) })
     };
     open().map_err(|error| Failure::of_file(name, error))
+}
+
+/// A file, or standard input, as a whole: rows are found by their numbers in a slice alone. One that is longer than
+/// a slice may be is read up to a byte too many, by which the library refuses it.
+pub fn whole(name: &str) -> Result<Vec<u8>, Failure> {
+    let Input { reader, length } = input(name)?;
+    let progress = Progress::new(length);
+    let most = Settings::MOST_BYTES + 1;
+    let mut bytes = Vec::new();
+    bytes
+        .try_reserve_exact(length.unwrap_or_default().min(most) as usize)
+        .map_err(|error| Failure::of_file(name, error))?;
+    let read = progress.watch(reader).take(most).read_to_end(&mut bytes);
+    progress.clear();
+    read.map_err(|error| Failure::of_file(name, error))?;
+    Ok(bytes)
 }

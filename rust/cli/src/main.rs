@@ -1,9 +1,11 @@
-//! The command `skiff`: streams checked, counted and listed, and turned into JSON and back. What it says of a
-//! stream is what the proved library says.
+//! The command `skiff`: streams checked, counted, listed and indexed, and turned into JSON and back. What it says
+//! of a stream is what the proved library says.
 
 mod files;
+mod index;
 mod json;
 mod line;
+mod output;
 mod progress;
 mod read_rows;
 mod schema_text;
@@ -39,11 +41,59 @@ fn reading(command: Command) -> Command {
         .arg(limit("node-charge", "What each value of a row costs [default: 48]"))
 }
 
+fn index_argument() -> Arg {
+    Arg::new("index")
+        .long("index")
+        .value_name("PATH")
+        .help("The index's file [default: that of the stream with .index behind its name]")
+}
+
+fn flag(name: &'static str, help: &'static str) -> Arg {
+    Arg::new(name).long(name).action(ArgAction::SetTrue).help(help)
+}
+
+fn index_subcommand() -> Command {
+    reading(Command::new("index"))
+        .about("Builds the index of a stream, checks it, or extends it after rows were appended")
+        .long_about(
+            "Builds the index of a stream, checks it, or extends it after rows were appended.\n\nAn index has 16 \
+             bytes for each row, from row 0 on: the row's offset in the stream (8 bytes), its length (4) and its \
+             table (4), little-endian. Prints `end ROWS BYTES`, or the refusal in words; what is refused leaves the \
+             file as it was. The stream is read as a whole.",
+        )
+        .arg(flag("check", "Whether the file is the stream's index, to the byte; nothing is written"))
+        .arg(flag("extend", "Adds the rows after those that the file has").conflicts_with("check"))
+        .arg(index_argument())
+        .arg(format_argument())
+        .arg(stream_argument())
+}
+
+fn row_subcommand() -> Command {
+    reading(Command::new("row"))
+        .about("Shows a row by its number, as the index finds it")
+        .long_about(
+            "Shows a row by its number, as the index finds it: its lines of a listing (`skiff list --help`), or a \
+             line of JSON (`skiff cat --help`). Only the row's own record of the index is looked at, and no row \
+             before it.",
+        )
+        .arg(flag("json", "As JSON"))
+        .arg(index_argument())
+        .arg(
+            Arg::new("row")
+                .value_name("N")
+                .value_parser(value_parser!(u64))
+                .required(true)
+                .help("The row's number, from 0 on"),
+        )
+        .arg(format_argument())
+        .arg(stream_argument())
+}
+
 fn command() -> Command {
     let output = Arg::new("output").short('o').long("output").value_name("PATH");
     Command::new("skiff")
         .version(env!("CARGO_PKG_VERSION"))
-        .about("Skiff streams checked, counted and listed, and turned into JSON and back")
+        .about("Skiff streams checked, counted, listed and indexed, and turned into JSON and back")
         .after_help("Exit status: 0 accepted, 1 refused, 2 usage or a file. Messages go to standard error.")
         .subcommand_required(true)
         .arg_required_else_help(true)
@@ -84,10 +134,12 @@ fn command() -> Command {
             reading(Command::new("cat"))
                 .about("Prints a stream's rows as JSON, a line for each")
                 .long_about(json::ABOUT)
-                .arg(Arg::new("json").long("json").required(true).action(ArgAction::SetTrue).help("As JSON"))
+                .arg(flag("json", "As JSON").required(true))
                 .arg(format_argument())
                 .arg(stream_argument()),
         )
+        .subcommand(index_subcommand())
+        .subcommand(row_subcommand())
         .subcommand(
             Command::new("encode")
                 .about("Writes lines of JSON as a stream of table 0")
@@ -117,6 +169,8 @@ fn dispatch(matches: &ArgMatches) -> Result<Status, Failure> {
         Some(("run", given)) => read_rows::run(given),
         Some(("list", given)) => read_rows::list(given),
         Some(("cat", given)) => read_rows::cat(given),
+        Some(("index", given)) => index::index(given),
+        Some(("row", given)) => index::row(given),
         Some(("encode", given)) => write_rows::encode(given),
         Some(("schema", given)) => write_rows::schema(given),
         other => unreachable!("clap asks for one of them: {other:?}"),

@@ -15,7 +15,7 @@ use crate::words::{output_failed, Failure, Status};
 
 type Stream<'f, 'p> = Decoder<'f, FromReader<Watched<'p, Box<dyn io::Read + Send>>>>;
 
-fn word<'m>(given: &'m ArgMatches, name: &str) -> &'m str {
+pub fn word<'m>(given: &'m ArgMatches, name: &str) -> &'m str {
     given.get_one::<String>(name).expect("it is required or has a default")
 }
 
@@ -29,7 +29,7 @@ pub fn settings(given: &ArgMatches) -> Settings {
 }
 
 /// Says it, and nothing more.
-fn say(words: &str) -> Result<(), Failure> {
+pub fn say(words: &str) -> Result<(), Failure> {
     let mut out = io::stdout().lock();
     writeln!(out, "{words}").and_then(|()| out.flush()).map_err(output_failed)
 }

@@ -1,8 +1,8 @@
 //! The subcommands that write: encode, schema.
 
-use std::fs::{self, File};
+use std::fs;
 use std::io::{self, BufRead, BufReader, BufWriter, Write};
-use std::path::{Path, PathBuf};
+use std::path::Path;
 
 use clap::ArgMatches;
 use skiff::{Encoder, Error, Format, ToWriter};
@@ -10,44 +10,14 @@ use skiff::{Encoder, Error, Format, ToWriter};
 use crate::files::{self, TABLES};
 use crate::json;
 use crate::line::Line;
+use crate::output::{self, Output};
 use crate::progress::Progress;
 use crate::read_rows::settings;
 use crate::schema_text;
 use crate::words::{output_failed, Failure, Status};
 
-/// Where the stream goes: standard output, or a file, which is there under its name only once it is whole.
-struct Output {
-    writer: Box<dyn Write>,
-    /// The name that it is written under, and its own.
-    names: Option<(PathBuf, PathBuf)>,
-}
-
-impl Output {
-    fn open(name: Option<&String>) -> Result<Self, Failure> {
-        let Some(name) = name else {
-            return Ok(Self { writer: Box::new(io::stdout().lock()), names: None });
-        };
-        // What is there already and is no file, a pipe or a device, is written to as it is.
-        let is_file = fs::metadata(name).map_or(true, |about| about.is_file());
-        let part = PathBuf::from(if is_file { format!("{name}.part") } else { name.clone() });
-        let file = File::create(&part).map_err(|error| Failure::of_file(part.display(), error))?;
-        Ok(Self { writer: Box::new(file), names: is_file.then(|| (part, PathBuf::from(name))) })
-    }
-}
-
-/// Gives a file its own name, or takes away what was not finished.
-fn settle(names: Option<(PathBuf, PathBuf)>, done: Result<(), Failure>) -> Result<Status, Failure> {
-    if let Some((part, name)) = names {
-        match &done {
-            Ok(()) => fs::rename(&part, &name).map_err(|error| Failure::of_file(name.display(), error))?,
-            Err(_) => drop(fs::remove_file(&part)),
-        }
-    }
-    done.map(|()| Status::Accepted)
-}
-
 /// Refuses what is no format.
-fn checked(name: &str, format: &Format) -> Result<(), Failure> {
+pub fn checked(name: &str, format: &Format) -> Result<(), Failure> {
     let refused = |refusal| Failure::Refused(format!("{name}: {}", format.explain(refusal)));
     format.check().map_err(refused)
 }
@@ -63,13 +33,13 @@ pub fn encode(given: &ArgMatches) -> Result<Status, Failure> {
     let input = files::input(lines_name)?;
     let progress = Progress::new(input.length);
     let lines = BufReader::with_capacity(1 << 16, progress.watch(input.reader));
-    let Output { writer, names } = Output::open(word("output"))?;
+    let Output { writer, names } = Output::open(word("output").map(String::as_str))?;
     let done = Encoder::to_writer(BufWriter::with_capacity(1 << 16, writer), schema)
         .map_err(|refusal| Failure::Refused(refusal.to_string()))
         .map(|encoder| encoder.with_settings(settings(given)))
         .and_then(|encoder| write_lines(lines_name, lines, &shapes, encoder));
     progress.clear();
-    settle(names, done)
+    output::settle(names, done)
 }
 
 /// Writes each line as a row.

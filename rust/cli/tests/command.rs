@@ -1,74 +1,16 @@
 //! The command as a person runs it.
 
+mod common;
+
 use std::fs::{self, File};
 use std::io::{Read, Write};
-use std::path::{Path, PathBuf};
-use std::process::{Child, Command, Output, Stdio};
+use std::process::{Command, Stdio};
 
-const SKIFF: &str = env!("CARGO_BIN_EXE_skiff");
-
-fn examples() -> PathBuf {
-    Path::new(env!("CARGO_MANIFEST_DIR")).join("../../examples")
-}
-
-/// A folder of the test's own, empty.
-fn folder(name: &str) -> PathBuf {
-    let folder = Path::new(env!("CARGO_TARGET_TMPDIR")).join(name);
-    let _ = fs::remove_dir_all(&folder);
-    fs::create_dir_all(&folder).expect("it can be made");
-    folder
-}
-
-/// A file of such a folder, by its name.
-fn file(folder: &Path, name: &str, bytes: impl AsRef<[u8]>) -> String {
-    let path = folder.join(name);
-    fs::write(&path, bytes).expect("it can be written");
-    path.to_str().expect("text").to_owned()
-}
-
-fn start(words: &[&str], input: Stdio) -> Child {
-    let mut command = Command::new(SKIFF);
-    command.args(words).current_dir(examples()).stdin(input);
-    command.stdout(Stdio::piped()).stderr(Stdio::piped()).spawn().expect("it runs")
-}
-
-/// Runs it with these bytes on standard input.
-fn with_input(words: &[&str], input: impl AsRef<[u8]>) -> Output {
-    let mut child = start(words, Stdio::piped());
-    let mut stdin = child.stdin.take().expect("it is piped");
-    let input = input.as_ref().to_vec();
-    // It may end before it has read all.
-    let writer = std::thread::spawn(move || stdin.write_all(&input).is_ok());
-    let output = child.wait_with_output().expect("it ends");
-    writer.join().expect("the input is written");
-    output
-}
-
-fn skiff(words: &[&str]) -> Output {
-    with_input(words, [])
-}
-
-/// Status, standard output and standard error.
-#[track_caller]
-fn told(output: &Output) -> (i32, String, String) {
-    let text = |bytes: &[u8]| String::from_utf8(bytes.to_vec()).expect("text");
-    (output.status.code().expect("a status"), text(&output.stdout), text(&output.stderr))
-}
-
-#[track_caller]
-fn accepted(output: &Output) -> String {
-    let (status, words, errors) = told(output);
-    assert_eq!((status, errors.as_str()), (0, ""), "{words}");
-    words
-}
-
-fn rows() -> Vec<u8> {
-    fs::read(examples().join("rows.skf")).expect("it is there")
-}
+use common::{accepted, examples, file, folder, rows, skiff, start, told, with_input, SKIFF};
 
 #[test]
 fn usage() {
-    for subcommand in ["check", "run", "list", "cat", "encode", "schema"] {
+    for subcommand in ["check", "run", "list", "cat", "index", "row", "encode", "schema"] {
         let help = accepted(&skiff(&[subcommand, "--help"]));
         assert!(help.contains("Usage:") && help.contains("FORMAT"), "{help}");
         assert_eq!(told(&skiff(&[subcommand])).0, 2);
