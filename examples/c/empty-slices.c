@@ -42,6 +42,14 @@ int main(void)
     says("skiff_run", skiff_run(SETTINGS, FORMAT, NONE, ANSWER), SKIFF_EMPTY_TABLE_SCHEMAS, SKIFF_WHAT_REFUSAL);
     says("skiff_run_window", skiff_run_window(SETTINGS, FORMAT, NONE, 0, 0, ANSWER), SKIFF_EMPTY_TABLE_SCHEMAS,
          SKIFF_WHAT_REFUSAL);
+    says("skiff_build_index", skiff_build_index(SETTINGS, FORMAT, NONE, NONE, ANSWER), SKIFF_EMPTY_TABLE_SCHEMAS,
+         SKIFF_WHAT_REFUSAL);
+    says("skiff_check_index", skiff_check_index(SETTINGS, FORMAT, NONE, NONE, ANSWER), SKIFF_EMPTY_TABLE_SCHEMAS,
+         SKIFF_WHAT_REFUSAL);
+    says("skiff_extend_index", skiff_extend_index(SETTINGS, FORMAT, NONE, 0, NONE, ANSWER), SKIFF_EMPTY_TABLE_SCHEMAS,
+         SKIFF_WHAT_REFUSAL);
+    says("skiff_decode_indexed", skiff_decode_indexed(SETTINGS, FORMAT, NONE, NONE, 0, NONE, NONE, ANSWER),
+         SKIFF_EMPTY_TABLE_SCHEMAS, SKIFF_WHAT_REFUSAL);
     says("skiff_encode", skiff_encode(SETTINGS, NONE, NONE, 0, 0, NONE, NONE, NONE, 0, ANSWER), SKIFF_BAD_SCHEMA_TABLE,
          SKIFF_WHAT_REFUSAL);
     says("skiff_check_value_table", skiff_check_value_table(NONE, NONE, ANSWER), SKIFF_BAD_VALUE_TABLE,
@@ -61,6 +69,10 @@ int main(void)
     short_answer("skiff_decode", skiff_decode(SETTINGS, FORMAT, NONE, 0, NONE, NONE, NONE));
     short_answer("skiff_run", skiff_run(SETTINGS, FORMAT, NONE, NONE));
     short_answer("skiff_run_window", skiff_run_window(SETTINGS, FORMAT, NONE, 0, 0, NONE));
+    short_answer("skiff_build_index", skiff_build_index(SETTINGS, FORMAT, NONE, NONE, NONE));
+    short_answer("skiff_check_index", skiff_check_index(SETTINGS, FORMAT, NONE, NONE, NONE));
+    short_answer("skiff_extend_index", skiff_extend_index(SETTINGS, FORMAT, NONE, 0, NONE, NONE));
+    short_answer("skiff_decode_indexed", skiff_decode_indexed(SETTINGS, FORMAT, NONE, NONE, 0, NONE, NONE, NONE));
     short_answer("skiff_encode", skiff_encode(SETTINGS, NONE, NONE, 0, 0, NONE, NONE, NONE, 0, NONE));
     short_answer("skiff_check_value_table", skiff_check_value_table(NONE, NONE, NONE));
     short_answer("skiff_check_format", skiff_check_format(FORMAT, NONE));
