@@ -38,6 +38,8 @@ pub use indexed::IndexedRows;
 /// # Ok::<(), Box<dyn std::error::Error>>(())
 /// ```
 ///
+/// Over a slice it also finds rows by their numbers, through an index: [`Decoder::indexed_row`].
+///
 /// A refusal moves nothing: asked again, the decoder refuses again. A stream has at most
 /// [`Settings::MOST_BYTES`] bytes: a longer slice is refused by [`Refusal::Setting`] at once, and what a longer
 /// reader gives after the rows up to there.
