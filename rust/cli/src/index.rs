@@ -1,5 +1,6 @@
 //! The subcommands of an index: index, row.
 
+use std::fs;
 use std::io::{self, BufWriter, Write};
 
 use clap::ArgMatches;
@@ -16,13 +17,18 @@ use crate::write_rows::checked;
 fn index_name(given: &ArgMatches) -> Result<String, Failure> {
     let stream = word(given, "stream");
     let failed = |words: &str| Err(Failure::File(words.to_owned()));
-    match given.get_one::<String>("index") {
-        Some(name) if name == STANDARD_INPUT => failed("an index is a file"),
-        Some(name) => Ok(name.clone()),
+    let name = match given.get_one::<String>("index") {
+        Some(name) if name == STANDARD_INPUT => return failed("an index is a file"),
+        Some(name) => name.clone(),
         None if stream == STANDARD_INPUT => {
-            failed("standard input has no index beside it: --index names one")
+            return failed("standard input has no index beside it: --index names one");
         }
-        None => Ok(format!("{stream}.index")),
+        None => format!("{stream}.index"),
+    };
+    // A slip in the names must not put the index in the stream's place.
+    match (fs::canonicalize(&name), fs::canonicalize(stream)) {
+        (Ok(one), Ok(other)) if one == other => failed("the index and the stream are one file"),
+        _ => Ok(name),
     }
 }
 

@@ -152,6 +152,18 @@ fn the_index_may_stand_elsewhere() {
     }
 }
 
+/// A slip in the names costs no stream.
+#[test]
+fn the_index_is_not_the_stream() {
+    let (stream, _) = delivery("one-file", &rows());
+    for words in [&["index"][..], &["index", "--extend"], &["index", "--check"], &["row", "0"]] {
+        let words = [words, &["--index", &stream, ".", &stream]].concat();
+        let one = (2, String::new(), "skiff: the index and the stream are one file\n".to_owned());
+        assert_eq!(told(&skiff(&words)), one);
+        assert_eq!(read(&stream), rows());
+    }
+}
+
 #[test]
 fn files_that_are_none() {
     let (stream, index) = delivery("none", &rows());
