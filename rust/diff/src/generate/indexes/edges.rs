@@ -9,8 +9,8 @@ use crate::case::{op, Case};
 use crate::generate::rows::edges::{schema_a, schema_b, FULL};
 use crate::generate::rows::{self, usual};
 use crate::generate::Kind;
-use crate::indexing::{filled, plainly, Call, IndexCase};
-use crate::plan::{inline, lay_out, Plan};
+use crate::indexing::{filled, plainly, Call, IndexCase, CALLS};
+use crate::plan::{chain, fan, inline, lay_out, table_of, Plan};
 use crate::room::{Room, Slack};
 
 const KIND: Kind = "index edge";
@@ -179,9 +179,47 @@ pub fn fixed(emit: &mut Emit) {
 /// What a sample has to have, whatever else is in it.
 pub fn few(emit: &mut Emit) {
     refused(&mut |kind, case| {
-        let (bytes, number) = (case.index.len(), case.number);
-        if [0, 32, 47, 48, 49].contains(&bytes) && [0, 2, 3, 4, u64::MAX].contains(&number) {
+        let is_edge = match case.stream == three_rows() {
+            true => [0, 47, 48, 49, 64].contains(&case.index.len()) && [0, 2, 3, 4, 5].contains(&case.number),
+            false => case.index.len() == 48 && [0, 4].contains(&case.number),
+        };
+        if is_edge {
             emit(kind, case);
         }
     });
+    let stream = three_rows();
+    let (whole, length) = (index_of(&stream), stream.input.len() as u64);
+    for n in [(1 << 32) + 1, (1 << 60) + 1, u64::MAX] {
+        emit(KIND, call(Call::Extend, &stream, &whole, n));
+        emit(KIND, call(Call::Row, &stream, &whole, n));
+    }
+    for offset in [length - 1, length, (1 << 32) + 10, u64::MAX] {
+        let record = IndexRecord { offset, length: 5, table: 1 }.in_bytes();
+        let index = [&whole[..16], &record, &whole[32..]].concat();
+        [Call::Check, Call::Row].into_iter().for_each(|one| emit(KIND, call(one, &stream, &index, 1)));
+        // What stands beside the record is not looked at.
+        emit(KIND, call(Call::Row, &stream, &index, 0));
+    }
+    for table in [2, 65_536 + 1] {
+        let record = IndexRecord { offset: 10, length: 5, table }.in_bytes();
+        let index = [&whole[..16], &record, &whole[32..]].concat();
+        [Call::Check, Call::Row].into_iter().for_each(|one| emit(KIND, call(one, &stream, &index, 1)));
+    }
+    let rooms = [
+        (Slack::Less(1), Slack::More(0)),
+        (Slack::More(15), Slack::Less(1)),
+        (Slack::More(15), Slack::More(1)),
+    ];
+    for (records, payload) in rooms {
+        emit(KIND, lend(call(Call::Row, &stream, &whole, 0), Room { records, payload }));
+    }
+    // A row that is cut behind its table's tag, and formats that are too deep or have a child too many.
+    let cut = IndexRecord { offset: 0, length: 4, table: 0 }.in_bytes();
+    emit(KIND, call(Call::Row, &self::stream(&[0, 0]), &cut, 0));
+    for plans in [chain(64, 19, 8), fan(17, 256, 2)] {
+        let mut stream = Case { op: op::RUN, input: vec![0, 0, 7], ..Case::default() }.with_settings(usual());
+        let block = lay_out(&table_of(&plans), &mut stream.records, &mut stream.names);
+        stream.references.extend(inline(block));
+        CALLS.into_iter().for_each(|one| emit(KIND, call(one, &stream, &cut, 0)));
+    }
 }
