@@ -89,7 +89,7 @@ fn extending() {
             "old_records_are_not_checked",
             "more_old_records_than_rows_are_passed",
             "index_room_before_the_old_records",
-            "the_run_ends_behind_the_old_records",
+            "old_records_are_checked_before_the_run",
             "answers_the_rows_that_were_added",
             "an_old_count_past_the_slice_is_a_mismatch",
         ],

@@ -3,7 +3,7 @@
 use plain::answer::number::{
     INDEX_MISMATCH, NO_INDEX_ROOM, NO_NODE_ROOM, NO_PAYLOAD_ROOM, NO_SUCH_ROW, SETTING,
 };
-use plain::indexing::{accepted, build, check, decode_row, extend, index_record, Accepted, Plainly};
+use plain::indexing::{accepted, build, check, decode_row, extend, index_record, Plainly};
 use plain::reading::Skipped;
 use plain::report::{what, Report, REPORT_BYTES};
 use plain::settings::MOST;
@@ -47,20 +47,19 @@ pub fn build_answer(call: Call, index: &mut [u8], answer: &mut [u8]) -> u32 {
     let stream = plainly(&call);
     let mut report = Report::of_run(&build(&stream, index));
     let fault = named();
-    // Faults are planted in short indexes.
-    let rows = || if fault.is_empty() { Accepted { rows: vec![], refusal: None } } else { accepted(&stream) };
-    let own = rows();
-    let need = own.index().len();
+    // What is not asked for a fault need not be read twice.
+    let whole = if fault.is_empty() { Vec::new() } else { accepted(&stream).index() };
+    let need = whole.len();
     match fault {
         "index_room_before_the_run" if report.number > 10 && report.number < 18 && need > index.len() => {
             report = instead(&report, NO_INDEX_ROOM);
         }
         "writes_the_rows_of_a_refused_run" if report.number > 10 && need <= index.len() => {
-            index[..need].copy_from_slice(&own.index());
+            index[..need].copy_from_slice(&whole);
         }
         "writes_records_while_there_is_room" if report.number == NO_INDEX_ROOM => {
             let some = index.len() / RECORD_BYTES * RECORD_BYTES;
-            index[..some].copy_from_slice(&own.index()[..some]);
+            index[..some].copy_from_slice(&whole[..some]);
         }
         "writes_past_the_index" if report.number == 0 => {
             if let Some(byte) = index.get_mut(need) {
@@ -69,7 +68,7 @@ pub fn build_answer(call: Call, index: &mut [u8], answer: &mut [u8]) -> u32 {
         }
         "part_of_an_index_record_is_room" if report.number == NO_INDEX_ROOM && need - index.len() < 16 => {
             let all = index.len();
-            index.copy_from_slice(&own.index()[..all]);
+            index.copy_from_slice(&whole[..all]);
             report = instead(&report, 0);
         }
         "the_last_row_is_left_out" if report.number == 0 && need > 0 => {
@@ -86,10 +85,10 @@ pub fn check_answer(call: Call, index: &[u8], answer: &mut [u8]) -> u32 {
     let mut report = Report::of_run(&check(&stream, index));
     let whole = || accepted(&stream).index();
     match named() {
-        "a_ragged_tail_is_passed" if report.number == INDEX_MISMATCH => {
-            if index[..index.len() / 16 * 16] == whole() {
-                report = instead(&report, 0);
-            }
+        "a_ragged_tail_is_passed"
+            if report.number == INDEX_MISMATCH && index[..index.len() / 16 * 16] == whole() =>
+        {
+            report = instead(&report, 0);
         }
         "records_behind_are_passed" if report.number == INDEX_MISMATCH && index.starts_with(&whole()) => {
             report = instead(&report, 0);
@@ -139,17 +138,15 @@ pub fn extend_answer(call: Call, old: u64, index: &mut [u8], answer: &mut [u8]) 
                 report = instead(&report, 0);
             }
         }
-        "index_room_before_the_old_records" if report.number == INDEX_MISMATCH => {
-            if accepted(&stream).rows.len() > index.len() / 16 {
-                report = instead(&report, NO_INDEX_ROOM);
-            }
+        "index_room_before_the_old_records"
+            if report.number == INDEX_MISMATCH && accepted(&stream).rows.len() > index.len() / 16 =>
+        {
+            report = instead(&report, NO_INDEX_ROOM);
         }
-        "the_run_ends_behind_the_old_records" if report.number > 10 && report.number < 18 => {
-            // What is refused after the old records would have been checked.
-            let own = accepted(&stream);
-            if old > own.rows.len() as u64 {
-                report = instead(&report, INDEX_MISMATCH);
-            }
+        "old_records_are_checked_before_the_run"
+            if (11..=17).contains(&report.number) && old > accepted(&stream).rows.len() as u64 =>
+        {
+            report = instead(&report, INDEX_MISMATCH);
         }
         "answers_the_rows_that_were_added" if report.number == 0 => report.rows -= old,
         "an_old_count_past_the_slice_is_a_mismatch" if old > index.len() as u64 / 16 => {
@@ -201,15 +198,16 @@ pub fn row_answer(call: Call, index: &[u8], row: u64, lent: Lent, answer: &mut [
     let mut report = Report::of_skip(&done.map(Skipped::Row));
     let refused = |number: u64| Report { what: what::REFUSAL, number, ..Report::default() };
     match fault {
-        "part_of_an_index_record_is_a_row" if report.number == NO_SUCH_ROW && !index.is_empty() => {
-            if row == index.len() as u64 / 16 && index.len() % 16 > 0 {
-                report = refused(INDEX_MISMATCH);
-            }
+        "part_of_an_index_record_is_a_row"
+            if report.number == NO_SUCH_ROW && row == record_count(index) && index.len() % 16 > 0 =>
+        {
+            report = refused(INDEX_MISMATCH);
         }
-        "an_offset_at_the_end_is_an_end" if report.number == INDEX_MISMATCH => {
-            if index_record(index, row).offset == call.input.len() as u64 {
-                report = Report { what: what::END, ..Report::default() };
-            }
+        "an_offset_at_the_end_is_an_end"
+            if report.number == INDEX_MISMATCH
+                && index_record(index, row).offset == call.input.len() as u64 =>
+        {
+            report = Report { what: what::END, ..Report::default() };
         }
         "a_mismatch_comes_before_the_row" if (11..=17).contains(&report.number) => {
             report = refused(INDEX_MISMATCH);
