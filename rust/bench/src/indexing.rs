@@ -15,12 +15,13 @@ use skiff::sys;
 use crate::same::Room;
 use crate::timing::nanoseconds;
 
-/// A stream with its index as the original's rows have it, and row numbers in no order.
+/// A stream with its index as the original's rows have it, and the positions that a host would keep instead.
 pub struct Indexed {
     case: Case,
     rows: Vec<IndexRecord>,
     whole: Vec<u8>,
-    anywhere: Vec<u32>,
+    /// By themselves, so that looking one up touches no more memory than it has to.
+    positions: Vec<u64>,
     room: Room,
 }
 
@@ -28,13 +29,12 @@ pub struct Indexed {
 const ROW_BYTES: usize = 7 * 8;
 
 impl Indexed {
-    pub fn new(case: Case, room: Room, lookups: usize) -> Self {
+    pub fn new(case: Case, room: Room) -> Self {
         let case = case.with_settings(Settings::default());
         let rows = rows_of(&case);
         let whole = rows.iter().flat_map(IndexRecord::in_bytes).collect();
-        let rng = &mut Rng::new(40_000);
-        let anywhere = (0..lookups).map(|_| rng.below(rows.len()) as u32).collect();
-        Self { case, rows, whole, anywhere, room }
+        let positions = rows.iter().map(|row| row.offset).collect();
+        Self { case, rows, whole, positions, room }
     }
 
     fn streamed(&self) -> Streamed<'_> {
@@ -111,43 +111,44 @@ impl Indexed {
         time
     }
 
-    /// Rows anywhere, by their records.
-    pub fn anywhere_by_index(&self) -> f64 {
+    /// So many row numbers in no order.
+    pub fn anywhere(&self, count: usize) -> Vec<u32> {
+        let rng = &mut Rng::new(40_000);
+        (0..count).map(|_| rng.below(self.rows.len()) as u32).collect()
+    }
+
+    /// So many row numbers one after the other, from the first again after the last.
+    pub fn in_order(&self, count: usize) -> Vec<u32> {
+        (0..count).map(|row| (row % self.rows.len()) as u32).collect()
+    }
+
+    /// Rows of these numbers, by their records.
+    pub fn rows_by_index(&self, numbers: &[u32]) -> f64 {
         let streamed = self.streamed();
         let (mut records, mut payload) = self.room.slices();
         let mut answer = [0; sys::ANSWER_SIZE];
         nanoseconds(|| {
-            for n in &self.anywhere {
+            for n in numbers {
                 let lent = [&mut records[..], &mut payload];
-                let refused = black_box(&streamed).decode_indexed(
-                    &self.whole,
-                    u64::from(*n),
-                    lent,
-                    black_box(&mut answer),
-                );
+                let refused = streamed.decode_indexed(&self.whole, u64::from(*n), lent, &mut answer);
                 assert_eq!(refused, 0, "a good row");
             }
         })
     }
 
-    /// The same rows by decode, at positions that a host would keep for itself.
-    pub fn anywhere_by_position(&self) -> f64 {
+    /// The same rows by decode, at positions that are known.
+    pub fn rows_by_position(&self, numbers: &[u32]) -> f64 {
         let streamed = self.streamed();
+        let (settings, format, input) = (streamed.numbers(), streamed.format(), streamed.input());
         let (mut records, mut payload) = self.room.slices();
         let mut answer = [0; sys::ANSWER_SIZE];
         nanoseconds(|| {
-            for n in &self.anywhere {
-                let at = self.rows[*n as usize].offset;
-                let (numbers, format, input) = (streamed.numbers(), streamed.format(), streamed.input());
-                let to = black_box(&mut answer);
+            for n in numbers {
+                let at = self.positions[*n as usize];
                 let refused =
-                    sys::decode(numbers, black_box(&format), input, at, &mut records, &mut payload, to);
+                    sys::decode(settings, &format, input, at, &mut records, &mut payload, &mut answer);
                 assert_eq!(refused, 0, "a good row");
             }
         })
-    }
-
-    pub fn lookups(&self) -> usize {
-        self.anywhere.len()
     }
 }

@@ -180,7 +180,7 @@ fn index(options: &Options) {
     const LOOKED_UP: usize = 39_999;
     let case = ALL[0].stream(ROWS);
     let room = same::check(&case, &original(&case), ROWS);
-    let indexed = indexing::Indexed::new(case, room, LOOKUPS);
+    let indexed = indexing::Indexed::new(case, room);
     println!("\n{:46} {:>12} {:>12} {:>8}", "schema A, 100,000 rows", "without", "index", "ratio");
     let line = |name: &str, best: timing::Best, rows: f64, digits: usize| {
         let (without, with) = (best.original / rows, best.library / rows);
@@ -202,9 +202,18 @@ fn index(options: &Options) {
     let skipping = || indexed.row_by_skipping(LOOKED_UP);
     let by_index = || indexed.row_by_index(LOOKED_UP);
     line("row 40,000 beside skipping to it, ns", best_of(options.runs, skipping, by_index), 1.0, 0);
-    let by_position = || indexed.anywhere_by_position();
-    let anywhere = best_of(options.runs, by_position, || indexed.anywhere_by_index());
-    line("any row beside decode at its position, ns/row", anywhere, indexed.lookups() as f64, 1);
+    for (name, numbers) in [
+        ("a million rows in order beside decode, ns/row", indexed.in_order(LOOKUPS)),
+        ("a million rows anywhere beside decode, ns/row", indexed.anywhere(LOOKUPS)),
+    ] {
+        let by_position = || indexed.rows_by_position(&numbers);
+        let best = best_of(options.runs, by_position, || indexed.rows_by_index(&numbers));
+        line(name, best, LOOKUPS as f64, 1);
+    }
+    println!(
+        "(the time of a single row has the clock's own in it; decode is given positions of 8 bytes each;"
+    );
+    println!(" in order a row and its record lie beside the ones before, anywhere they do not)");
 }
 
 /// The growth is the time a record takes here, over what it took in the smallest block.
