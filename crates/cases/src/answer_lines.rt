@@ -1,4 +1,6 @@
 // A line of standard output, from its start to its end.
+use crate::reports::stopped;
+use rules::Ran;
 use rules::Report;
 use wire::wide;
 ghost use Prim.Native.Nat.{_≤_};
@@ -19,6 +21,14 @@ pub fn write_report(r: Report) {
     write_number(r.a);
     write_number(r.b);
     write_number(r.c);
+}
+
+// What a run answers: why it stopped, and then the rows and bytes that it accepted.
+pub fn write_ran(ran: Ran) {
+    let stop = ran.stop;
+    write_report(stopped(stop));
+    write_number(ran.rows);
+    write_number(ran.bytes);
 }
 
 pub fn end_line() {

@@ -12,6 +12,7 @@ use wire::u32_at;
 use wire::u64_at;
 ghost use Prim.Native.Nat.{_+_, _≤_};
 ghost use lib.ListN.{length};
+ghost use mathlib.Core.Path.{_≡_};
 
 // A case: where its first four byte strings end in the space, one after another, and how many bytes of the input its fifth has. None
 // was read where it is not whole.
@@ -111,4 +112,14 @@ pub fn next_case(space: &mut [u8], input: &mut [u8]) -> Case
         registry,
         input: fifth,
     }
+}
+
+// What every byte is before the call of a slice that a program lends, so that the line shows which of them were written.
+const UNTOUCHED: u8 = 165;
+
+// Room for a lent slice. The `ensures` gives only the length, which lending the array as a slice needs.
+pub fn lent_room() -> [u8; 4096]
+    ensures { λ r. ⌜ 4096 ≡ length r ⌝ }
+{
+    [UNTOUCHED; 4096]
 }

@@ -1,7 +1,9 @@
 // Answers in numbers, as a line begins.
 use rules::Checked;
 use rules::Extent;
+use rules::Read;
 use rules::Report;
+use rules::Stop;
 
 pub fn accepted(x: u64, y: u64) -> Report {
     Report {
@@ -39,5 +41,22 @@ pub fn accepted_row(row: Extent) -> Report {
         a: row.bytes,
         b: row.records,
         c: row.payload,
+    }
+}
+
+// The end is all zeros, which no row is: a row has bytes.
+pub fn read(r: Read) -> Report {
+    match r {
+        Read::Row(row) => accepted_row(row),
+        Read::End => accepted(0, 0),
+        Read::Refused(why) => why.in_numbers(),
+    }
+}
+
+// Why a run stopped.
+pub fn stopped(stop: Stop) -> Report {
+    match stop {
+        Stop::End => accepted(0, 0),
+        Stop::Refused(why) => why.in_numbers(),
     }
 }

@@ -1,17 +1,15 @@
 // What each op answers, in numbers.
 use cases::reports::accepted;
-use cases::reports::accepted_row;
 use cases::reports::checked;
 use cases::reports::nothing;
+use cases::reports::read;
 use row::skip_row;
 use rules::Checked;
 use rules::Known;
 use rules::Located;
-use rules::Read;
 use rules::Refusal;
 use rules::Report;
 use rules::Settings;
-use rules::Stop;
 use rules::Why;
 use rules::Width;
 use schema::check_encoder_schema;
@@ -62,23 +60,6 @@ fn located(records: &[u8], names: &[u8], references: &[u8], registry: &[u8], t: 
             why: Why::UnknownRegistryReference { table: t },
             place: t,
         }.in_numbers(),
-    }
-}
-
-// The end is all zeros, which no row is: a row has bytes.
-pub fn read(r: Read) -> Report {
-    match r {
-        Read::Row(row) => accepted_row(row),
-        Read::End => accepted(0, 0),
-        Read::Refused(why) => why.in_numbers(),
-    }
-}
-
-// Why a run stopped.
-pub fn stopped(stop: Stop) -> Report {
-    match stop {
-        Stop::End => accepted(0, 0),
-        Stop::Refused(why) => why.in_numbers(),
     }
 }
 

@@ -1,23 +1,12 @@
 // A row decoded into two lent slices.
-use crate::answers::read;
 use cases::answer_lines::end_line;
 use cases::answer_lines::shown;
 use cases::answer_lines::write_bytes;
 use cases::answer_lines::write_report;
+use cases::lent_room;
+use cases::reports::read;
 use decode::next_row;
 use rules::Settings;
-ghost use lib.ListN.{length};
-ghost use mathlib.Core.Path.{_≡_};
-
-// What every lent byte is before the call, so that the line shows which of them were written.
-const UNTOUCHED: u8 = 165;
-
-// Room for a lent slice. The `ensures` gives only the length, which lending the array as a slice needs.
-fn room() -> [u8; 4096]
-    ensures { λ r. ⌜ 4096 ≡ length r ⌝ }
-{
-    [UNTOUCHED; 4096]
-}
 
 // Decodes the row at a position and writes its line.
 fn write_into(
@@ -61,8 +50,8 @@ pub fn decode_row(
 ) {
     let n = shown(sizes % 4294967296);
     let m = shown(sizes / 4294967296);
-    let mut records = room();
-    let mut payload = room();
+    let mut records = lent_room();
+    let mut payload = lent_room();
     write_into(
         settings,
         table,

@@ -8,23 +8,13 @@ mod answers;
 mod decoding;
 
 use answers::answer;
-use answers::stopped;
 use cases::answer_lines::end_line;
-use cases::answer_lines::write_number;
+use cases::answer_lines::write_ran;
 use cases::answer_lines::write_report;
 use cases::next_case;
 use decoding::decode_row;
-use rules::Ran;
 use rules::Settings;
 use run::run;
-
-fn write_ran(ran: Ran) {
-    let stop = ran.stop;
-    write_report(stopped(stop));
-    write_number(ran.rows);
-    write_number(ran.bytes);
-    end_line();
-}
 
 fn answer_case(
     op: u64,
@@ -38,7 +28,10 @@ fn answer_case(
     b: u64,
 ) {
     match op {
-        8 => write_ran(run(settings, records, names, references, registry, input)),
+        8 => {
+            write_ran(run(settings, records, names, references, registry, input));
+            end_line();
+        }
         9 => decode_row(settings, records, names, references, registry, input, a, b),
         _ => {
             write_report(answer(

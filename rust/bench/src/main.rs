@@ -1,7 +1,9 @@
 //! bench: what skiff_run costs beside a driver over the original's skip_row, skiff_decode beside its
-//! next_row and, with the feature `encode`, skiff_encode beside its write, on the same bytes; and what the
-//! check of a format costs by its records.
+//! next_row and, with the feature `encode`, skiff_encode beside its write, on the same bytes; with the feature `index`,
+//! what the index calls cost beside those that do without one; and what the check of a format costs by its records.
 
+#[cfg(feature = "index")]
+mod indexing;
 mod same;
 mod schemas;
 mod timing;
@@ -17,12 +19,14 @@ use timing::{
 };
 
 const USAGE: &str = "\
-usage: bench [rows|growth|decode|encode|format] [--runs N] [--rows N]
+usage: bench [rows|growth|decode|encode|index|format] [--runs N] [--rows N]
   rows    each schema, 1,000,000 rows of A and N (300,000) of the others
   growth  10,000 to 1,000,000 rows of schema A
   decode  1,000,000 rows of schema A decoded one by one
   encode  1,000,000 rows of schema A encoded one by one, and rows of 1,000 to 1,000,000 records; only with
           the feature of that name
+  index   an index of 100,000 rows of schema A built and checked, and rows decoded by it; only with the feature of
+          that name
   format  the check of formats of 1,024 to 131,072 records
   all of them without a word. Times are the best of N (15) runs, in processor time";
 
@@ -43,6 +47,7 @@ fn options() -> Option<Options> {
             "--rows" => options.rows = given.next()?.parse().ok()?,
             "rows" | "growth" | "decode" | "format" => options.words.push(word),
             "encode" if cfg!(feature = "encode") => options.words.push(word),
+            "index" if cfg!(feature = "index") => options.words.push(word),
             _ => return None,
         }
     }
@@ -71,6 +76,10 @@ fn main() -> ExitCode {
     #[cfg(feature = "encode")]
     if wants("encode") {
         encode(&options);
+    }
+    #[cfg(feature = "index")]
+    if wants("index") {
+        index(&options);
     }
     if wants("format") {
         format(&options);
@@ -146,7 +155,10 @@ fn encode(options: &Options) {
         println!("{name:46} {CLIENT_ROWS:8} {original:9.1} {library:9.1} {:6.2}", library / original);
     };
     line("skiff_encode", best_of(options.runs, original, || writing::encode_bare(&case, &standing)));
-    line("SchemaBlock::append", best_of(options.runs, original, || writing::encode_library(&case, &standing)));
+    line(
+        "SchemaBlock::append",
+        best_of(options.runs, original, || writing::encode_library(&case, &standing)),
+    );
     println!(
         "\n{:46} {:>8} {:>12} {:>10}",
         "one row, by its value records", "records", "encode, us", "ns/record"
@@ -156,6 +168,52 @@ fn encode(options: &Options) {
         let best = best_of(options.runs, || 0.0, || long.encode()).library;
         println!("{:46} {records:8} {:12.1} {:10.2}", "", best / 1_000.0, best / records as f64);
     }
+}
+
+/// Each index call beside the library's own calls that do without one, in turns. A row by its record has a check of the
+/// format in it, as every row that is skipped or decoded has.
+#[cfg(feature = "index")]
+fn index(options: &Options) {
+    const ROWS: u64 = 100_000;
+    const LOOKUPS: usize = 1_000_000;
+    // Row 40,000, as people count.
+    const LOOKED_UP: usize = 39_999;
+    let case = ALL[0].stream(ROWS);
+    let room = same::check(&case, &original(&case), ROWS);
+    let indexed = indexing::Indexed::new(case, room);
+    println!("\n{:46} {:>12} {:>12} {:>8}", "schema A, 100,000 rows", "without", "index", "ratio");
+    let line = |name: &str, best: timing::Best, rows: f64, digits: usize| {
+        let (without, with) = (best.original / rows, best.library / rows);
+        println!("{name:46} {without:12.digits$} {with:12.digits$} {:8.5}", with / without);
+    };
+    let rows = ROWS as f64;
+    line(
+        "build beside the run, ns/row",
+        best_of(options.runs, || indexed.run(), || indexed.build()),
+        rows,
+        1,
+    );
+    line(
+        "check beside the run, ns/row",
+        best_of(options.runs, || indexed.run(), || indexed.check()),
+        rows,
+        1,
+    );
+    let skipping = || indexed.row_by_skipping(LOOKED_UP);
+    let by_index = || indexed.row_by_index(LOOKED_UP);
+    line("row 40,000 beside skipping to it, ns", best_of(options.runs, skipping, by_index), 1.0, 0);
+    for (name, numbers) in [
+        ("a million rows in order beside decode, ns/row", indexed.in_order(LOOKUPS)),
+        ("a million rows anywhere beside decode, ns/row", indexed.anywhere(LOOKUPS)),
+    ] {
+        let by_position = || indexed.rows_by_position(&numbers);
+        let best = best_of(options.runs, by_position, || indexed.rows_by_index(&numbers));
+        line(name, best, LOOKUPS as f64, 1);
+    }
+    println!(
+        "(the time of a single row has the clock's own in it; decode is given positions of 8 bytes each;"
+    );
+    println!(" in order a row and its record lie beside the ones before, anywhere they do not)");
 }
 
 /// The growth is the time a record takes here, over what it took in the smallest block.

@@ -20,6 +20,14 @@ pub mod op {
     pub const ENCODE: u32 = 10;
     /// Of the value table alone.
     pub const CHECK_TABLE: u32 = 11;
+    /// Of the stream that stands behind the registry, whose length is the low half of `b`; `input` is the index
+    /// before the call.
+    pub const BUILD_INDEX: u32 = 12;
+    pub const CHECK_INDEX: u32 = 13;
+    /// From an old count of `a`.
+    pub const EXTEND_INDEX: u32 = 14;
+    /// Of row `a`, into slices whose lengths are the halves of `b`'s high half.
+    pub const DECODE_INDEXED: u32 = 15;
 }
 
 /// Two numbers of 32 bits as one.
@@ -59,6 +67,11 @@ impl Case {
     /// Whether it reads rows.
     pub fn reads(&self) -> bool {
         [op::SKIP, op::RUN, op::DECODE].contains(&self.op)
+    }
+
+    /// Whether it is about an index.
+    pub fn is_of_index(&self) -> bool {
+        (op::BUILD_INDEX..=op::DECODE_INDEXED).contains(&self.op)
     }
 
     pub fn settings(&self) -> Settings {
@@ -132,8 +145,9 @@ impl Case {
     }
 }
 
-/// An answer line: number, place and the three values; for a run also its rows and bytes, and for a
-/// decoding call what both lent slices hold after it, and for an encoding one what its output holds.
+/// An answer line: number, place and the three values; for a run and for what is said of a whole index also its rows
+/// and bytes, for a decoding call what both lent slices hold after it, and for an encoding one or one that writes an
+/// index what its output holds.
 #[derive(Debug, Clone, PartialEq, Eq, Default)]
 pub struct Answer {
     pub number: u64,

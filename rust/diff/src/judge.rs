@@ -10,6 +10,7 @@ use plain::value_table::check;
 use plain::wire_type::{fixed_width, parse};
 
 use crate::case::{op, Answer, Case, UNTOUCHED};
+use crate::indexing::{index_line, left_over, IndexCase};
 use crate::writing::{encoded_line, plain_encoded_into, WriteCase};
 
 pub fn tables(case: &Case) -> FormatTables<'_> {
@@ -93,6 +94,11 @@ pub fn plain_answer(case: &Case) -> Answer {
             encoded_line(&done, output)
         }
         op::CHECK_TABLE => checked(check(&case.references, &case.registry)),
+        _ if case.is_of_index() => {
+            let case = IndexCase::of(case);
+            let lent = case.lent.map(|bytes| vec![UNTOUCHED; bytes]);
+            index_line(case.call, left_over(&case.plainly(), &case, lent))
+        }
         other => panic!("no such operation: {other}"),
     }
 }

@@ -3,6 +3,7 @@
 //! plain reading. The original knows no places, so it
 //! is compared in number and carried values, in what it accepts, and in a run's rows and bytes.
 
+pub mod indexing;
 pub mod laid;
 mod rows;
 pub mod views;
@@ -19,7 +20,8 @@ use plain::decoding::ValueTable;
 use plain::tables::{entries, record_count, references, schema_record, Block, Reference, Span};
 use plain::value_table::{value, Said as Scalar};
 
-use crate::case::{op, Answer, Case};
+use crate::case::{op, Answer, Case, UNTOUCHED};
+use crate::indexing::IndexCase;
 use crate::judge::lone_block;
 use crate::writing::WriteCase;
 use views::View;
@@ -54,7 +56,7 @@ fn code(wire_type: WireType) -> u64 {
 }
 
 /// Number and carried values; the table of a row; a run's rows and bytes; what a decoded row is, each value in it
-/// and each node; what was written of a value, and where it has to stand.
+/// and each node; what was written of a value, and where it has to stand; all that both slices of row n have to hold.
 #[derive(Debug, Clone, PartialEq, Eq)]
 pub struct Said {
     pub number: u64,
@@ -65,6 +67,7 @@ pub struct Said {
     pub scalars: Vec<Scalar>,
     pub views: Vec<View>,
     pub wrote: Option<(u64, Vec<u8>)>,
+    pub lent: Option<[Vec<u8>; 2]>,
 }
 
 impl Said {
@@ -78,7 +81,7 @@ impl Said {
 
     fn new(number: u64, values: [u64; 3]) -> Self {
         let (scalars, views) = (Vec::new(), Vec::new());
-        Self { number, table: None, values, run: None, row: None, scalars, views, wrote: None }
+        Self { number, table: None, values, run: None, row: None, scalars, views, wrote: None, lent: None }
     }
 
     fn accepted() -> Self {
@@ -101,6 +104,7 @@ impl Said {
                     && self.run == answer.run
                     && row.as_ref().is_none_or(|row| stands_in(row, answer) && self.is_told(row))
                     && self.wrote.as_ref().is_none_or(|(at, bytes)| stands_at(*at, bytes, answer))
+                    && (self.lent.is_none() || self.lent == answer.lent)
             }
         }
     }
@@ -181,6 +185,11 @@ pub fn ask(case: &Case) -> Option<Said> {
         // It has no value tables.
         op::CHECK_TABLE => None,
         op::ENCODE => writing::write(&WriteCase::of(case)).map(|wrote| said(case, wrote)),
+        _ if case.is_of_index() => {
+            let case = IndexCase::of(case);
+            let lent = case.lent.map(|bytes| vec![UNTOUCHED; bytes]);
+            indexing::ask(&case, lent).map(|left| indexing::said(case.call, left))
+        }
         other => panic!("no such operation: {other}"),
     }
 }

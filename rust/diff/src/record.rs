@@ -1,25 +1,28 @@
-//! A sample of small cases with their answers, to be replayed where the original is not at hand. It has two
+//! A sample of small cases with their answers, to be replayed where the original is not at hand. It has three
 //! parts, a program each.
 
 mod wanted;
+mod wanted_indexes;
 mod wanted_writes;
 
 use std::collections::BTreeMap;
 
 use crate::case::{op, Case, MOST_INPUT};
 use crate::compare::{Expected, Tally};
-use crate::generate::{self, edges, rows, words, writes, Kind};
+use crate::generate::{self, edges, indexes, rows, words, writes, Kind};
+use crate::indexing::IndexCase;
 use crate::judge::plain_answer;
 use crate::rng::Rng;
 use crate::writing::{run, WriteCase};
 use plain::decoding::ValueTable;
 use wanted::{answered, Answered, Wanted, IS_ROW};
 
-/// What is recorded apart: the schema side with the reading of rows, and their writing.
+/// What is recorded apart: the schema side with the reading of rows, their writing, and their index.
 #[derive(Debug, Clone, Copy, PartialEq, Eq)]
 pub enum Part {
     Reading,
     Writing,
+    Indexing,
 }
 
 impl Part {
@@ -28,6 +31,7 @@ impl Part {
         match program {
             "replay" => Some(Self::Reading),
             "replay_write" => Some(Self::Writing),
+            "replay_index" => Some(Self::Indexing),
             _ => None,
         }
     }
@@ -37,10 +41,12 @@ impl Part {
 const LONGEST_SCHEMA: usize = 160;
 const LONGEST_ROWS: usize = 128;
 const LONGEST_WRITING: usize = 320;
+const LONGEST_INDEXING: usize = 240;
 
 /// So many are drawn by chance.
 const RANDOM: u64 = 200_000;
 const RANDOM_WRITING: u64 = 40_000;
+const RANDOM_STREAMS: u64 = 40_000;
 
 /// No decoding call that is chosen by chance is lent more bytes.
 const MOST_LENT: usize = 128;
@@ -66,14 +72,17 @@ fn most_kept(answered: Answered, kind: Kind) -> usize {
         ((op::ENCODE, 16 | 21, _), _) => 3,
         ((op::ENCODE, _, _), _) => 1,
         ((op::CHECK_TABLE, _, _), _) => 2,
+        ((op::BUILD_INDEX.., _, _), _) => 1,
         _ => 2,
     }
 }
 
-/// A run and a decoding call refuse a row as skip does, for which all kinds are told apart.
+/// A run and a decoding call refuse a row as skip does, for which all kinds are told apart; the index calls, too, refuse
+/// a format or a row as they do.
 fn kind_told((op, number, _): Answered, kind: Kind) -> Kind {
     match op {
         op::RUN | op::DECODE if number > 0 => "any",
+        op::BUILD_INDEX.. if (2..=17).contains(&number) => "any",
         _ => kind,
     }
 }
@@ -123,6 +132,12 @@ impl Sample {
         }
     }
 
+    fn offer_indexing(&mut self, rng: &mut Rng, kind: Kind, case: IndexCase) {
+        if case.bytes() <= LONGEST_INDEXING && case.lent.iter().sum::<usize>() <= MOST_LENT {
+            self.offer(rng, kind, case.asked());
+        }
+    }
+
     fn chosen(self) -> Vec<(Kind, Case)> {
         self.kept.into_values().flat_map(|(_, kept)| kept).collect()
     }
@@ -137,6 +152,7 @@ pub fn record(part: Part, seed: u64) -> Recording {
     let chosen = match part {
         Part::Reading => [schema(seed), reading(seed)].concat(),
         Part::Writing => writing(seed),
+        Part::Indexing => indexing(seed),
     };
     write(part, &chosen)
 }
@@ -192,6 +208,18 @@ fn writing(seed: u64) -> Vec<(Kind, Case)> {
     let mut chosen = sample.chosen();
     writes::edges::few(&mut |kind, case| chosen.push((kind, case.asked())));
     writes::tables::few(&mut |value| chosen.push(("one fault", table_check(value))));
+    chosen
+}
+
+fn indexing(seed: u64) -> Vec<(Kind, Case)> {
+    let (mut rng, mut sample) = (Rng::new(seed), Sample::default());
+    for number in 0..RANDOM_STREAMS {
+        for (kind, case) in indexes::random(&mut Rng::for_case(seed, number)) {
+            sample.offer_indexing(&mut rng, kind, case);
+        }
+    }
+    let mut chosen = sample.chosen();
+    indexes::edges::few(&mut |kind, case| chosen.push((kind, case.asked())));
     chosen
 }
 

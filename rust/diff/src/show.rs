@@ -6,6 +6,7 @@ use plain::tables::{entry, record_count, reference, schema_record, Reference, Sp
 use plain::wire_type::NAMES;
 
 use crate::case::{hex, op, Case};
+use crate::indexing::{self, IndexCase};
 use crate::room;
 use crate::writing::{self, WriteCase};
 
@@ -29,6 +30,7 @@ fn call(case: &Case) -> String {
         op::RUN => format!("run over {} bytes", case.input.len()),
         op::ENCODE => "encode a value table".to_owned(),
         op::CHECK_TABLE => "the check of a value table".to_owned(),
+        _ if case.is_of_index() => "an index".to_owned(),
         other => format!("unknown operation {other}"),
     }
 }
@@ -104,6 +106,9 @@ pub fn describe(case: &Case) -> String {
     let mut out = format!("  {}\n", call(case));
     if case.op == op::ENCODE || case.op == op::CHECK_TABLE {
         return out + &writing::describe(&WriteCase::of(case));
+    }
+    if case.is_of_index() {
+        return out + &indexing::describe(&IndexCase::of(case));
     }
     if case.op > op::FIXED_WIDTH {
         table(&mut out, "records", &case.records, &|index| record_line(case, index));

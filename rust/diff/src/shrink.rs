@@ -12,9 +12,9 @@ use crate::case::Case;
 const TOGETHER: usize = 16 << 20;
 
 /// What shrinking lowers, first things first; it falls with every step, so shrinking ends.
-type Size = (usize, usize, u64, u128);
+pub(crate) type Size = (usize, usize, u64, u128);
 
-fn size(case: &Case) -> Size {
+pub(crate) fn size(case: &Case) -> Size {
     let all = || case.strings().into_iter().flatten();
     let nonzero = all().filter(|byte| **byte != 0).count();
     let sum = all().map(|byte| u64::from(*byte)).sum();
@@ -22,7 +22,7 @@ fn size(case: &Case) -> Size {
 }
 
 /// Smaller cases, the smallest first.
-fn candidates(case: &Case) -> Vec<Case> {
+pub(crate) fn candidates(case: &Case) -> Vec<Case> {
     let mut found = Vec::new();
     blocks::candidates(case, &mut found);
     fields::candidates(case, &mut found);

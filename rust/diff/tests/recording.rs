@@ -42,6 +42,11 @@ fn a_recording_of_writing_is_small_and_replays() {
 }
 
 #[test]
+fn a_recording_of_indexes_is_small_and_replays() {
+    recorded("replay_index", 300);
+}
+
+#[test]
 fn cases_for_timing_are_accepted() {
     let folder = format!("{}/bench", env!("CARGO_TARGET_TMPDIR"));
     schema_diff(&["bench-cases", &folder, "--count", "2"]);

@@ -1,6 +1,6 @@
 //! A TEST DOUBLE, not the library: its C functions, under its symbols, with the plain reading behind them,
 //! and with a planted fault where DOUBLE_FAULT names one. The front end and row-diff can be built over it
-//! where there is no archive, and row-diff's own tests show with it that a wrong library is found out.
+//! where there is no archive, and the harness's own tests show with it that a wrong library is found out.
 //!
 //! Nothing that is said of the library may rest on a run over this.
 
@@ -8,6 +8,7 @@ mod checking;
 mod decoding;
 mod encoding;
 mod fault;
+mod indexing;
 mod viewing;
 
 use std::slice;
@@ -123,6 +124,58 @@ reading_call!(
         let records = slice::from_raw_parts_mut(value_records, value_records_len);
         let payload = slice::from_raw_parts_mut(payload, payload_len);
         decoding::answer(call, decoding::Lent { records, payload, answer })
+    }
+);
+
+reading_call!(
+    "skiff1_build_index",
+    skiff_build_index,
+    true,
+    0,
+    (index: *mut u8, index_len: usize),
+    |call: Call, answer: &mut [u8]| {
+        indexing::build_answer(call, slice::from_raw_parts_mut(index, index_len), answer)
+    }
+);
+reading_call!(
+    "skiff1_check_index",
+    skiff_check_index,
+    true,
+    0,
+    (index: *const u8, index_len: usize),
+    |call: Call, answer: &mut [u8]| {
+        indexing::check_answer(call, slice::from_raw_parts(index, index_len), answer)
+    }
+);
+reading_call!(
+    "skiff1_extend_index",
+    skiff_extend_index,
+    true,
+    0,
+    (old: u64, index: *mut u8, index_len: usize),
+    |call: Call, answer: &mut [u8]| {
+        indexing::extend_answer(call, old, slice::from_raw_parts_mut(index, index_len), answer)
+    }
+);
+reading_call!(
+    "skiff1_decode_indexed",
+    skiff_decode_indexed,
+    true,
+    0,
+    (
+        index: *const u8,
+        index_len: usize,
+        row: u64,
+        value_records: *mut u8,
+        value_records_len: usize,
+        payload: *mut u8,
+        payload_len: usize
+    ),
+    |call: Call, answer: &mut [u8]| {
+        let records = slice::from_raw_parts_mut(value_records, value_records_len);
+        let payload = slice::from_raw_parts_mut(payload, payload_len);
+        let index = slice::from_raw_parts(index, index_len);
+        indexing::row_answer(call, index, row, indexing::Lent { records, payload }, answer)
     }
 );
 

@@ -1,6 +1,6 @@
 //! A refusal: its number, its place and the values it carries, in document 01's order.
 
-/// The refusal numbers of document 01.
+/// The refusal numbers of documents 01 and 02.
 pub mod number {
     pub const SETTING: u64 = 1;
     pub const BAD_SCHEMA_TABLE: u64 = 2;
@@ -23,6 +23,9 @@ pub mod number {
     pub const NO_NODE_ROOM: u64 = 19;
     pub const NO_PAYLOAD_ROOM: u64 = 20;
     pub const NO_OUTPUT_ROOM: u64 = 21;
+    pub const NO_INDEX_ROOM: u64 = 30;
+    pub const INDEX_MISMATCH: u64 = 31;
+    pub const NO_SUCH_ROW: u64 = 32;
 }
 
 /// What a stream was cut in, as 12 carries it. A fixed type's context is its own wire code, 1 to 12.

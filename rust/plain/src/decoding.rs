@@ -2,7 +2,7 @@
 //! is skipped first, so that nothing is written of one that is refused or has no room.
 
 use crate::answer::number::{NO_NODE_ROOM, NO_PAYLOAD_ROOM};
-use crate::answer::Refusal;
+use crate::answer::{Checked, Refusal};
 use crate::format::table_block;
 use crate::reading::{skip, Row, Skipped};
 use crate::settings::{room, Settings};
@@ -26,6 +26,14 @@ pub struct ValueTable {
     pub payload: Vec<u8>,
 }
 
+impl ValueTable {
+    /// Writes it to the starts of two slices that have room for it.
+    pub fn write_to(&self, records: &mut [u8], payload: &mut [u8]) {
+        records[..self.records.len()].copy_from_slice(&self.records);
+        payload[..self.payload.len()].copy_from_slice(&self.payload);
+    }
+}
+
 /// The row at `position`: what `skip` answers, then room for its records (19), then for its payload
 /// (20). Only an accepted row is written.
 pub fn decode(
@@ -40,16 +48,20 @@ pub fn decode(
     let Skipped::Row(row) = skipped else {
         return Ok(skipped);
     };
+    has_room(&row, position, records, payload)?;
+    value_table(tables, input, position, &row).write_to(records, payload);
+    Ok(skipped)
+}
+
+/// Room for the records of the row at `position`, then for its payload.
+pub fn has_room(row: &Row, position: u64, records: &[u8], payload: &[u8]) -> Checked {
     if row.records > room(records) / RECORD_BYTES as u64 {
         return Err(Refusal::at(NO_NODE_ROOM, position, [row.records, 0, 0]));
     }
     if row.payload > room(payload) {
         return Err(Refusal::at(NO_PAYLOAD_ROOM, position, [row.payload, 0, 0]));
     }
-    let table = value_table(tables, input, position, &row);
-    records[..table.records.len()].copy_from_slice(&table.records);
-    payload[..table.payload.len()].copy_from_slice(&table.payload);
-    Ok(skipped)
+    Ok(())
 }
 
 /// The table of a row that `skip` has accepted, so nothing is looked at twice.

@@ -1,5 +1,5 @@
-//! Document 01 in plain Rust: a second reading, to hold the proved library against where the
-//! original has nothing to say (flat forms, depth, places, the order of refusals).
+//! Document 01, and of document 02 what has landed, in plain Rust: a second reading, to hold the proved
+//! library against where the original has nothing to say (flat forms, depth, places, the order of refusals).
 //!
 //! It is meant to be compared with the document by eye. Every check runs over everything before the
 //! next check begins, which is the order of refusals as it is written, and nothing is clever.
@@ -7,8 +7,8 @@
 //! The format side: [`wire_type`], [`tables`], [`forms`], [`depth`], [`rules`] and the calls in
 //! [`format`]. Reading: [`settings`], the [`walk`] over a row, the calls in [`reading`] and
 //! [`decoding`], and the [`report`] that the C functions write. Writing: [`value_table`] and
-//! [`encoding`]. What a host sees of a decoded row, record by record: [`view`]. What the listing program prints:
-//! [`listing`].
+//! [`encoding`]. Row starts beside a stream: [`indexing`]. What a host sees of a decoded row, record by record:
+//! [`view`]. What the listing program prints: [`listing`].
 
 pub mod answer;
 pub mod decoding;
@@ -16,6 +16,7 @@ pub mod depth;
 pub mod encoding;
 pub mod format;
 pub mod forms;
+pub mod indexing;
 pub mod listing;
 pub mod reading;
 pub mod report;

@@ -40,7 +40,12 @@ pub fn skip(
 }
 
 /// A row under a checked format: the table's tag, then the root's value.
-fn row(settings: &Settings, tables: &FormatTables, input: &[u8], position: u64) -> Result<Row, Refusal> {
+pub(crate) fn row(
+    settings: &Settings,
+    tables: &FormatTables,
+    input: &[u8],
+    position: u64,
+) -> Result<Row, Refusal> {
     let start = position as usize;
     let Some(tag) = input.get(start..start + 2) else {
         return Err(Refusal::at(TRUNCATED, position, [context::TABLE_TAG, 0, 0]));

@@ -5,6 +5,7 @@ pub mod deliveries;
 pub mod edges;
 pub mod exhaustive;
 pub mod formats;
+pub mod indexes;
 pub mod rows;
 pub mod small_formats;
 pub mod trees;

@@ -11,6 +11,7 @@ use plain::tables::Block;
 use super::rows::flatten;
 use super::writing::next_value;
 use crate::case::{op, Case};
+use crate::indexing::{Call, IndexCase};
 use crate::judge::lone_block;
 use crate::plan::{inline, record, words};
 use crate::writing::WriteCase;
@@ -130,8 +131,18 @@ pub fn refusal(case: &Case) -> Option<u64> {
             let table = ValueTable { records: case.references.clone(), payload: case.registry.clone() };
             value(&table).is_none().then_some(18)
         }
+        _ if case.is_of_index() => index_refusal(&IndexCase::of(case)),
         _ => None,
     }
+}
+
+/// The same of an index call, which is refused, too, for an old count beyond the index slice.
+pub fn index_refusal(case: &IndexCase) -> Option<u64> {
+    let is_beyond = case.call == Call::Extend && case.number > case.index.len() as u64 / 16;
+    if is_beyond || !are_in_bounds(&case.stream.settings()) {
+        return Some(1);
+    }
+    format_refusal(&case.stream)
 }
 
 /// The same of a writing call; whether its value table is one comes after what the original says of the schema.

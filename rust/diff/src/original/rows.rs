@@ -33,7 +33,7 @@ pub fn ask(case: &Case) -> Option<Said> {
 }
 
 /// What is left of the input, seen from outside of the decoder that reads it.
-struct Rest<'a>(&'a Cell<&'a [u8]>);
+pub(super) struct Rest<'a>(&'a Cell<&'a [u8]>);
 
 impl Read for Rest<'_> {
     fn read(&mut self, buffer: &mut [u8]) -> io::Result<usize> {
@@ -45,13 +45,13 @@ impl Read for Rest<'_> {
 }
 
 /// The limits are within 32 bits, and the position is in the input.
-fn decoder<'a>(case: &Case, format: Format, rest: &'a Cell<&'a [u8]>) -> Decoder<Rest<'a>> {
+pub(super) fn decoder<'a>(case: &Case, format: Format, rest: &'a Cell<&'a [u8]>) -> Decoder<Rest<'a>> {
     Decoder::new(Rest(rest), format)
         .with_max_blob_bytes(case.max_blob_bytes as usize)
         .with_max_row_bytes(case.max_row_bytes as usize)
 }
 
-fn row_refused(case: &Case, error: CodecError) -> Said {
+pub(super) fn row_refused(case: &Case, error: CodecError) -> Said {
     match error {
         CodecError::InvalidSchema(error) => refused(case, error),
         CodecError::Truncated { context } => Said::new(12, [context_number(context), 0, 0]),

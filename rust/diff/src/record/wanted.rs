@@ -3,8 +3,8 @@
 use std::collections::BTreeSet;
 
 use plain::answer::number::{
-    BLOB_TOO_LARGE, INVALID_VARIANT_TAG, MISSING_TABLE_SCHEMA, NO_NODE_ROOM, NO_PAYLOAD_ROOM, ROW_TOO_LARGE,
-    SETTING, TRUNCATED, VALUE_DOES_NOT_MATCH_SCHEMA,
+    BLOB_TOO_LARGE, INDEX_MISMATCH, INVALID_VARIANT_TAG, MISSING_TABLE_SCHEMA, NO_NODE_ROOM, NO_PAYLOAD_ROOM,
+    ROW_TOO_LARGE, SETTING, TRUNCATED, VALUE_DOES_NOT_MATCH_SCHEMA,
 };
 use plain::decoding::kind;
 use plain::settings::{Settings, MOST, MOST_NODE_CHARGE};
@@ -13,10 +13,10 @@ use plain::wire_type::{BOOLEAN, INT128, INT256, STRING32, YSON32};
 use crate::case::{op, Answer, Case};
 use crate::generate::rows;
 
-use super::{wanted_writes, Part};
+use super::{wanted_indexes, wanted_writes, Part};
 
 /// Operation, number, and what there is to tell apart besides: what a cut stream was cut in, a row from an
-/// end, and the wire type that an encoding call is about.
+/// end, the wire type that an encoding call is about, and which of its two turns a mismatch with an index had.
 pub type Answered = (u32, u64, u64);
 
 pub const IS_ROW: u64 = 1;
@@ -29,6 +29,7 @@ pub fn answered(case: &Case, answer: &Answer) -> Answered {
         (op::SKIP | op::DECODE, 0) if first > 0 => IS_ROW,
         (op::ENCODE, 0) => wanted_writes::column(case),
         (op::ENCODE, BLOB_TOO_LARGE | VALUE_DOES_NOT_MATCH_SCHEMA | INVALID_VARIANT_TAG) => first,
+        (op::DECODE_INDEXED, INDEX_MISMATCH) => wanted_indexes::mismatch(case),
         _ => 0,
     };
     (case.op, answer.number, more)
@@ -214,6 +215,9 @@ impl Wanted {
             }
             Part::Writing => {
                 Self { answers: wanted_writes::answers(), edges: vec![], shown: wanted_writes::shown() }
+            }
+            Part::Indexing => {
+                Self { answers: wanted_indexes::answers(), edges: vec![], shown: wanted_indexes::shown() }
             }
         }
     }

@@ -3,6 +3,7 @@
 mod decoding;
 mod encoding;
 mod format;
+mod indexing;
 mod listing;
 mod reading;
 mod view;
