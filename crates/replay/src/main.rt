@@ -4,15 +4,15 @@
 // Op 9 decodes the row at `a` into two lent slices, whose lengths are the halves of `b`: u32 for the value records, then u32 for the
 // payload, each at most 4,096. Its line goes on with all that both slices hold afterwards, in hex, or `-` for an empty one; every byte
 // of them was a5 before the call.
-mod answers;
 mod decoding;
+mod ops;
 
-use answers::answer;
 use cases::answer_lines::end_line;
 use cases::answer_lines::write_ran;
 use cases::answer_lines::write_report;
 use cases::next_case;
 use decoding::decode_row;
+use ops::answer;
 use rules::Settings;
 use run::run;
 

@@ -3,8 +3,8 @@
 use mathlib.Core.Path.{sym, _∙_}
 use borrow.Author.Needs.{needs}
 use Rattle.schema.proofs.Accepted.{accepted-rules, accepted-forms}
-use Rattle.replay.proofs.answers.located.Statement.{statement}
-use Rattle.replay.proofs.answers.located.Tie as tie
+use Rattle.replay.proofs.ops.located.Statement.{statement}
+use Rattle.replay.proofs.ops.located.Tie as tie
 
 check-format-requires : tie.Need-check-format-requires
 check-format-requires c κs = search needs
