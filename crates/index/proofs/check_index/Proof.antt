@@ -39,7 +39,6 @@ compare-records-requires c κs = comparable _ _ _ _ (c .before .before .before .
 enum-told-3 : tie.Need-enum-told-3
 enum-told-3 c = search needs
 
--- /work/main/target/rlib/rules.rlib/interface/lang/src/refusal.rt:17:54
 enum-told-4 : tie.Need-enum-told-4
 enum-told-4 c = search needs
 

@@ -41,7 +41,6 @@ compare-records-requires c κs = extend-comparable _ _ _ _ (c .before .before .b
 enum-known-compared : tie.Need-enum-known-compared
 enum-known-compared c = search needs
 
--- /work/main/target/rlib/rules.rlib/interface/lang/src/refusal.rt:17:54
 enum-told-3 : tie.Need-enum-told-3
 enum-told-3 c = search needs
 
