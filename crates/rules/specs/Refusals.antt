@@ -62,6 +62,10 @@ lineOf why.NoSuchRow = stays 32 "NoSuchRow" [] []
 abbrev pub refusalNumber : Refusal → ℕ
 refusalNumber r = lineOf (r .why) .number
 
+-- nothing is carried
+abbrev pub noLabels : Labels
+noLabels = record { first = label.Unused; second = label.Unused; third = label.Unused }
+
 -- what the three values are, where three are carried
 unfoldable pub labelsOf : Line → Labels
 labelsOf l = record { first = getD (l .labels) 0 label.Unused; second = getD (l .labels) 1 label.Unused; third = getD (l .labels) 2 label.Unused }

@@ -1,6 +1,7 @@
 // Why a call is refused, and the documents' table of refusals in code: a new refusal is a case and an arm here.
 ghost use mathlib.Core.Path.{_≡_};
-ghost use Rattle.rules.specs.Refusals.{lineOf, inBytes, reportOf};
+ghost use mathlib.Core.Bool.{Bool};
+ghost use Rattle.rules.specs.Refusals.{lineOf, noLabels, inBytes, reportOf};
 
 // Why a call is refused: a case for each number of documents 01 and 02, in their order, with the values that it carries. Types are wire
 // codes, kinds are kinds of value records.
@@ -205,20 +206,22 @@ pub struct RefusalLine {
     pub labels: Labels,
 }
 
+// A line that carries values. The name is lent: an array handed on would be one more local of `Why::line`, whose derivation has a table of
+// all its locals at every step.
 fn line_of(
     number: u32,
-    name: [u8; 28],
+    name: &[u8; 28],
     moves: bool,
     a: u64,
     b: u64,
     c: u64,
     labels: Labels,
 ) -> RefusalLine
-    ensures { λ r. ⌜ r ≡ record { number = number; name = name; moves = moves; a = a; b = b; c = c; labels = labels } ⌝ }
+    ensures { λ r. ⌜ r ≡ record { number = number; name = now (name .entry); moves = moves; a = a; b = b; c = c; labels = labels } ⌝ }
 {
     RefusalLine {
         number,
-        name,
+        name: *name,
         moves,
         a,
         b,
@@ -227,42 +230,25 @@ fn line_of(
     }
 }
 
+// A line that carries nothing and whose place stays.
+fn bare_line(number: u32, name: &[u8; 28]) -> RefusalLine
+    ensures { λ r. ⌜ r ≡ record { number = number; name = now (name .entry); moves = Bool.false; a = 0; b = 0; c = 0; labels = noLabels } ⌝ }
+{
+    line_of(number, name, false, 0, 0, 0, Labels::NONE)
+}
+
 impl Why {
     // The line of the table that all else goes by: a new refusal is an arm here.
     pub fn line(self) -> RefusalLine
         ensures { λ r. ⌜ r ≡ inBytes (lineOf self) ⌝ }
     {
         match self {
-            Why::Setting => line_of(
-                1,
-                *b"Setting                     ",
-                false,
-                0,
-                0,
-                0,
-                Labels::NONE,
-            ),
-            Why::BadSchemaTable => line_of(
-                2,
-                *b"BadSchemaTable              ",
-                false,
-                0,
-                0,
-                0,
-                Labels::NONE,
-            ),
-            Why::TooDeep => line_of(
-                3,
-                *b"TooDeep                     ",
-                false,
-                0,
-                0,
-                0,
-                Labels::NONE,
-            ),
+            Why::Setting => bare_line(1, b"Setting                     "),
+            Why::BadSchemaTable => bare_line(2, b"BadSchemaTable              "),
+            Why::TooDeep => bare_line(3, b"TooDeep                     "),
             Why::UnexpectedChildren { wire_type, count } => line_of(
                 4,
-                *b"UnexpectedChildren          ",
+                b"UnexpectedChildren          ",
                 false,
                 wire_type as u64,
                 count,
@@ -275,25 +261,17 @@ impl Why {
                 maximum,
             } => line_of(
                 5,
-                *b"TooManyChildren             ",
+                b"TooManyChildren             ",
                 false,
                 wire_type as u64,
                 count,
                 maximum,
                 Labels::TYPE_COUNT_MAXIMUM,
             ),
-            Why::EmptyTableSchemas => line_of(
-                6,
-                *b"EmptyTableSchemas           ",
-                false,
-                0,
-                0,
-                0,
-                Labels::NONE,
-            ),
+            Why::EmptyTableSchemas => bare_line(6, b"EmptyTableSchemas           "),
             Why::UnknownRegistryReference { table } => line_of(
                 7,
-                *b"UnknownRegistryReference    ",
+                b"UnknownRegistryReference    ",
                 false,
                 table,
                 0,
@@ -302,7 +280,7 @@ impl Why {
             ),
             Why::TableSchemaRootMustBeTuple { found } => line_of(
                 8,
-                *b"TableSchemaRootMustBeTuple  ",
+                b"TableSchemaRootMustBeTuple  ",
                 false,
                 found as u64,
                 0,
@@ -311,7 +289,7 @@ impl Why {
             ),
             Why::TableSchemaMustBeTuple { found } => line_of(
                 9,
-                *b"TableSchemaMustBeTuple      ",
+                b"TableSchemaMustBeTuple      ",
                 false,
                 found as u64,
                 0,
@@ -320,7 +298,7 @@ impl Why {
             ),
             Why::TableSchemaChildMissingName { index } => line_of(
                 10,
-                *b"TableSchemaChildMissingName ",
+                b"TableSchemaChildMissingName ",
                 false,
                 index,
                 0,
@@ -329,7 +307,7 @@ impl Why {
             ),
             Why::MissingTableSchema { index } => line_of(
                 11,
-                *b"MissingTableSchema          ",
+                b"MissingTableSchema          ",
                 true,
                 index,
                 0,
@@ -338,7 +316,7 @@ impl Why {
             ),
             Why::Truncated { context } => line_of(
                 12,
-                *b"Truncated                   ",
+                b"Truncated                   ",
                 true,
                 context as u64,
                 0,
@@ -347,7 +325,7 @@ impl Why {
             ),
             Why::RowTooLarge { limit } => line_of(
                 13,
-                *b"RowTooLarge                 ",
+                b"RowTooLarge                 ",
                 true,
                 limit,
                 0,
@@ -360,7 +338,7 @@ impl Why {
                 limit,
             } => line_of(
                 14,
-                *b"BlobTooLarge                ",
+                b"BlobTooLarge                ",
                 true,
                 wire_type as u64,
                 length,
@@ -369,7 +347,7 @@ impl Why {
             ),
             Why::ValueDoesNotMatchSchema { wire_type, kind } => line_of(
                 15,
-                *b"ValueDoesNotMatchSchema     ",
+                b"ValueDoesNotMatchSchema     ",
                 false,
                 wire_type as u64,
                 kind as u64,
@@ -378,7 +356,7 @@ impl Why {
             ),
             Why::TupleLength { expected, actual } => line_of(
                 16,
-                *b"TupleLength                 ",
+                b"TupleLength                 ",
                 false,
                 expected,
                 actual,
@@ -391,25 +369,17 @@ impl Why {
                 children,
             } => line_of(
                 17,
-                *b"InvalidVariantTag           ",
+                b"InvalidVariantTag           ",
                 true,
                 wire_type as u64,
                 tag,
                 children,
                 Labels::TYPE_TAG_CHILDREN,
             ),
-            Why::BadValueTable => line_of(
-                18,
-                *b"BadValueTable               ",
-                false,
-                0,
-                0,
-                0,
-                Labels::NONE,
-            ),
+            Why::BadValueTable => bare_line(18, b"BadValueTable               "),
             Why::NoNodeRoom { needed } => line_of(
                 19,
-                *b"NoNodeRoom                  ",
+                b"NoNodeRoom                  ",
                 true,
                 needed,
                 0,
@@ -418,7 +388,7 @@ impl Why {
             ),
             Why::NoPayloadRoom { needed } => line_of(
                 20,
-                *b"NoPayloadRoom               ",
+                b"NoPayloadRoom               ",
                 true,
                 needed,
                 0,
@@ -427,40 +397,16 @@ impl Why {
             ),
             Why::NoOutputRoom { needed } => line_of(
                 21,
-                *b"NoOutputRoom                ",
+                b"NoOutputRoom                ",
                 false,
                 needed,
                 0,
                 0,
                 Labels::NEEDED,
             ),
-            Why::NoIndexRoom => line_of(
-                30,
-                *b"NoIndexRoom                 ",
-                false,
-                0,
-                0,
-                0,
-                Labels::NONE,
-            ),
-            Why::IndexMismatch => line_of(
-                31,
-                *b"IndexMismatch               ",
-                false,
-                0,
-                0,
-                0,
-                Labels::NONE,
-            ),
-            Why::NoSuchRow => line_of(
-                32,
-                *b"NoSuchRow                   ",
-                false,
-                0,
-                0,
-                0,
-                Labels::NONE,
-            ),
+            Why::NoIndexRoom => bare_line(30, b"NoIndexRoom                 "),
+            Why::IndexMismatch => bare_line(31, b"IndexMismatch               "),
+            Why::NoSuchRow => bare_line(32, b"NoSuchRow                   "),
         }
     }
 }
