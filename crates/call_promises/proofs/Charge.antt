@@ -17,10 +17,10 @@ use denote.Triple.Entry.{Args, Res}
 use Rattle.rules.specs.Choice.{pick}
 use Rattle.rules.specs.declared.refusal.Refusal.{Refusal}
 use Rattle.rules.specs.declared.answer.Checked.the-variants.{Refused}
-use Rattle.read.specs.Budget.{spent}
+use Rattle.leaves.specs.Budget.{spent}
 use Rattle.rules.proofs.Checks.{refused-not}
-use Rattle.read.specs.declared.budget.RowBudget.{RowBudget}
-use Rattle.read.specs.declared.budget.Charged.the-variants as charged
+use Rattle.leaves.specs.declared.budget.RowBudget.{RowBudget}
+use Rattle.leaves.specs.declared.budget.Charged.the-variants as charged
 use Rattle.charge.specs.declared.Lowered.{Lowered}
 use Rattle.charge.specs.Lowering.{loweredBy, lowering}
 use Rattle.charge.proofs.charge as charge

@@ -2,10 +2,10 @@
 -- Assumes nothing: these are definitions.
 use Prim.Native.Nat.{ℕ}
 use Rattle.rules.specs.declared.answer.Checked.the-variants as checked
-use Rattle.read.specs.Budget.{spent}
-use Rattle.read.specs.declared.budget.RowBudget.{RowBudget}
-use Rattle.read.specs.declared.budget.Charged.{Charged}
-use Rattle.read.specs.declared.budget.Charged.the-variants.{Left, Refused}
+use Rattle.leaves.specs.Budget.{spent}
+use Rattle.leaves.specs.declared.budget.RowBudget.{RowBudget}
+use Rattle.leaves.specs.declared.budget.Charged.{Charged}
+use Rattle.leaves.specs.declared.budget.Charged.the-variants.{Left, Refused}
 use Rattle.charge.specs.declared.Lowered.{Lowered}
 
 -- an accepted charge leaves what it says, and a refused one leaves the allowance as it was

@@ -1,8 +1,8 @@
 // The row's allowance by reference: for a host that keeps one and has it lowered. The walk hands its own on by value.
 ghost use mathlib.Core.Path.{_≡_};
 ghost use Rattle.charge.specs.Lowering.{lowering};
-use read::budget::Charged;
-use read::budget::RowBudget;
+use leaves::budget::Charged;
+use leaves::budget::RowBudget;
 use rules::Checked;
 
 // What a charge leaves of an allowance, and what it answers.

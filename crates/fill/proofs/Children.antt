@@ -26,7 +26,7 @@ use Rattle.fill.specs.declared.Next.{Next}
 use Rattle.fill.specs.declared.Next.the-variants.{Child, End}
 use Rattle.fill.specs.Plain.{PlainRead, Got, Not, _>>=_, IsGot, plainNumberAt, Reader, childAt, pairsAt, fieldsAt, leafAt, byForm, readAt, valueRead, endRead}
 use Rattle.fill.specs.Filling.{tagBytes, nextOf}
-use Rattle.read.proofs.Codes.{form-choice, form-series, form-fields}
+use Rattle.leaves.proofs.Codes.{form-choice, form-series, form-fields}
 use Rattle.fill.proofs.Got.{not-got, got-from, got-is, read-step, step, number-step, child-step}
 
 -- the table of a node with children: a record that has their count, and theirs

@@ -14,7 +14,7 @@ use Rattle.rules.specs.ValueTable.{payloadBytes, valueKind, sizeOf, contentOf, 
 use Rattle.rules.specs.declared.table_record.Node.{Node}
 use Rattle.rules.proofs.Over.{over-at}
 use Rattle.value_laws.proofs.Records.{length-layout}
-use Rattle.read.proofs.Codes.{form-choice, tag-some}
+use Rattle.leaves.proofs.Codes.{form-choice, tag-some}
 use Rattle.fill.specs.declared.FillPos.{FillPos}
 use Rattle.fill.specs.declared.ToFill.{ToFill}
 use Rattle.fill.specs.declared.ToFill.the-variants.{Leaf, Children}

@@ -22,7 +22,7 @@ use Rattle.rules.proofs.Stands.{length-part}
 use Rattle.fill.specs.declared.FillPos.{FillPos}
 use Rattle.fill.specs.Plain.{IsGot, valueRead, endRead, leafAt}
 use Rattle.fill.specs.Filling.{RoomToFill, pastFilled, Filled, scalarOf}
-use Rattle.read.proofs.Codes.{form-sized}
+use Rattle.leaves.proofs.Codes.{form-sized}
 use Rattle.fill.proofs.Got.{number-got, bytes-got}
 
 -- ---- scalars

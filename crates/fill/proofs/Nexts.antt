@@ -11,9 +11,9 @@ use Rattle.rules.specs.Choice.{pick}
 use Rattle.rules.specs.Bytes.{leAt}
 use Rattle.rules.specs.Wire.{variant-form, repeated-form, form, widthOf, endTag}
 use Rattle.fill.specs.declared.Next.the-variants.{Child, End}
-use Rattle.read.specs.Children.{shapeOf, endsAt}
+use Rattle.leaves.specs.Shapes.{shapeOf, endsAt}
 use Rattle.fill.specs.Filling.{tagBytes, nextOf}
-use Rattle.read.proofs.Codes.{form-choice, form-series, form-fields, shape-repeated}
+use Rattle.leaves.proofs.Codes.{form-choice, form-series, form-fields, shape-repeated}
 
 -- ---- tags
 

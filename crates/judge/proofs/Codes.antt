@@ -12,8 +12,8 @@ use Rattle.rules.specs.Writing.{kindFor}
 use Rattle.rules.proofs.Tests.{and-both, all-each}
 use Rattle.rules.proofs.Codes.{every-form}
 use Rattle.value_laws.proofs.Codes.{variant-taken, repeated-taken, tuple-taken}
-use Rattle.read.specs.Children.{as-variant, as-repeated, as-tuple, shapeOf}
-use Rattle.read.proofs.Codes.{shape-variant, shape-repeated, shape-tuple}
+use Rattle.leaves.specs.Shapes.{as-variant, as-repeated, as-tuple, shapeOf}
+use Rattle.leaves.proofs.Codes.{shape-variant, shape-repeated, shape-tuple}
 use Rattle.judge.specs.Judging.{taggedOf, chosenOf, countOk}
 
 -- a code below 15 takes its own kind

@@ -25,10 +25,10 @@ use Rattle.rules.specs.declared.settings.Settings.{Settings}
 use Rattle.rules.specs.declared.table_record.ValueRecord.{ValueRecord}
 use Rattle.rules.specs.declared.answer.Checked.the-variants.{Accepted}
 use Rattle.rules.proofs.Checks.{refused-not}
-use Rattle.read.specs.Fields.{payloadOfFixed}
-use Rattle.read.specs.Children.{as-tuple, shapeOf}
+use Rattle.leaves.specs.Fields.{payloadOfFixed}
+use Rattle.leaves.specs.Shapes.{as-tuple, shapeOf}
 use Rattle.read.specs.Ready.{HasNode, SoundNodes}
-use Rattle.read.proofs.Codes.{form-fields, shape-variant, shape-tuple}
+use Rattle.leaves.proofs.Codes.{form-fields, shape-variant, shape-tuple}
 use Rattle.value.specs.Records.{recordOk}
 use Rattle.value.specs.Walk.{walkChildren, walkTable}
 use Rattle.value.specs.declared.TablePos.{TablePos}

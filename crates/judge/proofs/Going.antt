@@ -23,9 +23,9 @@ use Rattle.rules.proofs.Stands.{length-le}
 use Rattle.value_laws.proofs.Parse.{Reads, ReadsI}
 use Rattle.value_laws.proofs.Span.{span-in, lands-here}
 use Rattle.value_laws.proofs.Children.{children}
-use Rattle.read.specs.Children.{Shape, as-variant, as-repeated, as-tuple, shapeOf}
+use Rattle.leaves.specs.Shapes.{Shape, as-variant, as-repeated, as-tuple, shapeOf}
 use Rattle.read.specs.Ready.{SoundNodes}
-use Rattle.read.proofs.Codes.{form-choice, form-series, form-fields}
+use Rattle.leaves.proofs.Codes.{form-choice, form-series, form-fields}
 use Rattle.judge.specs.Table.{IsWhole, wholeValue, wholeEnd, valueStandingAt}
 use Rattle.judge.specs.Judging.{only, judgePos, judged, taggedOf, chosenOf, countOk, closingBytes, Judgeable, Opened, judgedAt}
 use Rattle.judge.specs.Tags.{tagBytes, closing}

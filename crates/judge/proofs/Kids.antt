@@ -20,7 +20,7 @@ use Rattle.rules.specs.Walk.{Limits}
 use Rattle.rules.specs.Refusals.{ValueDoesNotMatchSchema, TupleLength, InvalidVariantTag}
 use Rattle.rules.specs.Writing.{Wrote, Put, Refused, _>>=_, kindFor, fitting, tagged, write, writeI, writeV}
 use Rattle.value_laws.proofs.Children.{untagged, children}
-use Rattle.read.specs.Children.{Shape, as-variant, as-repeated, as-tuple, shapeOf}
+use Rattle.leaves.specs.Shapes.{Shape, as-variant, as-repeated, as-tuple, shapeOf}
 use Rattle.judge.specs.Judging.{taggedOf, chosenOf, countOk}
 use Rattle.judge.specs.Tags.{tagBytes, closing}
 use Rattle.judge.specs.declared.walk.Chosen.{Chosen}

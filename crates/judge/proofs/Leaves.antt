@@ -23,7 +23,7 @@ use Rattle.rules.specs.declared.table_record.ValueRecord.{ValueRecord}
 use Rattle.rules.proofs.Stands.{length-le}
 use Rattle.value_laws.proofs.Parse.{Reads}
 use Rattle.value_laws.proofs.Codes.{nothing-taken, boolean-taken}
-use Rattle.read.specs.Fields.{payloadOfFixed}
+use Rattle.leaves.specs.Fields.{payloadOfFixed}
 use Rattle.judge.specs.Table.{wholeValue, valueStandingAt}
 use Rattle.judge.specs.Judging.{only, judgePos, judged, leafOf, Judgeable, Opened, judgedAt}
 use Rattle.judge.specs.declared.walk.JudgePos.{JudgePos}

@@ -10,9 +10,9 @@ use lib.ListN.{length}
 use Rattle.rules.specs.Block.{nodeAt}
 use Rattle.rules.specs.ValueRecord.{valueRecordAt, ValueRecordIn}
 use Rattle.rules.specs.declared.table_record.ValueRecord.{ValueRecord}
-use Rattle.read.specs.Children.{shapeOf}
+use Rattle.leaves.specs.Shapes.{shapeOf}
 use Rattle.read.specs.Ready.{HasNode}
-use Rattle.read.proofs.Codes.{shape-variant}
+use Rattle.leaves.proofs.Codes.{shape-variant}
 use Rattle.judge.specs.Table.{wholeEnd, valueStandingAt}
 use Rattle.judge.specs.Judging.{judgePos, leafOf, chosenOf, countOk, closingBytes, Judgeable, Opened, judgedAt}
 use Rattle.judge.specs.declared.walk.JudgePos.{JudgePos}

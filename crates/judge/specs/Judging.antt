@@ -15,8 +15,8 @@ use Rattle.rules.specs.ValueTable.{Spot, tableValue}
 use Rattle.rules.specs.Writing as rule
 use Rattle.rules.specs.Writing.{Wrote, Put, kindFor, write, writeRow}
 use Rattle.rules.specs.Refusals.{BlobTooLarge, InvalidVariantTag}
-use Rattle.read.specs.Fields.{payloadOfFixed}
-use Rattle.read.specs.Children.{Shape, as-variant, as-repeated, as-tuple}
+use Rattle.leaves.specs.Fields.{payloadOfFixed}
+use Rattle.leaves.specs.Shapes.{Shape, as-variant, as-repeated, as-tuple}
 use Rattle.read.specs.Ready.{HasNode, SoundNodes}
 use Rattle.judge.specs.Table.{IsWhole, wholeValue, wholeEnd, valueStandingAt}
 use Rattle.judge.specs.declared.walk.JudgePos.{JudgePos}

@@ -4,7 +4,7 @@ use Prim.Native.Nat.{ℕ}
 use mathlib.Core.List.{List, []}
 use Rattle.rules.specs.Bytes.{le}
 use Rattle.rules.specs.Wire.{endTag}
-use Rattle.read.specs.Children.{Shape, as-variant, as-repeated, as-tuple}
+use Rattle.leaves.specs.Shapes.{Shape, as-variant, as-repeated, as-tuple}
 
 -- the bytes of a tag, and those after the last child
 unfoldable pub tagBytes : Shape → ℕ → List ℕ

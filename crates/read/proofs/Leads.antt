@@ -9,21 +9,23 @@ use lib.Dec.{ltb}
 use Rattle.rules.specs.Choice.{pick}
 use Rattle.rules.specs.Wire.{form, widthOf}
 use Rattle.rules.specs.Block.{nodeAt}
-use Rattle.read.specs.Budget.{spent}
-use Rattle.read.specs.Fields.{readNumberAt}
-use Rattle.read.specs.Skim.{standing, reading, skimLeaf, Skimmer, skimChild, skimVariant, skimForm, skimNode, skim}
-use Rattle.read.specs.Ready.{Coded, Readable, Ready}
+use Rattle.leaves.specs.Budget.{spent}
+use Rattle.leaves.specs.Fields.{readNumberAt}
+use Rattle.leaves.specs.Leaf.{standing, reading, skimLeaf}
+use Rattle.read.specs.Skim.{Skimmer, skimChild, skimVariant, skimForm, skimNode, skim}
+use Rattle.leaves.specs.Leaf.{Readable}
+use Rattle.read.specs.Ready.{Coded, Ready}
 use Rattle.read.specs.Leads.{LeadsToSkip}
-use Rattle.read.specs.declared.budget.RowBudget.{RowBudget}
-use Rattle.read.specs.declared.budget.Charged.{Charged}
-use Rattle.read.specs.declared.budget.Charged.the-variants.{Left}
-use Rattle.read.specs.declared.fields.ReadNumber.{ReadNumber}
-use Rattle.read.specs.declared.fields.ReadNumber.the-variants.{Is}
-use Rattle.read.specs.declared.walk.SkipPos.{SkipPos}
+use Rattle.leaves.specs.declared.budget.RowBudget.{RowBudget}
+use Rattle.leaves.specs.declared.budget.Charged.{Charged}
+use Rattle.leaves.specs.declared.budget.Charged.the-variants.{Left}
+use Rattle.leaves.specs.declared.fields.ReadNumber.{ReadNumber}
+use Rattle.leaves.specs.declared.fields.ReadNumber.the-variants.{Is}
+use Rattle.leaves.specs.declared.leaf.SkipPos.{SkipPos}
 use Rattle.read.specs.declared.walk.ToSkip.{ToSkip}
 use Rattle.read.specs.declared.walk.ToSkip.the-variants.{Leaf, Children}
-use Rattle.read.proofs.Codes.{form-choice}
-use Rattle.read.proofs.Steps.{number-past}
+use Rattle.leaves.proofs.Codes.{form-choice}
+use Rattle.leaves.proofs.Steps.{number-past}
 use Rattle.read.proofs.Turn.{moved}
 use Rattle.read.proofs.Nodes.{skim-paid, node-leaf}
 

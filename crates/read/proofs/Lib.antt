@@ -1,4 +1,4 @@
-pub mod Codes
+pub mod Tags
 pub mod Same
 pub mod Steps
 pub mod Turn

@@ -16,18 +16,19 @@ use Rattle.rules.specs.declared.refusal.Refusal.{Refusal}
 use Rattle.rules.specs.Refusals.{TooDeep, Truncated}
 use Rattle.rules.proofs.Tests.{all-each}
 use Rattle.block_laws.proofs.Form as blocks
-use Rattle.read.specs.Budget.{spent}
-use Rattle.read.specs.Fields.{payloadOfFixed}
-use Rattle.read.specs.Children.{shapeOf}
-use Rattle.read.specs.Skim.{standing, _>>=_, bytesPast, stored, having, skimCharge, counted, skimBytes, skimFixed, skimLeaf, Skimmer, skimForm, skimNode, skim}
+use Rattle.leaves.specs.Budget.{spent}
+use Rattle.leaves.specs.Fields.{payloadOfFixed}
+use Rattle.leaves.specs.Shapes.{shapeOf}
+use Rattle.leaves.specs.Leaf.{standing, _>>=_, bytesPast, stored, having, skimCharge, skimBytes, skimFixed, skimLeaf}
+use Rattle.read.specs.Skim.{counted, Skimmer, skimForm, skimNode, skim}
 use Rattle.read.specs.Ready.{SoundNodes, Coded}
-use Rattle.read.specs.declared.budget.RowBudget.{RowBudget}
-use Rattle.read.specs.declared.budget.Charged.{Charged}
-use Rattle.read.specs.declared.budget.Charged.the-variants.{Left}
-use Rattle.read.specs.declared.budget.Charged.the-variants as charged-is
-use Rattle.read.specs.declared.walk.SkipPos.{SkipPos}
-use Rattle.read.specs.declared.walk.Skipped.the-variants.{At, Refused}
-use Rattle.read.proofs.Codes.{form-sized}
+use Rattle.leaves.specs.declared.budget.RowBudget.{RowBudget}
+use Rattle.leaves.specs.declared.budget.Charged.{Charged}
+use Rattle.leaves.specs.declared.budget.Charged.the-variants.{Left}
+use Rattle.leaves.specs.declared.budget.Charged.the-variants as charged-is
+use Rattle.leaves.specs.declared.leaf.SkipPos.{SkipPos}
+use Rattle.leaves.specs.declared.leaf.Skipped.the-variants.{At, Refused}
+use Rattle.leaves.proofs.Codes.{form-sized}
 use Rattle.read.proofs.Turn.{steps, steps-all}
 
 -- ---- a leaf

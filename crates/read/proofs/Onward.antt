@@ -13,17 +13,18 @@ use Rattle.rules.specs.Bytes.{leAt}
 use Rattle.rules.specs.Wire.{Form, empty, truth, fixed, raw, sized, variant-form, repeated-form, tuple-form, unknown}
 use Rattle.rules.specs.declared.refusal.Refusal.{Refusal}
 use Rattle.rules.specs.Refusals.{Truncated, RowTooLarge}
-use Rattle.read.specs.Budget.{leaving, spent}
-use Rattle.read.specs.Fields.{readNumberAt}
-use Rattle.read.specs.Skim.{standing, _>>=_, reading, bytesPast, having, skimCharge, counted, stored, skimBytes, skimBlob, Skimmer, skimChild, skimVariant, skimPairs, skimFields, skimForm, skimNode, skim}
+use Rattle.leaves.specs.Budget.{leaving, spent}
+use Rattle.leaves.specs.Fields.{readNumberAt}
+use Rattle.leaves.specs.Leaf.{standing, _>>=_, reading, bytesPast, having, skimCharge, stored, skimBytes, skimBlob}
+use Rattle.read.specs.Skim.{counted, Skimmer, skimChild, skimVariant, skimPairs, skimFields, skimForm, skimNode, skim}
 use Rattle.read.specs.Ready.{Ready}
-use Rattle.read.specs.declared.budget.Charged.the-variants.{Left}
-use Rattle.read.specs.declared.budget.Charged.the-variants as charged-is
-use Rattle.read.specs.declared.fields.ReadNumber.the-variants.{Is}
-use Rattle.read.specs.declared.fields.ReadNumber.the-variants as number-is
-use Rattle.read.specs.declared.walk.SkipPos.{SkipPos}
-use Rattle.read.specs.declared.walk.Skipped.{Skipped}
-use Rattle.read.specs.declared.walk.Skipped.the-variants.{At, Refused}
+use Rattle.leaves.specs.declared.budget.Charged.the-variants.{Left}
+use Rattle.leaves.specs.declared.budget.Charged.the-variants as charged-is
+use Rattle.leaves.specs.declared.fields.ReadNumber.the-variants.{Is}
+use Rattle.leaves.specs.declared.fields.ReadNumber.the-variants as number-is
+use Rattle.leaves.specs.declared.leaf.SkipPos.{SkipPos}
+use Rattle.leaves.specs.declared.leaf.Skipped.{Skipped}
+use Rattle.leaves.specs.declared.leaf.Skipped.the-variants.{At, Refused}
 
 -- from p to q: not back, records paid for, payload bytes passed
 record Far (p q : SkipPos) : Type 0 where

@@ -10,14 +10,15 @@ use Rattle.rules.specs.Walk.{walk}
 use Rattle.rules.specs.declared.refusal.Refusal.{Refusal}
 use Rattle.rules.specs.declared.settings.Settings.{Settings}
 use Rattle.rules.proofs.Tests.{and-both}
-use Rattle.read.specs.Budget.{fresh, spent}
-use Rattle.read.specs.Skim.{skimPos, skimmed, standing, skimNode, skim}
+use Rattle.leaves.specs.Budget.{fresh, spent}
+use Rattle.leaves.specs.Leaf.{standing}
+use Rattle.read.specs.Skim.{skimPos, skimmed, skimNode, skim}
 use Rattle.read.specs.Ready.{Ready, Rooted}
-use Rattle.read.specs.declared.budget.RowBudget.{RowBudget}
-use Rattle.read.specs.declared.budget.Charged.{Charged}
-use Rattle.read.specs.declared.budget.Charged.the-variants.{Left}
-use Rattle.read.specs.declared.budget.Charged.the-variants as charged-is
-use Rattle.read.specs.declared.walk.Skipped.the-variants.{Refused}
+use Rattle.leaves.specs.declared.budget.RowBudget.{RowBudget}
+use Rattle.leaves.specs.declared.budget.Charged.{Charged}
+use Rattle.leaves.specs.declared.budget.Charged.the-variants.{Left}
+use Rattle.leaves.specs.declared.budget.Charged.the-variants as charged-is
+use Rattle.leaves.specs.declared.leaf.Skipped.the-variants.{Refused}
 use Rattle.read.proofs.Same.{skim-same}
 use Rattle.read.proofs.Steps.{ready-paid}
 use Rattle.read.proofs.Nodes.{skim-dear, skim-paid}

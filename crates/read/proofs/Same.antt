@@ -15,16 +15,17 @@ use Rattle.rules.specs.Value.{boolean}
 use Rattle.rules.specs.Walk as rule
 use Rattle.rules.specs.declared.table_record.Node.{Node}
 use Rattle.rules.specs.Refusals.{Truncated, RowTooLarge}
-use Rattle.read.specs.Budget.{spent, longest}
-use Rattle.read.specs.Fields.{readNumberAt}
-use Rattle.read.specs.Skim.{skimPos, skimmed, _>>=_, reading, bytesPast, having, skimCharge, counted, stored, skimBytes, skimBlob, Skimmer, skimChild, skimVariant, skimPairs, skimFields, skimForm, skimNode, skim}
-use Rattle.read.specs.declared.budget.Charged.the-variants.{Left}
-use Rattle.read.specs.declared.budget.Charged.the-variants as charged-is
-use Rattle.read.specs.declared.fields.ReadNumber.the-variants.{Is}
-use Rattle.read.specs.declared.fields.ReadNumber.the-variants as number-is
-use Rattle.read.specs.declared.walk.SkipPos.{SkipPos}
-use Rattle.read.specs.declared.walk.Skipped.{Skipped}
-use Rattle.read.specs.declared.walk.Skipped.the-variants.{At, Refused}
+use Rattle.leaves.specs.Budget.{spent, longest}
+use Rattle.leaves.specs.Fields.{readNumberAt}
+use Rattle.leaves.specs.Leaf.{_>>=_, reading, bytesPast, having, skimCharge, stored, skimBytes, skimBlob}
+use Rattle.read.specs.Skim.{skimPos, skimmed, counted, Skimmer, skimChild, skimVariant, skimPairs, skimFields, skimForm, skimNode, skim}
+use Rattle.leaves.specs.declared.budget.Charged.the-variants.{Left}
+use Rattle.leaves.specs.declared.budget.Charged.the-variants as charged-is
+use Rattle.leaves.specs.declared.fields.ReadNumber.the-variants.{Is}
+use Rattle.leaves.specs.declared.fields.ReadNumber.the-variants as number-is
+use Rattle.leaves.specs.declared.leaf.SkipPos.{SkipPos}
+use Rattle.leaves.specs.declared.leaf.Skipped.{Skipped}
+use Rattle.leaves.specs.declared.leaf.Skipped.the-variants.{At, Refused}
 
 module _ (lim : rule.Limits) where
   -- ---- steps

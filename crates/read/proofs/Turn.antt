@@ -14,19 +14,21 @@ use Rattle.rules.specs.Bytes.{leAt}
 use Rattle.rules.specs.Wire.{form, widthOf, endTag}
 use Rattle.rules.specs.declared.refusal.Refusal.{Refusal}
 use Rattle.rules.specs.Refusals.{Truncated, InvalidVariantTag}
-use Rattle.read.specs.Fields.{readNumberAt}
-use Rattle.read.specs.Children.{Shape, as-variant, as-repeated, as-tuple, shapeOf, endsAt, byTag, picked}
-use Rattle.read.specs.Skim.{standing, _>>=_, reading, Skimmer, skimChild, skimVariant, skimPairs, skimFields, skimForm}
-use Rattle.read.specs.declared.fields.ReadNumber.{ReadNumber}
-use Rattle.read.specs.declared.fields.ReadNumber.the-variants.{Is}
-use Rattle.read.specs.declared.fields.ReadNumber.the-variants as number-is
-use Rattle.read.specs.declared.walk.SkipPos.{SkipPos}
+use Rattle.leaves.specs.Fields.{readNumberAt}
+use Rattle.leaves.specs.Shapes.{Shape, as-variant, as-repeated, as-tuple, shapeOf, endsAt}
+use Rattle.read.specs.Children.{byTag, picked}
+use Rattle.leaves.specs.Leaf.{standing, _>>=_, reading}
+use Rattle.read.specs.Skim.{Skimmer, skimChild, skimVariant, skimPairs, skimFields, skimForm}
+use Rattle.leaves.specs.declared.fields.ReadNumber.{ReadNumber}
+use Rattle.leaves.specs.declared.fields.ReadNumber.the-variants.{Is}
+use Rattle.leaves.specs.declared.fields.ReadNumber.the-variants as number-is
+use Rattle.leaves.specs.declared.leaf.SkipPos.{SkipPos}
 use Rattle.read.specs.declared.walk.Pick.{Pick}
 use Rattle.read.specs.declared.walk.Pick.the-variants.{Child, End}
 use Rattle.read.specs.declared.walk.Pick.the-variants as pick-is
-use Rattle.read.specs.declared.walk.Skipped.{Skipped}
-use Rattle.read.specs.declared.walk.Skipped.the-variants.{At, Refused}
-use Rattle.read.proofs.Codes.{form-choice, form-series, form-fields, shape-variant, shape-repeated, shape-tuple, tag-some}
+use Rattle.leaves.specs.declared.leaf.Skipped.{Skipped}
+use Rattle.leaves.specs.declared.leaf.Skipped.the-variants.{At, Refused}
+use Rattle.leaves.proofs.Codes.{form-choice, form-series, form-fields, shape-variant, shape-repeated, shape-tuple, tag-some}
 
 -- a position, moved
 abbrev pub moved : SkipPos → ℕ → SkipPos

@@ -4,9 +4,10 @@ use Prim.Native.Nat.{ℕ, _<_}
 use mathlib.Core.Path.{_≡_}
 use mathlib.Core.List.{List}
 use Rattle.rules.specs.Block.{nodeAt}
-use Rattle.read.specs.Skim.{skimLeaf, Skimmer, skimNode}
-use Rattle.read.specs.Ready.{Readable}
-use Rattle.read.specs.declared.walk.SkipPos.{SkipPos}
+use Rattle.leaves.specs.Leaf.{skimLeaf}
+use Rattle.read.specs.Skim.{Skimmer, skimNode}
+use Rattle.leaves.specs.Leaf.{Readable}
+use Rattle.leaves.specs.declared.leaf.SkipPos.{SkipPos}
 use Rattle.read.specs.declared.walk.ToSkip.{ToSkip}
 use Rattle.read.specs.declared.walk.ToSkip.the-variants.{Leaf, Children}
 

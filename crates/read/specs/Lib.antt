@@ -1,5 +1,3 @@
-pub mod Budget
-pub mod Fields
 pub mod Children
 pub mod Skim
 pub mod Ready

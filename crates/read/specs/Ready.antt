@@ -8,7 +8,8 @@ use lib.ListN.{length}
 use Rattle.rules.specs.Block.{NodeIn, nodeAt, Closed}
 use Rattle.rules.specs.Reading.{settingsOk}
 use Rattle.rules.specs.declared.settings.Settings.{Settings}
-use Rattle.read.specs.declared.walk.SkipPos.{SkipPos}
+use Rattle.leaves.specs.Leaf.{Readable}
+use Rattle.leaves.specs.declared.leaf.SkipPos.{SkipPos}
 
 -- ---- blocks
 
@@ -29,13 +30,7 @@ pub record Coded (s : List ℕ) (i code : ℕ) : Type 0 where
 
 -- ---- positions
 
--- in an input of less than 2 ^ 32 bytes; payload bytes were passed, so that their count does not wrap
-pub record Readable (inp : List ℕ) (p : SkipPos) : Type 0 where
-  pub within : p .at ≤ length inp
-  pub short : length inp < 2 ^ 32
-  pub passed : p .payload ≤ p .at
-
--- and records were paid for, so that theirs does not
+-- that a leaf may be read from, and records were paid for, so that their count does not wrap
 pub record Ready (inp : List ℕ) (charge : ℕ) (p : SkipPos) : Type 0 where
   pub stands : Readable inp p
   pub costs : 0 < charge

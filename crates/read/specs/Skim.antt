@@ -4,22 +4,17 @@
 use Prim.Native.Nat.{ℕ, zero, suc, _+_, _-_}
 use mathlib.Core.List.{List}
 use lib.ListN.{length}
-use lib.Dec.{ltb, leb, eqb}
+use lib.Dec.{ltb, eqb}
 use Rattle.rules.specs.Choice.{pick}
-use Rattle.rules.specs.Wire.{Form, empty, truth, fixed, raw, sized, variant-form, repeated-form, tuple-form, unknown, form, widthOf, endTag}
+use Rattle.rules.specs.Wire.{Form, empty, truth, fixed, raw, sized, variant-form, repeated-form, tuple-form, unknown, form, endTag}
 use Rattle.rules.specs.Block.{nodeAt}
 use Rattle.rules.specs.Walk as rule
-use Rattle.rules.specs.Refusals.{Setting, BadSchemaTable, TooDeep, Truncated, BlobTooLarge, InvalidVariantTag}
-use Rattle.read.specs.Budget.{spent, longest}
-use Rattle.read.specs.Fields.{readNumberAt, payloadOfFixed}
-use Rattle.read.specs.declared.budget.RowBudget.{RowBudget}
-use Rattle.read.specs.declared.budget.Charged.{Charged}
-use Rattle.read.specs.declared.budget.Charged.the-variants.{Left}
-use Rattle.read.specs.declared.fields.ReadNumber.{ReadNumber}
-use Rattle.read.specs.declared.fields.ReadNumber.the-variants.{Is}
-use Rattle.read.specs.declared.walk.SkipPos.{SkipPos}
-use Rattle.read.specs.declared.walk.Skipped.{Skipped}
-use Rattle.read.specs.declared.walk.Skipped.the-variants.{At, Refused}
+use Rattle.rules.specs.Refusals.{Setting, BadSchemaTable, TooDeep, InvalidVariantTag}
+use Rattle.leaves.specs.Fields.{readNumberAt}
+use Rattle.leaves.specs.Leaf.{standing, _>>=_, reading, bytesPast, skimCharge, skimBytes, skimBlob}
+use Rattle.leaves.specs.declared.leaf.SkipPos.{SkipPos}
+use Rattle.leaves.specs.declared.leaf.Skipped.{Skipped}
+use Rattle.leaves.specs.declared.leaf.Skipped.the-variants.{At, Refused}
 
 -- ---- what the rules' walk answers, as the code says it
 
@@ -32,67 +27,9 @@ unfoldable pub skimmed : {A : Type 0} → rule.Limits → rule.Answer A → Skip
 skimmed lim (rule.Got a q) = At (skimPos lim q)
 skimmed lim (rule.Refused r) = Refused r
 
--- ---- steps
-
-abbrev pub standing : ℕ → RowBudget → ℕ → ℕ → SkipPos
-standing at budget records payload = record { at = at; budget = budget; records = records; payload = payload }
-
--- a step and what follows where it is accepted; a refusal is handed up
-infixl 20 _>>=_
-unfoldable pub _>>=_ : Skipped → (SkipPos → Skipped) → Skipped
-At p >>= k = k p
-Refused r >>= k = Refused r
-
--- what follows a number that was read
-unfoldable pub reading : ReadNumber → SkipPos → (ℕ → SkipPos → Skipped) → Skipped
-reading (Is n next) p k = k n (standing next (p .budget) (p .records) (p .payload))
-reading (ReadNumber.Refused r) p k = Refused r
-
--- n bytes, or 12 at the cut field
-unfoldable pub bytesPast : List ℕ → ℕ → ℕ → SkipPos → Skipped
-bytesPast inp n context p =
-    pick (leb n (length inp - p .at)) (At (standing (p .at + n) (p .budget) (p .records) (p .payload)))
-    (Refused (Truncated context (p .at)))
-
--- what a charge leaves
-unfoldable pub having : SkipPos → Charged → Skipped
-having p (Left b) = At (standing (p .at) b (p .records) (p .payload))
-having p (Charged.Refused r) = Refused r
-
--- `cost` off the allowance, or 13 at `place`
-unfoldable pub skimCharge : ℕ → ℕ → SkipPos → Skipped
-skimCharge cost place p = having p (spent (p .budget) cost place)
-
--- one record more, and b payload bytes more
+-- one record more
 unfoldable pub counted : SkipPos → SkipPos
 counted p = standing (p .at) (p .budget) (p .records + 1) (p .payload)
-
-unfoldable pub stored : ℕ → SkipPos → SkipPos
-stored b p = standing (p .at) (p .budget) (p .records) (p .payload + b)
-
--- ---- nodes without children
-
--- w bytes, of which so many are payload
-unfoldable pub skimBytes : List ℕ → ℕ → ℕ → ℕ → SkipPos → Skipped
-skimBytes inp w context b p = do
-  q ← bytesPast inp w context p
-  At (stored b q)
-
--- a blob: its length, the blob limit (14), the charge for its length (13), its bytes
-unfoldable pub skimBlob : List ℕ → ℕ → SkipPos → Skipped
-skimBlob inp code p = reading (readNumberAt inp 4 13 (p .at)) p (λ n q.
-    pick (leb n (longest (q .budget) code))
-    (do
-      r ← skimCharge n (p .at) q
-      skimBytes inp n 14 n r)
-    (Refused (BlobTooLarge code n (longest (q .budget) code) (p .at))))
-
--- a code below 13, and one below 15
-unfoldable pub skimFixed : List ℕ → ℕ → SkipPos → Skipped
-skimFixed inp code p = skimBytes inp (widthOf (form code)) code (payloadOfFixed (widthOf (form code))) p
-
-unfoldable pub skimLeaf : List ℕ → ℕ → SkipPos → Skipped
-skimLeaf inp code p = pick (ltb code 13) (skimFixed inp code p) (skimBlob inp code p)
 
 -- ---- nodes with children
 

@@ -28,13 +28,13 @@ use Rattle.block_laws.proofs.Tables.{table-schema}
 use Rattle.row_laws.proofs.TableRows.{located}
 use Rattle.row_laws.proofs.Sound.{sound}
 use Rattle.schema.specs.Slices.{slices}
-use Rattle.read.specs.Fields.{readNumberAt}
-use Rattle.read.specs.declared.fields.ReadNumber.{ReadNumber}
-use Rattle.read.specs.declared.fields.ReadNumber.the-variants.{Is}
-use Rattle.read.specs.declared.fields.ReadNumber.the-variants as number-is
-use Rattle.read.specs.declared.walk.SkipPos.{SkipPos}
-use Rattle.read.specs.declared.walk.Skipped.{Skipped}
-use Rattle.read.specs.declared.walk.Skipped.the-variants.{At, Refused}
+use Rattle.leaves.specs.Fields.{readNumberAt}
+use Rattle.leaves.specs.declared.fields.ReadNumber.{ReadNumber}
+use Rattle.leaves.specs.declared.fields.ReadNumber.the-variants.{Is}
+use Rattle.leaves.specs.declared.fields.ReadNumber.the-variants as number-is
+use Rattle.leaves.specs.declared.leaf.SkipPos.{SkipPos}
+use Rattle.leaves.specs.declared.leaf.Skipped.{Skipped}
+use Rattle.leaves.specs.declared.leaf.Skipped.the-variants.{At, Refused}
 use Rattle.read.specs.Skim.{skimPos, skimmed}
 use Rattle.read.proofs.Nodes.{formed-sound}
 use Rattle.row.specs.declared.steps.RowBlock.{RowBlock}

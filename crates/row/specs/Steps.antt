@@ -15,9 +15,9 @@ use Rattle.rules.specs.declared.table_record.Located.{Located}
 use Rattle.rules.specs.declared.table_record.Located.the-variants.{NoTable, NoEntry}
 use Rattle.rules.specs.declared.answer.Checked.the-variants.{Accepted}
 use Rattle.rules.specs.declared.answer.Read.{Read}
-use Rattle.read.specs.Fields.{readNumberAt}
-use Rattle.read.specs.declared.fields.ReadNumber.{ReadNumber}
-use Rattle.read.specs.declared.fields.ReadNumber.the-variants.{Is}
+use Rattle.leaves.specs.Fields.{readNumberAt}
+use Rattle.leaves.specs.declared.fields.ReadNumber.{ReadNumber}
+use Rattle.leaves.specs.declared.fields.ReadNumber.the-variants.{Is}
 use Rattle.row.specs.declared.steps.RowBlock.{RowBlock}
 use Rattle.read.specs.Ready.{Rooted}
 

@@ -5,9 +5,13 @@ use mathlib.Core.Path.{_≡_, refl, sym, ap, _∙_}
 use mathlib.Core.List.{List, [], _∷_, _++_, append-nil}
 use native.Mathlib.Omega.{arith}
 use native.Mathlib.Nat.{add-zero}
-use lib.ListN.{length, getD, length-append}
+use lib.ListN.{length, getD, replicate, length-append, length-replicate}
 use lib.Seq.{getD-append-seam, append-snoc}
 use Rattle.rules.specs.Bytes.{Bytes, le, leAt, part, Stands}
+
+-- an array of n zeros has n bytes: stated over any count, so that nothing is counted at a large one
+pub length-zeros : (n : ℕ) → n ≡ length {0} {A = ℕ} (replicate {0} n 0)
+length-zeros n = sym (length-replicate {0} n 0)
 
 -- a number in w bytes has w bytes
 pub length-le : (w x : ℕ) → length (le w x) ≡ w

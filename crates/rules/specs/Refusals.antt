@@ -62,9 +62,10 @@ lineOf why.NoSuchRow = stays 32 "NoSuchRow" [] []
 abbrev pub refusalNumber : Refusal → ℕ
 refusalNumber r = lineOf (r .why) .number
 
--- nothing is carried
-abbrev pub noLabels : Labels
-noLabels = record { first = label.Unused; second = label.Unused; third = label.Unused }
+-- a line as a program has it, from its parts: the name as bytes, three carried values and what each of them is
+abbrev pub lineWith : ℕ → List ℕ → Bool → ℕ → Label → ℕ → Label → ℕ → Label → RefusalLine
+lineWith number name moves a first b second c third =
+    record { number = number; name = name; moves = moves; a = a; b = b; c = c; labels = record { first = first; second = second; third = third } }
 
 -- what the three values are, where three are carried
 unfoldable pub labelsOf : Line → Labels

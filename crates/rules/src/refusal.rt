@@ -1,7 +1,7 @@
 // Why a call is refused, and the documents' table of refusals in code: a new refusal is a case and an arm here.
 ghost use mathlib.Core.Path.{_≡_};
 ghost use mathlib.Core.Bool.{Bool};
-ghost use Rattle.rules.specs.Refusals.{lineOf, noLabels, inBytes, reportOf};
+ghost use Rattle.rules.specs.Refusals.{lineOf, lineWith, inBytes, reportOf};
 
 // Why a call is refused: a case for each number of documents 01 and 02, in their order, with the values that it carries. Types are wire
 // codes, kinds are kinds of value records.
@@ -114,86 +114,6 @@ pub struct Labels {
     pub third: Label,
 }
 
-impl Labels {
-    const NONE: Labels = Labels {
-        first: Label::Unused,
-        second: Label::Unused,
-        third: Label::Unused,
-    };
-
-    const TYPE: Labels = Labels {
-        first: Label::Type,
-        second: Label::Unused,
-        third: Label::Unused,
-    };
-
-    const TYPE_COUNT: Labels = Labels {
-        first: Label::Type,
-        second: Label::Count,
-        third: Label::Unused,
-    };
-
-    const TYPE_COUNT_MAXIMUM: Labels = Labels {
-        first: Label::Type,
-        second: Label::Count,
-        third: Label::Maximum,
-    };
-
-    const TABLE: Labels = Labels {
-        first: Label::Table,
-        second: Label::Unused,
-        third: Label::Unused,
-    };
-
-    const INDEX: Labels = Labels {
-        first: Label::Index,
-        second: Label::Unused,
-        third: Label::Unused,
-    };
-
-    const CONTEXT: Labels = Labels {
-        first: Label::Context,
-        second: Label::Unused,
-        third: Label::Unused,
-    };
-
-    const LIMIT: Labels = Labels {
-        first: Label::Limit,
-        second: Label::Unused,
-        third: Label::Unused,
-    };
-
-    const TYPE_LENGTH_LIMIT: Labels = Labels {
-        first: Label::Type,
-        second: Label::Length,
-        third: Label::Limit,
-    };
-
-    const TYPE_KIND: Labels = Labels {
-        first: Label::Type,
-        second: Label::Kind,
-        third: Label::Unused,
-    };
-
-    const EXPECTED_ACTUAL: Labels = Labels {
-        first: Label::Expected,
-        second: Label::Actual,
-        third: Label::Unused,
-    };
-
-    const TYPE_TAG_CHILDREN: Labels = Labels {
-        first: Label::Type,
-        second: Label::Tag,
-        third: Label::Children,
-    };
-
-    const NEEDED: Labels = Labels {
-        first: Label::Needed,
-        second: Label::Unused,
-        third: Label::Unused,
-    };
-}
-
 // A line of the documents' table of refusals: number, name, with blanks after it, whether the place is an offset in the stream
 // that is read, and carried values, 0 where there is none, with what each of them is.
 pub struct RefusalLine {
@@ -206,36 +126,113 @@ pub struct RefusalLine {
     pub labels: Labels,
 }
 
-// A line that carries values. The name is lent: an array handed on would be one more local of `Why::line`, whose derivation has a table of
-// all its locals at every step.
-fn line_of(
+// ---- lines by how many values they carry
+
+fn three_values(
     number: u32,
-    name: &[u8; 28],
+    name: [u8; 28],
     moves: bool,
     a: u64,
+    first: Label,
     b: u64,
+    second: Label,
     c: u64,
-    labels: Labels,
+    third: Label,
 ) -> RefusalLine
-    ensures { λ r. ⌜ r ≡ record { number = number; name = now (name .entry); moves = moves; a = a; b = b; c = c; labels = labels } ⌝ }
+    ensures { λ r. ⌜ r ≡ lineWith number name moves a first b second c third ⌝ }
 {
     RefusalLine {
         number,
-        name: *name,
+        name,
         moves,
         a,
         b,
         c,
-        labels,
+        labels: Labels {
+            first,
+            second,
+            third,
+        },
     }
 }
 
-// A line that carries nothing and whose place stays.
-fn bare_line(number: u32, name: &[u8; 28]) -> RefusalLine
-    ensures { λ r. ⌜ r ≡ record { number = number; name = now (name .entry); moves = Bool.false; a = 0; b = 0; c = 0; labels = noLabels } ⌝ }
+fn two_values(
+    number: u32,
+    name: [u8; 28],
+    moves: bool,
+    a: u64,
+    first: Label,
+    b: u64,
+    second: Label,
+) -> RefusalLine
+    ensures { λ r. ⌜ r ≡ lineWith number name moves a first b second 0 Label.Unused ⌝ }
 {
-    line_of(number, name, false, 0, 0, 0, Labels::NONE)
+    three_values(number, name, moves, a, first, b, second, 0, Label::Unused)
 }
+
+fn one_value(number: u32, name: [u8; 28], moves: bool, a: u64, first: Label) -> RefusalLine
+    ensures { λ r. ⌜ r ≡ lineWith number name moves a first 0 Label.Unused 0 Label.Unused ⌝ }
+{
+    two_values(number, name, moves, a, first, 0, Label::Unused)
+}
+
+// And its place stays.
+fn no_value(number: u32, name: [u8; 28]) -> RefusalLine
+    ensures { λ r. ⌜ r ≡ lineWith number name Bool.false 0 Label.Unused 0 Label.Unused 0 Label.Unused ⌝ }
+{
+    one_value(number, name, false, 0, Label::Unused)
+}
+
+// ---- the names. Each is used in one arm below and stands here, since a text in an arm would be a place in memory for the whole of
+// `Why::line`, whose derivation has a table of all its places at every step.
+
+const SETTING_NAME: [u8; 28] = *b"Setting                     ";
+
+const BAD_SCHEMA_TABLE_NAME: [u8; 28] = *b"BadSchemaTable              ";
+
+const TOO_DEEP_NAME: [u8; 28] = *b"TooDeep                     ";
+
+const UNEXPECTED_CHILDREN_NAME: [u8; 28] = *b"UnexpectedChildren          ";
+
+const TOO_MANY_CHILDREN_NAME: [u8; 28] = *b"TooManyChildren             ";
+
+const EMPTY_TABLE_SCHEMAS_NAME: [u8; 28] = *b"EmptyTableSchemas           ";
+
+const UNKNOWN_REGISTRY_REFERENCE_NAME: [u8; 28] = *b"UnknownRegistryReference    ";
+
+const TABLE_SCHEMA_ROOT_MUST_BE_TUPLE_NAME: [u8; 28] = *b"TableSchemaRootMustBeTuple  ";
+
+const TABLE_SCHEMA_MUST_BE_TUPLE_NAME: [u8; 28] = *b"TableSchemaMustBeTuple      ";
+
+const TABLE_SCHEMA_CHILD_MISSING_NAME_NAME: [u8; 28] = *b"TableSchemaChildMissingName ";
+
+const MISSING_TABLE_SCHEMA_NAME: [u8; 28] = *b"MissingTableSchema          ";
+
+const TRUNCATED_NAME: [u8; 28] = *b"Truncated                   ";
+
+const ROW_TOO_LARGE_NAME: [u8; 28] = *b"RowTooLarge                 ";
+
+const BLOB_TOO_LARGE_NAME: [u8; 28] = *b"BlobTooLarge                ";
+
+const VALUE_DOES_NOT_MATCH_SCHEMA_NAME: [u8; 28] = *b"ValueDoesNotMatchSchema     ";
+
+const TUPLE_LENGTH_NAME: [u8; 28] = *b"TupleLength                 ";
+
+const INVALID_VARIANT_TAG_NAME: [u8; 28] = *b"InvalidVariantTag           ";
+
+const BAD_VALUE_TABLE_NAME: [u8; 28] = *b"BadValueTable               ";
+
+const NO_NODE_ROOM_NAME: [u8; 28] = *b"NoNodeRoom                  ";
+
+const NO_PAYLOAD_ROOM_NAME: [u8; 28] = *b"NoPayloadRoom               ";
+
+const NO_OUTPUT_ROOM_NAME: [u8; 28] = *b"NoOutputRoom                ";
+
+const NO_INDEX_ROOM_NAME: [u8; 28] = *b"NoIndexRoom                 ";
+
+const INDEX_MISMATCH_NAME: [u8; 28] = *b"IndexMismatch               ";
+
+const NO_SUCH_ROW_NAME: [u8; 28] = *b"NoSuchRow                   ";
 
 impl Why {
     // The line of the table that all else goes by: a new refusal is an arm here.
@@ -243,170 +240,156 @@ impl Why {
         ensures { λ r. ⌜ r ≡ inBytes (lineOf self) ⌝ }
     {
         match self {
-            Why::Setting => bare_line(1, b"Setting                     "),
-            Why::BadSchemaTable => bare_line(2, b"BadSchemaTable              "),
-            Why::TooDeep => bare_line(3, b"TooDeep                     "),
-            Why::UnexpectedChildren { wire_type, count } => line_of(
+            Why::Setting => no_value(1, SETTING_NAME),
+            Why::BadSchemaTable => no_value(2, BAD_SCHEMA_TABLE_NAME),
+            Why::TooDeep => no_value(3, TOO_DEEP_NAME),
+            Why::UnexpectedChildren { wire_type, count } => two_values(
                 4,
-                b"UnexpectedChildren          ",
+                UNEXPECTED_CHILDREN_NAME,
                 false,
                 wire_type as u64,
+                Label::Type,
                 count,
-                0,
-                Labels::TYPE_COUNT,
+                Label::Count,
             ),
             Why::TooManyChildren {
                 wire_type,
                 count,
                 maximum,
-            } => line_of(
+            } => three_values(
                 5,
-                b"TooManyChildren             ",
+                TOO_MANY_CHILDREN_NAME,
                 false,
                 wire_type as u64,
+                Label::Type,
                 count,
+                Label::Count,
                 maximum,
-                Labels::TYPE_COUNT_MAXIMUM,
+                Label::Maximum,
             ),
-            Why::EmptyTableSchemas => bare_line(6, b"EmptyTableSchemas           "),
-            Why::UnknownRegistryReference { table } => line_of(
+            Why::EmptyTableSchemas => no_value(6, EMPTY_TABLE_SCHEMAS_NAME),
+            Why::UnknownRegistryReference { table } => one_value(
                 7,
-                b"UnknownRegistryReference    ",
+                UNKNOWN_REGISTRY_REFERENCE_NAME,
                 false,
                 table,
-                0,
-                0,
-                Labels::TABLE,
+                Label::Table,
             ),
-            Why::TableSchemaRootMustBeTuple { found } => line_of(
+            Why::TableSchemaRootMustBeTuple { found } => one_value(
                 8,
-                b"TableSchemaRootMustBeTuple  ",
+                TABLE_SCHEMA_ROOT_MUST_BE_TUPLE_NAME,
                 false,
                 found as u64,
-                0,
-                0,
-                Labels::TYPE,
+                Label::Type,
             ),
-            Why::TableSchemaMustBeTuple { found } => line_of(
+            Why::TableSchemaMustBeTuple { found } => one_value(
                 9,
-                b"TableSchemaMustBeTuple      ",
+                TABLE_SCHEMA_MUST_BE_TUPLE_NAME,
                 false,
                 found as u64,
-                0,
-                0,
-                Labels::TYPE,
+                Label::Type,
             ),
-            Why::TableSchemaChildMissingName { index } => line_of(
+            Why::TableSchemaChildMissingName { index } => one_value(
                 10,
-                b"TableSchemaChildMissingName ",
+                TABLE_SCHEMA_CHILD_MISSING_NAME_NAME,
                 false,
                 index,
-                0,
-                0,
-                Labels::INDEX,
+                Label::Index,
             ),
-            Why::MissingTableSchema { index } => line_of(
+            Why::MissingTableSchema { index } => one_value(
                 11,
-                b"MissingTableSchema          ",
+                MISSING_TABLE_SCHEMA_NAME,
                 true,
                 index,
-                0,
-                0,
-                Labels::TABLE,
+                Label::Table,
             ),
-            Why::Truncated { context } => line_of(
+            Why::Truncated { context } => one_value(
                 12,
-                b"Truncated                   ",
+                TRUNCATED_NAME,
                 true,
                 context as u64,
-                0,
-                0,
-                Labels::CONTEXT,
+                Label::Context,
             ),
-            Why::RowTooLarge { limit } => line_of(
+            Why::RowTooLarge { limit } => one_value(
                 13,
-                b"RowTooLarge                 ",
+                ROW_TOO_LARGE_NAME,
                 true,
                 limit,
-                0,
-                0,
-                Labels::LIMIT,
+                Label::Limit,
             ),
             Why::BlobTooLarge {
                 wire_type,
                 length,
                 limit,
-            } => line_of(
+            } => three_values(
                 14,
-                b"BlobTooLarge                ",
+                BLOB_TOO_LARGE_NAME,
                 true,
                 wire_type as u64,
+                Label::Type,
                 length,
+                Label::Length,
                 limit,
-                Labels::TYPE_LENGTH_LIMIT,
+                Label::Limit,
             ),
-            Why::ValueDoesNotMatchSchema { wire_type, kind } => line_of(
+            Why::ValueDoesNotMatchSchema { wire_type, kind } => two_values(
                 15,
-                b"ValueDoesNotMatchSchema     ",
+                VALUE_DOES_NOT_MATCH_SCHEMA_NAME,
                 false,
                 wire_type as u64,
+                Label::Type,
                 kind as u64,
-                0,
-                Labels::TYPE_KIND,
+                Label::Kind,
             ),
-            Why::TupleLength { expected, actual } => line_of(
+            Why::TupleLength { expected, actual } => two_values(
                 16,
-                b"TupleLength                 ",
+                TUPLE_LENGTH_NAME,
                 false,
                 expected,
+                Label::Expected,
                 actual,
-                0,
-                Labels::EXPECTED_ACTUAL,
+                Label::Actual,
             ),
             Why::InvalidVariantTag {
                 wire_type,
                 tag,
                 children,
-            } => line_of(
+            } => three_values(
                 17,
-                b"InvalidVariantTag           ",
+                INVALID_VARIANT_TAG_NAME,
                 true,
                 wire_type as u64,
+                Label::Type,
                 tag,
+                Label::Tag,
                 children,
-                Labels::TYPE_TAG_CHILDREN,
+                Label::Children,
             ),
-            Why::BadValueTable => bare_line(18, b"BadValueTable               "),
-            Why::NoNodeRoom { needed } => line_of(
+            Why::BadValueTable => no_value(18, BAD_VALUE_TABLE_NAME),
+            Why::NoNodeRoom { needed } => one_value(
                 19,
-                b"NoNodeRoom                  ",
+                NO_NODE_ROOM_NAME,
                 true,
                 needed,
-                0,
-                0,
-                Labels::NEEDED,
+                Label::Needed,
             ),
-            Why::NoPayloadRoom { needed } => line_of(
+            Why::NoPayloadRoom { needed } => one_value(
                 20,
-                b"NoPayloadRoom               ",
+                NO_PAYLOAD_ROOM_NAME,
                 true,
                 needed,
-                0,
-                0,
-                Labels::NEEDED,
+                Label::Needed,
             ),
-            Why::NoOutputRoom { needed } => line_of(
+            Why::NoOutputRoom { needed } => one_value(
                 21,
-                b"NoOutputRoom                ",
+                NO_OUTPUT_ROOM_NAME,
                 false,
                 needed,
-                0,
-                0,
-                Labels::NEEDED,
+                Label::Needed,
             ),
-            Why::NoIndexRoom => bare_line(30, b"NoIndexRoom                 "),
-            Why::IndexMismatch => bare_line(31, b"IndexMismatch               "),
-            Why::NoSuchRow => bare_line(32, b"NoSuchRow                   "),
+            Why::NoIndexRoom => no_value(30, NO_INDEX_ROOM_NAME),
+            Why::IndexMismatch => no_value(31, INDEX_MISMATCH_NAME),
+            Why::NoSuchRow => no_value(32, NO_SUCH_ROW_NAME),
         }
     }
 }

@@ -7,6 +7,9 @@ ghost use Rattle.rules.specs.Lines.{word, codeWord, contextWord, labelled, word
 ghost use Rattle.rules.specs.Listing.{kindWord};
 use rules::Label;
 
+// No word at all: a constant, since a text in an arm would be a place in memory for the whole function.
+const NO_WORD: [u8; 20] = *b"                    ";
+
 // The word of a table at an index.
 fn word_at(table: &[u8], index: usize) -> [u8; 20]
     requires { ⌜ 20 * index + 20 ≤ length (now table) ⌝ }
@@ -27,7 +30,7 @@ fn code_word(code: u64) -> [u8; 20]
     ensures { λ r. ⌜ (word r ≡ codeWord code) × (length r ≡ 20) ⌝ }
 {
     if 20 <= code {
-        return *b"                    ";
+        return NO_WORD;
     }
     word_at(
         b"nothing             \
@@ -62,7 +65,7 @@ fn context_word(context: u64) -> [u8; 20]
         return code_word(context);
     }
     if 18 <= context {
-        return *b"                    ";
+        return NO_WORD;
     }
     word_at(
         b"blob-length         \
@@ -82,7 +85,7 @@ pub fn kind_word(kind: u8) -> [u8; 20]
         return code_word(kind as u64);
     }
     if 18 <= kind {
-        return *b"                    ";
+        return NO_WORD;
     }
     word_at(
         b"variant             \
@@ -97,7 +100,7 @@ pub fn label_word(label: Label) -> [u8; 20]
     ensures { λ r. ⌜ (word r ≡ labelled label) × (length r ≡ 20) ⌝ }
 {
     match label {
-        Label::Unused => *b"                    ",
+        Label::Unused => NO_WORD,
         Label::Type => *b"type                ",
         Label::Count => *b"count               ",
         Label::Maximum => *b"maximum             ",
@@ -122,18 +125,18 @@ pub fn word_of(label: Label, value: u64) -> [u8; 20]
     match label {
         Label::Type => code_word(value),
         Label::Context => context_word(value),
-        Label::Unused => *b"                    ",
-        Label::Count => *b"                    ",
-        Label::Maximum => *b"                    ",
-        Label::Table => *b"                    ",
-        Label::Index => *b"                    ",
-        Label::Limit => *b"                    ",
-        Label::Length => *b"                    ",
-        Label::Kind => *b"                    ",
-        Label::Expected => *b"                    ",
-        Label::Actual => *b"                    ",
-        Label::Tag => *b"                    ",
-        Label::Children => *b"                    ",
-        Label::Needed => *b"                    ",
+        Label::Unused => NO_WORD,
+        Label::Count => NO_WORD,
+        Label::Maximum => NO_WORD,
+        Label::Table => NO_WORD,
+        Label::Index => NO_WORD,
+        Label::Limit => NO_WORD,
+        Label::Length => NO_WORD,
+        Label::Kind => NO_WORD,
+        Label::Expected => NO_WORD,
+        Label::Actual => NO_WORD,
+        Label::Tag => NO_WORD,
+        Label::Children => NO_WORD,
+        Label::Needed => NO_WORD,
     }
 }

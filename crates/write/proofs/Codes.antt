@@ -10,8 +10,8 @@ use lib.Dec.{ltb}
 use Rattle.rules.specs.Choice.{pick}
 use Rattle.rules.specs.Wire.{wireTypes, typeIn, typeOf, written, writtenIf, form, widthOf, endTag}
 use Rattle.rules.specs.Bytes.{le}
-use Rattle.read.specs.Children.{as-variant, as-repeated, shapeOf}
-use Rattle.read.proofs.Codes.{shape-variant, shape-repeated, shape-tuple}
+use Rattle.leaves.specs.Shapes.{as-variant, as-repeated, shapeOf}
+use Rattle.leaves.proofs.Codes.{shape-variant, shape-repeated, shape-tuple}
 use Rattle.judge.specs.Tags.{tagBytes, closing}
 use Rattle.write.specs.Putting.{childOf}
 

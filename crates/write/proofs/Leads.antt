@@ -13,7 +13,7 @@ use Rattle.rules.specs.ValueRecord.{valueRecordAt, ValueRecordIn}
 use Rattle.rules.specs.Writing.{kindFor}
 use Rattle.rules.specs.declared.table_record.ValueRecord.{ValueRecord}
 use Rattle.rules.proofs.Over.{length-over, over-none}
-use Rattle.read.specs.Children.{shapeOf}
+use Rattle.leaves.specs.Shapes.{shapeOf}
 use Rattle.read.specs.Ready.{HasNode}
 use Rattle.judge.specs.Table.{wholeValue, wholeEnd, valueStandingAt}
 use Rattle.judge.specs.Tags.{tagBytes}

@@ -12,7 +12,7 @@ use Rattle.rules.specs.Bytes.{le, part, over}
 use Rattle.rules.specs.Wire.{form, widthOf}
 use Rattle.rules.proofs.Over.{over-at}
 use Rattle.rules.proofs.Stands.{length-le}
-use Rattle.read.specs.Fields.{payloadOfFixed}
+use Rattle.leaves.specs.Fields.{payloadOfFixed}
 use Rattle.write.specs.Putting.{leafKept, leafSize, leafBytes}
 use Rattle.write.specs.declared.put.WritePos.{WritePos}
 

@@ -25,7 +25,7 @@ use Rattle.rules.proofs.Over.{length-over, over-at}
 use Rattle.value_laws.proofs.Parse.{Reads, ReadsI}
 use Rattle.value_laws.proofs.Span.{span-in, lands-here}
 use Rattle.value_laws.proofs.Children.{children}
-use Rattle.read.specs.Children.{Shape, as-variant, as-repeated, as-tuple, shapeOf}
+use Rattle.leaves.specs.Shapes.{Shape, as-variant, as-repeated, as-tuple, shapeOf}
 use Rattle.read.specs.Ready.{SoundNodes}
 use Rattle.judge.specs.Table.{IsWhole, wholeValue, wholeEnd, valueStandingAt}
 use Rattle.judge.specs.Judging.{taggedOf, chosenOf, countOk}

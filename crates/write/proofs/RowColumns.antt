@@ -9,7 +9,7 @@ use Rattle.rules.specs.Choice.{pick}
 use Rattle.rules.specs.Bytes.{over}
 use Rattle.rules.specs.Block.{nodeAt}
 use Rattle.rules.specs.ValueRecord.{valueRecordAt}
-use Rattle.read.specs.Children.{shapeOf, as-tuple}
+use Rattle.leaves.specs.Shapes.{shapeOf, as-tuple}
 use Rattle.judge.specs.Table.{wholeEnd, valueStandingAt}
 use Rattle.judge.specs.Tags.{tagBytes, closing}
 use Rattle.write.specs.Putting.{childOf, putOf, written, Writable, Parted, Placed, RowWritable}

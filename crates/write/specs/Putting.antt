@@ -13,8 +13,8 @@ use Rattle.rules.specs.Walk.{Limits}
 use Rattle.rules.specs.ValueRecord.{valueRecordAt}
 use Rattle.rules.specs.ValueTable.{tableValue}
 use Rattle.rules.specs.Writing.{Wrote, Put, Refused, write, writeRow}
-use Rattle.read.specs.Fields.{payloadOfFixed}
-use Rattle.read.specs.Children.{Shape, as-variant, as-repeated, as-tuple}
+use Rattle.leaves.specs.Fields.{payloadOfFixed}
+use Rattle.leaves.specs.Shapes.{Shape, as-variant, as-repeated, as-tuple}
 use Rattle.read.specs.Ready.{HasNode, SoundNodes}
 use Rattle.judge.specs.Table.{IsWhole, wholeValue, wholeEnd, valueStandingAt}
 use Rattle.judge.specs.Judging.{only}

@@ -6,7 +6,7 @@ ghost use lib.ListN.{length};
 ghost use Rattle.rules.specs.Bytes.{le, over};
 ghost use Rattle.rules.specs.Block.{nodeAt};
 ghost use Rattle.rules.specs.ValueRecord.{valueRecordAt};
-ghost use Rattle.read.specs.Children.{shapeOf};
+ghost use Rattle.leaves.specs.Shapes.{shapeOf};
 ghost use Rattle.write.specs.Leads.{LeadsToPut};
 ghost use Rattle.judge.specs.Tags.{tagBytes, closing};
 ghost use Rattle.write.specs.Putting.{childOf, leafKept, leafSize, leafBytes, Writable, Parted, Placed, RowWritable, rowBytes};

@@ -40,9 +40,9 @@ use denote.Triple.Table.{entered, cited}
 use denote.Triple.Walked.{says, Stays, stay-ref, stay-none, walkOf, AllGo, goes-none, goes-ref, Walks, ends-at, walked, walk-meets}
 use denote.Exit.{yes}
 use denote.Triple.Clauses.{ensured, lasts}
-use Rattle.read.specs.declared.budget.RowBudget.{RowBudget}
-use Rattle.read.proofs.budget.RowBudget as B
-use Rattle.read.proofs.budget.RowBudget.Laws as B′
+use Rattle.leaves.specs.declared.budget.RowBudget.{RowBudget}
+use Rattle.leaves.proofs.budget.RowBudget as B
+use Rattle.leaves.proofs.budget.RowBudget.Laws as B′
 use Rattle.rules.proofs.answer.Checked as S
 use Rattle.rules.proofs.answer.Checked.Laws as S′
 use Rattle.charge.specs.Lowering.{lowering}

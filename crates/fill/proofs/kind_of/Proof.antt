@@ -1,6 +1,6 @@
 use native.Mathlib.Omega.{arith}
 use Rattle.rules.specs.Writing.{kindFor}
-use Rattle.read.proofs.Codes.{form-choice, form-series, form-fields}
+use Rattle.leaves.proofs.Codes.{form-choice, form-series, form-fields}
 use Rattle.fill.proofs.kind_of.Statement.{statement}
 use Rattle.fill.proofs.kind_of.Tie as tie
 

@@ -2,7 +2,7 @@ use borrow.Author.Needs.{needs}
 use native.Mathlib.Omega.{arith}
 use Prim.Native.Nat.{_<_}
 use Rattle.fill.proofs.Nexts.{tag-choice, tag-series, next-field, no-field, no-choice, next-choice, no-pair, next-pair}
-use Rattle.read.proofs.Codes.{tag-some}
+use Rattle.leaves.proofs.Codes.{tag-some}
 use Rattle.fill.proofs.next_child.Statement.{statement}
 use Rattle.fill.proofs.next_child.Tie as tie
 

@@ -14,7 +14,7 @@ use Rattle.words.proofs.code_word.Tie as tie
 
 returns : tie.Need-returns
 unfolding word codeWord codeWords pick wireTypes ascii nameOf spelling
-returns c = (sym (no-code-word _ (c .before .before .if1 .taken)), refl)
+returns c = (sym (no-code-word _ (c .if1 .taken)), refl)
 
 slice-aggregate-word-at : tie.Need-slice-aggregate-word-at
 slice-aggregate-word-at c = search needs

@@ -55,7 +55,7 @@ enum-told-15 c = search needs
 
 returns : tie.Need-returns
 unfolding word pick ascii labelText
-returns c = (rw (c .before .before .enum-told .given .1), refl)
+returns c = (rw (c .enum-told .given .1), refl)
 
 returns-2 : tie.Need-returns-2
 unfolding word pick ascii labelText

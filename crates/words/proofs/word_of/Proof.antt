@@ -68,55 +68,55 @@ returns-2 c = (rw (c .before .enum-told2 .given .1) (c .context-word .ensures .0
 
 returns-3 : tie.Need-returns-3
 unfolding word pick wordOf
-returns-3 c = (rw (c .before .before .enum-told3 .given .1), refl)
+returns-3 c = (rw (c .enum-told3 .given .1), refl)
 
 returns-4 : tie.Need-returns-4
 unfolding word pick wordOf
-returns-4 c = (rw (c .before .before .enum-told4 .given .1), refl)
+returns-4 c = (rw (c .enum-told4 .given .1), refl)
 
 returns-5 : tie.Need-returns-5
 unfolding word pick wordOf
-returns-5 c = (rw (c .before .before .enum-told5 .given .1), refl)
+returns-5 c = (rw (c .enum-told5 .given .1), refl)
 
 returns-6 : tie.Need-returns-6
 unfolding word pick wordOf
-returns-6 c = (rw (c .before .before .enum-told6 .given .1), refl)
+returns-6 c = (rw (c .enum-told6 .given .1), refl)
 
 returns-7 : tie.Need-returns-7
 unfolding word pick wordOf
-returns-7 c = (rw (c .before .before .enum-told7 .given .1), refl)
+returns-7 c = (rw (c .enum-told7 .given .1), refl)
 
 returns-8 : tie.Need-returns-8
 unfolding word pick wordOf
-returns-8 c = (rw (c .before .before .enum-told8 .given .1), refl)
+returns-8 c = (rw (c .enum-told8 .given .1), refl)
 
 returns-9 : tie.Need-returns-9
 unfolding word pick wordOf
-returns-9 c = (rw (c .before .before .enum-told9 .given .1), refl)
+returns-9 c = (rw (c .enum-told9 .given .1), refl)
 
 returns-10 : tie.Need-returns-10
 unfolding word pick wordOf
-returns-10 c = (rw (c .before .before .enum-told10 .given .1), refl)
+returns-10 c = (rw (c .enum-told10 .given .1), refl)
 
 returns-11 : tie.Need-returns-11
 unfolding word pick wordOf
-returns-11 c = (rw (c .before .before .enum-told11 .given .1), refl)
+returns-11 c = (rw (c .enum-told11 .given .1), refl)
 
 returns-12 : tie.Need-returns-12
 unfolding word pick wordOf
-returns-12 c = (rw (c .before .before .enum-told12 .given .1), refl)
+returns-12 c = (rw (c .enum-told12 .given .1), refl)
 
 returns-13 : tie.Need-returns-13
 unfolding word pick wordOf
-returns-13 c = (rw (c .before .before .enum-told13 .given .1), refl)
+returns-13 c = (rw (c .enum-told13 .given .1), refl)
 
 returns-14 : tie.Need-returns-14
 unfolding word pick wordOf
-returns-14 c = (rw (c .before .before .enum-told14 .given .1), refl)
+returns-14 c = (rw (c .enum-told14 .given .1), refl)
 
 returns-15 : tie.Need-returns-15
 unfolding word pick wordOf
-returns-15 c = (rw (c .before .before .enum-told15 .given .1), refl)
+returns-15 c = (rw (c .enum-told15 .given .1), refl)
 
 pub word-of-spec : {M : Type 1} → statement M
 word-of-spec =

@@ -1,5 +1,5 @@
 use native.Mathlib.Omega.{arith}
-use Rattle.read.proofs.Codes.{shape-variant, shape-repeated, shape-tuple}
+use Rattle.leaves.proofs.Codes.{shape-variant, shape-repeated, shape-tuple}
 use Rattle.judge.specs.Judging.{closingBytes}
 use borrow.Author.Needs.{needs}
 use Rattle.judge.proofs.walk.closing.Statement.{statement}

@@ -1,4 +1,4 @@
-use Rattle.read.proofs.Codes.{shape-tuple}
+use Rattle.leaves.proofs.Codes.{shape-tuple}
 use Rattle.judge.specs.Judging.{countOk}
 use Rattle.judge.proofs.Codes.{uncounted}
 use Rattle.judge.proofs.walk.count_fits.Statement.{statement}

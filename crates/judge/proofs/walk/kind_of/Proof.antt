@@ -1,5 +1,5 @@
 use Rattle.rules.specs.Writing.{kindFor}
-use Rattle.read.proofs.Codes.{form-choice, form-series, form-fields}
+use Rattle.leaves.proofs.Codes.{form-choice, form-series, form-fields}
 use Rattle.judge.proofs.Codes.{leaf-kind}
 use Rattle.judge.proofs.walk.kind_of.Statement.{statement}
 use Rattle.judge.proofs.walk.kind_of.Tie as tie

@@ -1,6 +1,6 @@
 use borrow.Author.Tests.{lt-ltb, le-ltb}
 use Rattle.rules.specs.Choice.{pick}
-use Rattle.read.proofs.Codes.{shape-tuple}
+use Rattle.leaves.proofs.Codes.{shape-tuple}
 use Rattle.judge.specs.Judging.{taggedOf, chosenOf}
 use Rattle.judge.proofs.Codes.{picked-tag}
 use borrow.Author.Needs.{needs}

@@ -1,7 +1,8 @@
 use borrow.Author.Tests.{lt-ltb, le-ltb}
 use Rattle.rules.specs.Choice.{pick}
 use Rattle.read.specs.Children.{byTag, picked}
-use Rattle.read.proofs.Codes.{shape-tuple, picked-tag}
+use Rattle.leaves.proofs.Codes.{shape-tuple}
+use Rattle.read.proofs.Tags.{picked-tag}
 use borrow.Author.Needs.{needs}
 use Rattle.read.proofs.walk.next_child.Statement.{statement}
 use Rattle.read.proofs.walk.next_child.Tie as tie

@@ -1,4 +1,4 @@
-use Rattle.read.proofs.Codes.{shape-tuple}
+use Rattle.leaves.proofs.Codes.{shape-tuple}
 use Rattle.write.specs.Putting.{childOf}
 use Rattle.write.proofs.Codes.{tagged-child}
 use borrow.Author.Needs.{needs}

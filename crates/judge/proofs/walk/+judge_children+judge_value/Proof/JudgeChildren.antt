@@ -1,5 +1,5 @@
 use borrow.Author.Tests.{not-true, not-false}
-use Rattle.read.specs.Children.{shapeOf}
+use Rattle.leaves.specs.Shapes.{shapeOf}
 use Rattle.judge.specs.Table.{wholeEnd, valueStandingAt}
 use Rattle.judge.specs.Judging.{judgePos, judgedAt}
 use Rattle.judge.proofs.Going.{closing-short, Going, known, wrong-count, begins, bounds, ends-there, there, asks, no-pick, narrow, child, no-child-fits, goes-on, whole-inside, whole-deep}

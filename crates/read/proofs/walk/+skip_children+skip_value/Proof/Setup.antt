@@ -7,12 +7,12 @@ use Rattle.read.proofs.walk.+skip_children+skip_value.Lts-skip_children
 use Rattle.read.proofs.walk.skip_value.Reads as skip-value
 use Rattle.read.proofs.walk.skip_value.Kinds as skip-value-kinds
 use Rattle.read.proofs.walk.+skip_children+skip_value.Lts-skip_value as skip-value-lts
-use Rattle.read.proofs.budget.RowBudget.charge.Reads as charge-reads
-use Rattle.read.proofs.walk.skipped_refused_by_charge.Reads as skipped-refused-by-charge-reads
+use Rattle.leaves.proofs.budget.RowBudget.charge.Reads as charge-reads
+use Rattle.leaves.proofs.leaf.skipped_refused_by_charge.Reads as skipped-refused-by-charge-reads
 use Rattle.read.proofs.walk.leaf_at.Reads as leaf-at-reads
 use Rattle.read.proofs.walk.next_child.Reads as next-child-reads
 use Rattle.read.proofs.walk.skipped_refused_by_child.Reads as skipped-refused-by-child-reads
-use Rattle.read.proofs.walk.skip_leaf.Reads as skip-leaf-reads
+use Rattle.leaves.proofs.leaf.skip_leaf.Reads as skip-leaf-reads
 use Rattle.record.proofs.node.node_children.Reads as node-children-reads
 use Rattle.record.proofs.node.node_code.Reads as node-code-reads
 use Rattle.record.proofs.node.node_first.Reads as node-first-reads

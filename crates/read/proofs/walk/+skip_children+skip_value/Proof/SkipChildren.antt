@@ -1,8 +1,9 @@
 use lib.ListN.{length}
-use Rattle.read.specs.Children.{shapeOf}
-use Rattle.read.specs.Skim.{_>>=_, skimNode, skim}
+use Rattle.leaves.specs.Shapes.{shapeOf}
+use Rattle.leaves.specs.Leaf.{_>>=_}
+use Rattle.read.specs.Skim.{skimNode, skim}
 use Rattle.read.specs.Ready.{Ready}
-use Rattle.read.proofs.Codes.{shape-variant}
+use Rattle.leaves.proofs.Codes.{shape-variant}
 use Rattle.read.proofs.Turn.{moved, steps, goOn, Fuelled, fuel-all, fuel-next, turn-child, turn-end, turn-refused, turn-on, Moved, wide-shape, picked-child}
 use Rattle.read.proofs.Onward.{skim-at}
 use Rattle.read.proofs.Nodes.{node-code, node-children, node-start}

@@ -1,4 +1,5 @@
-use Rattle.read.specs.Skim.{standing, skimNode, skim}
+use Rattle.leaves.specs.Leaf.{standing}
+use Rattle.read.specs.Skim.{skimNode, skim}
 use Rattle.read.proofs.Steps.{ready-paid}
 use Rattle.read.proofs.Nodes.{skim-none, skim-dear, skim-paid}
 use Rattle.read.proofs.Leads.{reached-leaf, reached-children}

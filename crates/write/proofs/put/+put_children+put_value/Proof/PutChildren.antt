@@ -1,4 +1,4 @@
-use Rattle.read.specs.Children.{shapeOf}
+use Rattle.leaves.specs.Shapes.{shapeOf}
 use Rattle.judge.specs.Table.{wholeEnd, valueStandingAt}
 use Rattle.write.specs.Putting.{putOf, written}
 use Rattle.write.proofs.Putting.{Filling, record-in, has-depth, code-in, fill-first, last-room, placed, record-there, sums, tag-room, may-write, fill-next}

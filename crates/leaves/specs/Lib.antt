@@ -1,0 +1,4 @@
+pub mod Budget
+pub mod Fields
+pub mod Shapes
+pub mod Leaf

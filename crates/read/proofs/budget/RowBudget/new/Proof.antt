@@ -1,8 +1,0 @@
-use mathlib.Core.Path.{refl}
-use Rattle.read.specs.Budget.{fresh}
-use Rattle.read.proofs.budget.RowBudget.new.Statement.{statement}
-use Rattle.read.proofs.budget.RowBudget.new.Tie as tie
-
-pub new-spec : {M : Type 1} → statement M
-unfolding fresh
-new-spec = tie.close (tie.spec (λ c. refl))
