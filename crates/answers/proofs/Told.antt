@@ -21,6 +21,8 @@ use Rattle.rules.specs.declared.answer.Read.{Read}
 use Rattle.rules.specs.declared.answer.Read.the-variants as read
 use Rattle.rules.specs.declared.answer.Written.{Written}
 use Rattle.rules.specs.declared.answer.Written.the-variants as written
+use Rattle.rules.specs.declared.answer.TextWritten.{TextWritten}
+use Rattle.rules.specs.declared.answer.TextWritten.the-variants as text
 use Rattle.rules.specs.declared.answer.Checked.{Checked}
 use Rattle.rules.specs.declared.answer.Checked.the-variants as checked
 use Rattle.rules.specs.declared.answer.Stop.{Stop}
@@ -28,7 +30,7 @@ use Rattle.rules.specs.declared.answer.Stop.the-variants as stop
 use Rattle.scalars.specs.Numbers.{HasBits, SaysBits, scalarNumbers}
 use Rattle.scalars.specs.declared.ScalarNumbers.{ScalarNumbers}
 use Rattle.answers.specs.declared.AnswerNumbers.{AnswerNumbers}
-use Rattle.answers.specs.Answers.{noRefusal, extentOfBytes, answerOfRead, answerOfWritten, answerOfChecked, answerOfKnown, answerOfQueried, answerOfViewed, answerOfRan, whatOf, whyOf, answerOfWindow}
+use Rattle.answers.specs.Answers.{noRefusal, extentOfBytes, answerOfRead, answerOfWritten, answerOfText, answerOfChecked, answerOfKnown, answerOfQueried, answerOfViewed, answerOfRan, whatOf, whyOf, answerOfWindow}
 
 pub told-row : (w : Report) (x : Read) (e : Extent) → x ≡ read.Row e → w ≡ noRefusal → record { what = 0; why = w; rows = 1; row = e } ≡ answerOfRead x
 unfolding answerOfRead
@@ -54,6 +56,10 @@ pub number-told : (w : Report) (x : Viewed) (n : ℕ) → x ≡ viewed.Number n 
 unfolding answerOfViewed
 number-told w x n p q = rw (p, q)
 
+pub text-told : (w : Report) (r : Extent) (x : TextWritten) (n : ℕ) → x ≡ text.Text n → w ≡ noRefusal → r ≡ extentOfBytes n → record { what = 0; why = w; rows = 0; row = r } ≡ answerOfText x
+unfolding answerOfText
+text-told w r x n p q e = rw (p, q, e)
+
 module _ (a : AnswerNumbers) where
   pub written-row : (x : Written) (e : Extent) → x ≡ written.Row e → a ≡ answerOfRead (read.Row e) → a ≡ answerOfWritten x
   unfolding answerOfWritten
@@ -70,6 +76,10 @@ module _ (a : AnswerNumbers) where
   pub view-refused : (x : Viewed) (r : Refusal) → x ≡ viewed.Refused r → a ≡ answerOfRead (read.Refused r) → a ≡ answerOfViewed x
   unfolding answerOfViewed
   view-refused x r p q = rw p q
+
+  pub text-refused : (x : TextWritten) (r : Refusal) → x ≡ text.Refused r → a ≡ answerOfRead (read.Refused r) → a ≡ answerOfText x
+  unfolding answerOfText
+  text-refused x r p q = rw p q
 
   pub checked-refused : (x : Checked) (r : Refusal) → x ≡ checked.Refused r → a ≡ answerOfRead (read.Refused r) → a ≡ answerOfChecked x
   unfolding answerOfChecked

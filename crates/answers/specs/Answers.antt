@@ -19,6 +19,8 @@ use Rattle.rules.specs.declared.answer.Read.{Read}
 use Rattle.rules.specs.declared.answer.Read.the-variants.{Row, End, Refused}
 use Rattle.rules.specs.declared.answer.Written.{Written}
 use Rattle.rules.specs.declared.answer.Written.the-variants as written
+use Rattle.rules.specs.declared.answer.TextWritten.{TextWritten}
+use Rattle.rules.specs.declared.answer.TextWritten.the-variants as text
 use Rattle.rules.specs.declared.answer.Checked.{Checked}
 use Rattle.rules.specs.declared.answer.Checked.the-variants as checked
 use Rattle.rules.specs.declared.answer.Ran.{Ran}
@@ -59,6 +61,11 @@ answerOfRead (Refused r) = record { what = 2; why = reportOf r; rows = 0; row = 
 unfoldable pub answerOfWritten : Written → AnswerNumbers
 answerOfWritten (written.Row e) = answerOfRead (Row e)
 answerOfWritten (written.Refused r) = answerOfRead (Refused r)
+
+-- a text that was written is told by its bytes
+unfoldable pub answerOfText : TextWritten → AnswerNumbers
+answerOfText (text.Text n) = record { what = 0; why = noRefusal; rows = 0; row = extentOfBytes n }
+answerOfText (text.Refused r) = answerOfRead (Refused r)
 
 -- what a check accepts is told by zeros alone, what it refuses as ever
 unfoldable pub answerOfChecked : Checked → AnswerNumbers

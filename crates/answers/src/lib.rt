@@ -4,7 +4,7 @@ ghost use Prim.Native.Nat.{_+_, _≤_};
 ghost use mathlib.Core.List.{_∷_, []};
 ghost use lib.ListN.{length};
 ghost use Rattle.rules.specs.Bytes.{over};
-ghost use Rattle.answers.specs.Answers.{words, answerLayout, noRefusal, extentOfBytes, answerOfRead, answerOfRan, answerOfWritten, answerOfChecked, answerOfKnown, answerOfQueried, answerOfViewed};
+ghost use Rattle.answers.specs.Answers.{words, answerLayout, noRefusal, extentOfBytes, answerOfRead, answerOfRan, answerOfWritten, answerOfText, answerOfChecked, answerOfKnown, answerOfQueried, answerOfViewed};
 ghost use Rattle.scalars.specs.Numbers.{SaysBits};
 use rules::Checked;
 use rules::Extent;
@@ -13,6 +13,7 @@ use rules::Queried;
 use rules::Read;
 use rules::Report;
 use rules::Stop;
+use rules::TextWritten;
 use rules::Viewed;
 use rules::Written;
 use scalars::scalar_in_numbers;
@@ -85,6 +86,21 @@ pub fn answer_of_written(answer: Written) -> AnswerNumbers
     match answer {
         Written::Row(row) => answer_of_read(Read::Row(row)),
         Written::Refused(refusal) => answer_of_read(Read::Refused(refusal)),
+    }
+}
+
+// A text that was written, in numbers: its bytes.
+pub fn answer_of_text(answer: TextWritten) -> AnswerNumbers
+    ensures { λ r. ⌜ r ≡ answerOfText answer ⌝ }
+{
+    match answer {
+        TextWritten::Text(bytes) => AnswerNumbers {
+            what: 0,
+            why: no_refusal(),
+            rows: 0,
+            row: extent_of_bytes(bytes),
+        },
+        TextWritten::Refused(refusal) => answer_of_read(Read::Refused(refusal)),
     }
 }
 

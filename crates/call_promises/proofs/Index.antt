@@ -34,13 +34,13 @@ decode-indexed-one-answer κs a x y s t p q = (ap (λ d. d .answer) (p ∙ sym q
 
 -- ---- the C functions
 pub skiff1-build-index-one-answer : OneOutcome skiff1-build-index.Kinds.ps skiff1-build-index.Kinds.r (λ κs (charge, (blob, (row, (table, (names, (references, (registry, (input, (index, (answer, _)))))))))). answer .now ∷ index .now ∷ []) skiff1-build-index.Reads.Post
-skiff1-build-index-one-answer κs a x y s t p q = (ap (λ d. d .number) (p ∙ sym q), ap (λ d. d .answer ∷ d .index ∷ []) (p ∙ sym q))
+skiff1-build-index-one-answer κs a x y s t p q = (ap (λ d. d .number) (p ∙ sym q), ap (λ d. d .answer ∷ d .lent ∷ []) (p ∙ sym q))
 
 pub skiff1-check-index-one-answer : OneOutcome skiff1-check-index.Kinds.ps skiff1-check-index.Kinds.r (λ κs (charge, (blob, (row, (table, (names, (references, (registry, (input, (index, (answer, _)))))))))). answer .now ∷ []) skiff1-check-index.Reads.Post
 skiff1-check-index-one-answer κs a x y s t p q = (ap (λ d. d .number) (p ∙ sym q), ap (λ d. d .answer ∷ []) (p ∙ sym q))
 
 pub skiff1-extend-index-one-answer : OneOutcome skiff1-extend-index.Kinds.ps skiff1-extend-index.Kinds.r (λ κs (charge, (blob, (row, (table, (names, (references, (registry, (input, (old, (index, (answer, _))))))))))). answer .now ∷ index .now ∷ []) skiff1-extend-index.Reads.Post
-skiff1-extend-index-one-answer κs a x y s t p q = (ap (λ d. d .number) (p ∙ sym q), ap (λ d. d .answer ∷ d .index ∷ []) (p ∙ sym q))
+skiff1-extend-index-one-answer κs a x y s t p q = (ap (λ d. d .number) (p ∙ sym q), ap (λ d. d .answer ∷ d .lent ∷ []) (p ∙ sym q))
 
 pub skiff1-decode-indexed-one-answer : OneOutcome skiff1-decode-indexed.Kinds.ps skiff1-decode-indexed.Kinds.r (λ κs (charge, (blob, (row, (table, (names, (references, (registry, (input, (index, (n, (records, (payload, (answer, _))))))))))))). answer .now ∷ records .now ∷ payload .now ∷ []) skiff1-decode-indexed.Reads.Post
 skiff1-decode-indexed-one-answer κs a x y s t p q = (ap (λ d. d .number) (p ∙ sym q), ap (λ d. d .answer ∷ d .records ∷ d .payload ∷ []) (p ∙ sym q))

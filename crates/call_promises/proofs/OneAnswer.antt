@@ -131,7 +131,7 @@ pub skiff1-decode-one-answer : OneOutcome skiff1-decode.Kinds.ps skiff1-decode.K
 skiff1-decode-one-answer κs a x y s t p q = (ap (λ g. g .number) (p ∙ sym q), ap (λ g. g .answer ∷ g .records ∷ g .payload ∷ []) (p ∙ sym q))
 
 pub skiff1-encode-one-answer : OneOutcome skiff1-encode.Kinds.ps skiff1-encode.Kinds.r (λ κs (charge, (blob, (row, (table, (names, (first, (count, (records, (payload, (output, (position, (answer, _)))))))))))). answer .now ∷ output .now ∷ []) skiff1-encode.Reads.Post
-skiff1-encode-one-answer κs a x y s t p q = (ap (λ g. g .number) (p ∙ sym q), ap (λ g. g .answer ∷ g .output ∷ []) (p ∙ sym q))
+skiff1-encode-one-answer κs a x y s t p q = (ap (λ g. g .number) (p ∙ sym q), ap (λ g. g .answer ∷ g .lent ∷ []) (p ∙ sym q))
 
 pub skiff1-check-value-table-one-answer : OneOutcome skiff1-check-value-table.Kinds.ps skiff1-check-value-table.Kinds.r (λ κs (records, (payload, (answer, _))). answer .now ∷ []) skiff1-check-value-table.Reads.Post
 skiff1-check-value-table-one-answer κs a x y s t p q = (ap (λ g. g .number) (p ∙ sym q), ap (λ g. g .answer ∷ []) (p ∙ sym q))

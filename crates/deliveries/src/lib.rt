@@ -67,11 +67,11 @@ fn read_table(argument: usize, file: &[u8], space: &mut [u8], from: usize) -> us
     }
 }
 
-// Runs over the stream, in the window that the tables leave, and tells how it came out.
-fn deliver_stream(space: &mut [u8], ends: Ends)
+// Runs over the stream that an argument names, in the window that the tables leave, and tells how it came out.
+fn deliver_stream(argument: usize, space: &mut [u8], ends: Ends)
     requires { ⌜ Laid ends (ends .registry) (length (now space)) ⌝ }
 {
-    let fd = open_file(5, b"STREAM");
+    let fd = open_file(argument, b"STREAM");
     if fd < 0 {
         return;
     }
@@ -81,24 +81,23 @@ fn deliver_stream(space: &mut [u8], ends: Ends)
         Outcome::Told(ran) => tell_run(ran),
         Outcome::NoRoom(position) => {
             let room = (space.len() - ends.registry) as u64;
-            tell_failure(Failure::NoRoom { position, room }, b"STREAM", 5);
+            tell_failure(Failure::NoRoom { position, room }, b"STREAM", argument);
         }
-        Outcome::Unreadable => tell_failure(Failure::CannotRead, b"STREAM", 5),
+        Outcome::Unreadable => tell_failure(Failure::CannotRead, b"STREAM", argument),
     }
 }
 
-// The tables lie one behind the other in the space, so that only their sum is limited, and the rest of it is the window.
-pub fn deliver(space: &mut [u8]) {
-    if os::arg_count() != 6 {
-        tell_usage();
-        return;
-    }
-    let records = read_table(1, b"RECORDS", space, 0);
-    let names = read_table(2, b"NAMES", space, records);
-    let references = read_table(3, b"REFERENCES", space, names);
-    let registry = read_table(4, b"REGISTRY", space, references);
+// Runs over the delivery that five arguments name, the first of them by its number. The tables lie one behind the other in the space, so
+// that only their sum is limited, and the rest of it is the window.
+pub fn deliver_files(space: &mut [u8], first: u16) {
+    let argument = first as usize;
+    let records = read_table(argument, b"RECORDS", space, 0);
+    let names = read_table(argument + 1, b"NAMES", space, records);
+    let references = read_table(argument + 2, b"REFERENCES", space, names);
+    let registry = read_table(argument + 3, b"REGISTRY", space, references);
     if registry <= space.len() {
         deliver_stream(
+            argument + 4,
             space,
             Ends {
                 records,
@@ -108,4 +107,13 @@ pub fn deliver(space: &mut [u8]) {
             },
         );
     }
+}
+
+// The program: the delivery of its five arguments.
+pub fn deliver(space: &mut [u8]) {
+    if os::arg_count() != 6 {
+        tell_usage();
+        return;
+    }
+    deliver_files(space, 1);
 }

@@ -2,5 +2,5 @@
 use listings::list_files;
 
 fn main() {
-    list_files();
+    list_files(b"schema.rec", b"schema.nam", b"rows.skf");
 }

@@ -6,8 +6,8 @@ use mathlib.Core.Bool.{Bool, true, false, false≢true}
 use mathlib.Core.List.{List, [], _∷_}
 use native.Mathlib.Omega.{arith}
 use native.Mathlib.Nat.{lt-of-lt-of-le, pow-le-pow-right}
-use borrow.Author.Tests.{lt-ltb, le-ltb, ne-eqb, ltb-true}
-use lib.Dec.{ltb, eqb}
+use borrow.Author.Tests.{lt-ltb, le-ltb, ne-eqb, ltb-true, leb-true}
+use lib.Dec.{ltb, leb, eqb}
 use lib.ListN.{length}
 use Rattle.rules.specs.Choice.{pick, _and_, all}
 use Rattle.rules.specs.Bytes.{part, Stands}
@@ -16,17 +16,18 @@ use Rattle.rules.specs.Value.{Value, nothing, boolean, number, wide, blob, vari
 use Rattle.rules.specs.ValueRecord.{valueRecordAt}
 use Rattle.rules.specs.ValueTable.{bit, payloadBytes, valueKind, sizeOf, contentOf, headOf, Spot}
 use Rattle.rules.specs.Lines.{decimal}
+use Rattle.rules.specs.Numerals.{signedBytes, integerText}
 use Rattle.rules.specs.Listing.{hexBytes, valueText, numberText}
 use Rattle.rules.specs.declared.table_record.ValueRecord.{ValueRecord}
 use Rattle.rules.proofs.Tests.{and-both}
 use Rattle.rules.proofs.Codes.{every-form}
-use Rattle.rules.proofs.Stands.{stands-part, stands-in}
+use Rattle.rules.proofs.Stands.{stands-part, stands-in, stands-number}
 use Rattle.value_laws.proofs.Records.{size-is, content-is}
 use Rattle.value_laws.proofs.Parse.{Reads}
 use Rattle.judge.proofs.Codes.{fixed-range, sized-range, widest}
 use Rattle.value_laws.proofs.Children.{children}
 use Rattle.judge.proofs.Standing.{spot, head, kind-told, size-small, from-in, from-end, count-told, parent}
-use Rattle.texts.specs.Records.{isStored, kept, IsNumber, Told, contentText}
+use Rattle.texts.specs.Records.{isStored, kept, IsNumber, Told, payloadText, contentText}
 use Rattle.listing_lines.specs.Rows.{childCount}
 
 -- ---- kinds by their forms
@@ -35,8 +36,8 @@ unfoldable sorted : Form → ℕ → Bool
 sorted empty k = true
 sorted truth k = true
 sorted (fixed w) k = ltb 1 k and pick (isStored k) false true
-sorted (raw w) k = isStored k and ltb k 15
-sorted sized k = isStored k
+sorted (raw w) k = (isStored k and ltb k 8) and (ltb 0 w and leb w 32)
+sorted sized k = isStored k and leb 8 k
 sorted (variant-form w) k = true
 sorted (repeated-form w) k = true
 sorted tuple-form k = true
@@ -55,13 +56,24 @@ number-kind : (k w : ℕ) → form k ≡ fixed w → (1 < k) × (isStored k ≡ 
 unfolding sorted
 number-kind k w e = let h = and-both _ _ (rw e at (sort k)) in (ltb-true 1 k (h .0), isnt (isStored k) (h .1))
 
-wide-kind : (k w : ℕ) → form k ≡ raw w → (isStored k ≡ true) × (k < 15)
-unfolding sorted
-wide-kind k w e = let h = and-both _ _ (rw e at (sort k)) in (h .0, ltb-true k 15 (h .1))
+-- int128 and int256 are the kinds below 8 that are stored, and have 16 and 32 bytes
+record WideKind (k w : ℕ) : Type 0 where
+  stored : isStored k ≡ true
+  low : k < 8
+  some : 0 < w
+  few : w ≤ 32
 
-blob-kind : (k : ℕ) → form k ≡ sized → isStored k ≡ true
+wide-kind : (k w : ℕ) → form k ≡ raw w → WideKind k w
 unfolding sorted
-blob-kind k e = rw e at (sort k)
+wide-kind k w e =
+    let h = and-both _ _ (rw e at (sort k)) in
+    let a = and-both _ _ (h .0) in
+    let b = and-both _ _ (h .1) in
+    record { stored = a .0; low = ltb-true k 8 (a .1); some = ltb-true 0 w (b .0); few = leb-true w 32 (b .1) }
+
+blob-kind : (k : ℕ) → form k ≡ sized → (isStored k ≡ true) × (8 ≤ k)
+unfolding sorted
+blob-kind k e = let h = and-both _ _ (rw e at (sort k)) in (h .0, leb-true 8 k (h .1))
 
 width-is : (k w : ℕ) → form k ≡ fixed w → widthOf (form k) ≡ w
 unfolding widthOf
@@ -107,12 +119,21 @@ module _ (store : List ℕ) (u : ValueRecord) where
     size = rw o (omega (arith, s));
   }
 
+  -- the text of payload that stands in the store
+  wide-text : (k from : ℕ) (x : List ℕ) → k < 8 → Stands store from x → payloadText k store from (length x) ≡ integerText x
+  unfolding payloadText integerText signedBytes pick
+  wide-text k from x h p = rw (lt-ltb k 8 h, stands-number store from x p)
+
+  blob-text : (k from : ℕ) (x : List ℕ) → 8 ≤ k → Stands store from x → payloadText k store from (length x) ≡ hexBytes x
+  unfolding payloadText pick
+  blob-text k from x h p = rw (le-ltb k 8 h, stands-part store from x p)
+
   -- all of it is in the store
-  in-store : (v : Value) (from : ℕ) (x : List ℕ) → isStored (u .kind) ≡ true → u .kind < 15 → u .size ≡ length x → u .content ≡ from → Stands store from x → hexBytes x ≡ valueText v → ownPayload v ≡ length x → items (children v) ≡ 0 → Tells u store v
+  in-store : (v : Value) (from : ℕ) (x : List ℕ) → isStored (u .kind) ≡ true → u .kind < 15 → u .size ≡ length x → u .content ≡ from → Stands store from x → (u .kind < 8 → (0 < length x) × (length x ≤ 32)) → payloadText (u .kind) store from (length x) ≡ valueText v → ownPayload v ≡ length x → items (children v) ≡ 0 → Tells u store v
   unfolding contentText kept childCount pick
-  in-store v from x h l s c p t o n = record {
-    asked = record { stored = λ e. omega (arith, s, c, stands-in store from x p); number = λ e a b. absurd (false≢true (sym e ∙ h)) };
-    text = rw (h, c, s, stands-part store from x p) t;
+  in-store v from x h l s c p i t o n = record {
+    asked = record { stored = λ e. record { within = omega (arith, s, c, stands-in store from x p); integer = λ k. rw s (i k) }; number = λ e a b. absurd (false≢true (sym e ∙ h)) };
+    text = rw (h, c, s) t;
     own = rw h (s ∙ sym o);
     count = rw (lt-ltb (u .kind) 15 l) (sym n);
     size = omega (arith, s, o, n);
@@ -139,9 +160,10 @@ module _ (store : List ℕ) (u : ValueRecord) where
       (number-text h (omega (arith, k, n .0)) (omega (arith, k, r .0)) ∙ rw (k, c)) refl (rw (k, lt-ltb j 15 (omega (arith, r .0)))) s
   tells-fields (wide j x) from k s c f p =
       let n = wide-kind j (length x) f in
-      in-store (wide j x) from x (rw k (n .0)) (omega (arith, k, n .1)) s c p refl refl refl
+      in-store (wide j x) from x (rw k (n .stored)) (omega (arith, k, n .low)) s c p (λ l. (n .some, n .few)) (rw k (wide-text j from x (n .low) p)) refl refl
   tells-fields (blob j x) from k s c f p =
-      in-store (blob j x) from x (rw k (blob-kind j (f .0))) (omega (arith, k, sized-range j (f .0) .1)) s c p refl refl refl
+      let n = blob-kind j (f .0) in
+      in-store (blob j x) from x (rw k (n .0)) (omega (arith, k, sized-range j (f .0) .1)) s c p (λ l. absurd (omega (arith, k, l, n .1))) (rw k (blob-text j from x (n .1) p)) refl refl
   tells-fields (variant t v) from k s c f p = above (variant t v) (omega arith) f k (rw k) s refl refl
   tells-fields (repeated is) from k s c f p = above (repeated is) (omega arith) f k (rw k) s refl refl
   tells-fields (tuple vs) from k s c f p = above (tuple vs) (omega arith) f k (rw k) s refl refl

@@ -93,14 +93,14 @@ fn tell_refused() {
     io::write_all(STDOUT_FILENO, &text[..n]);
 }
 
-// Lists schema.rec, schema.nam and rows.skf.
-pub fn list_files() {
+// Lists the delivery of three files: the schema's records, the names and the rows.
+pub fn list_files(schema_name: &[u8], names_name: &[u8], rows_name: &[u8]) {
     let mut schema = file_room();
     let mut names = file_room();
     let mut stream = file_room();
-    let s = read_file(b"schema.rec", &mut schema);
-    let n = read_file(b"schema.nam", &mut names);
-    let r = read_file(b"rows.skf", &mut stream);
+    let s = read_file(schema_name, &mut schema);
+    let n = read_file(names_name, &mut names);
+    let r = read_file(rows_name, &mut stream);
     if schema.len() < s {
         tell_refused();
         return;

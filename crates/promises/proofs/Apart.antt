@@ -8,7 +8,7 @@ use lib.Dec.{leb}
 use lib.ListN.{getD}
 use Rattle.rules.specs.Choice.{pick}
 use Rattle.rules.specs.Refusals.{lineOf}
-use Rattle.rules.specs.Answers.{Said, said, noneSaid, rowSaid, readSaid, stopSaid, writtenSaid, checkedSaid}
+use Rattle.rules.specs.Answers.{Said, said, noneSaid, rowSaid, readSaid, stopSaid, writtenSaid, textSaid, checkedSaid}
 use Rattle.rules.specs.declared.refusal.Refusal.{Refusal}
 use Rattle.rules.specs.declared.refusal.Why.{Why}
 use Rattle.rules.specs.declared.refusal.Why.the-variants as why
@@ -17,6 +17,7 @@ use Rattle.rules.specs.declared.answer.Extent.{Extent}
 use Rattle.rules.specs.declared.answer.Read.{Read}
 use Rattle.rules.specs.declared.answer.Stop.{Stop}
 use Rattle.rules.specs.declared.answer.Written.{Written}
+use Rattle.rules.specs.declared.answer.TextWritten.{TextWritten}
 use Rattle.rules.proofs.Answers.{refusal-number, one-row}
 
 -- the reasons of document 01 in the order of their numbers, with three values
@@ -129,6 +130,13 @@ writings-apart (Written.Row x) (Written.Row y) h = ap Written.Row (one-row x y h
 writings-apart (Written.Row x) (Written.Refused r) h = absurd (not-row r x (sym h))
 writings-apart (Written.Refused r) (Written.Row y) h = absurd (not-row r y h)
 writings-apart (Written.Refused r) (Written.Refused t) h = ap Written.Refused (refusals-apart r t h)
+
+pub texts-apart : (a b : TextWritten) → textSaid a ≡ textSaid b → a ≡ b
+unfolding textSaid
+texts-apart (TextWritten.Text m) (TextWritten.Text n) h = ap TextWritten.Text (ap (λ (x : Said). getD (x .carries) 0 0) h)
+texts-apart (TextWritten.Text m) (TextWritten.Refused r) h = absurd (refusal-number r (ap (λ (x : Said). x .number) (sym h)))
+texts-apart (TextWritten.Refused r) (TextWritten.Text n) h = absurd (refusal-number r (ap (λ (x : Said). x .number) h))
+texts-apart (TextWritten.Refused r) (TextWritten.Refused t) h = ap TextWritten.Refused (refusals-apart r t h)
 
 pub checks-apart : (a b : Checked) → checkedSaid a ≡ checkedSaid b → a ≡ b
 unfolding checkedSaid

@@ -1,14 +1,15 @@
 -- The page of promises. Each statement is about the written rules (crates/rules/specs) and nothing else, and is proved by a citation.
 -- A call inherits it by a contract that says: its answer is what the rule says.
 -- Assumes nothing.
-use Prim.Native.Nat.{ℕ, _+_, _≤_, _<_, suc}
+use Prim.Native.Nat.{ℕ, _+_, _*_, _^_, _≤_, _<_, suc}
 use mathlib.Core.Path.{_≡_, refl}
 use mathlib.Core.Bool.{Bool}
 use mathlib.Core.List.{List, [], _∷_, _++_, map}
 use mathlib.Core.Logic.{_↔_}
-use lib.ListN.{length, take, drop}
-use Rattle.rules.specs.Bytes.{Bytes, Stands, le, part, over}
-use Rattle.rules.specs.Answers.{Said, said, rowSaid, readSaid, stopSaid, writtenSaid, checkedSaid}
+use lib.IntN.{ℤ}
+use lib.ListN.{length, getD, take, drop}
+use Rattle.rules.specs.Bytes.{Bytes, Stands, le, leAt, part, over}
+use Rattle.rules.specs.Answers.{Said, said, rowSaid, readSaid, stopSaid, writtenSaid, textSaid, checkedSaid}
 use Rattle.rules.specs.Schema.{Schema, deep, nodes}
 use Rattle.rules.specs.Block.{records, blockTree, Denotes, Formed, blockOk, Ordered}
 use Rattle.rules.specs.SchemaRules.{schemaRule, ruleAt, firstOf, preorder}
@@ -26,6 +27,7 @@ use Rattle.rules.specs.Index.{IndexOf, HoldsRows, indexRecordStart, indexRecord
 use Rattle.rules.specs.Writing.{encodeRule, encodeFrom}
 use Rattle.rules.specs.RoundTrip.{EncodeAsked, Encodable, encodedInto, EncodeRefuses, SkipAsked, HasRoom, decodedAs, PlainRow}
 use Rattle.rules.specs.Rows.{outcome, lines, outcomes}
+use Rattle.rules.specs.Numerals.{numeral, integerIn, integerText, integerTextRule, exampleIntegers, exampleTexts}
 use Rattle.rules.specs.Listing.{joined, exampleListing, exampleLines}
 use Rattle.rules.specs.declared.settings.Settings.{Settings}
 use Rattle.rules.specs.declared.refusal.Refusal.{Refusal}
@@ -36,8 +38,10 @@ use Rattle.rules.specs.declared.answer.Extent.{Extent}
 use Rattle.rules.specs.declared.answer.Read.{Read}
 use Rattle.rules.specs.declared.answer.Stop.{Stop}
 use Rattle.rules.specs.declared.answer.Written.{Written}
+use Rattle.rules.specs.declared.answer.TextWritten.{TextWritten}
 use Rattle.rules.proofs.Rows.{rows-hold}
 use Rattle.rules.proofs.Listing.{listing-holds}
+use Rattle.rules.proofs.Integers.{integers-hold}
 use Rattle.rules.proofs.Answers.{check-number}
 use Rattle.block_laws.proofs.Form.{formed}
 use Rattle.block_laws.proofs.Levels.{block-denotes, deep-shallow}
@@ -54,12 +58,15 @@ use Rattle.row_laws.proofs.Decoding.{decode-tested}
 use Rattle.row_laws.proofs.Running.{run-iterated, run-stops}
 use Rattle.row_laws.proofs.Parts.{row-stays, row-moves}
 use Rattle.row_laws.proofs.Windows as windows
+use Rattle.text_laws.proofs.Numerals as numerals
+use Rattle.text_laws.proofs.Integers as integers
+use Rattle.text_laws.proofs.Calls as texts
 use Rattle.index_laws.proofs.Holds as holds
 use Rattle.index_laws.proofs.Extends as extends
 use Rattle.index_laws.proofs.Numbered as numbered
 use Rattle.value_laws.proofs.Flat.{one-value}
 use Rattle.value_laws.proofs.Flat as values
-use Rattle.promises.proofs.Apart.{refusals-apart, reads-apart, stops-apart, writings-apart, checks-apart}
+use Rattle.promises.proofs.Apart.{refusals-apart, reads-apart, stops-apart, writings-apart, texts-apart, checks-apart}
 use Rattle.promises.proofs.Tables.{table-encodes, decoded-row, decoded-none}
 use Rattle.promises.proofs.RoundTrip.{encoded-when, encoded-as, refused-leaves, refused-in-order, skips-back, reads-back}
 use Rattle.promises.proofs.Again as again
@@ -81,6 +88,10 @@ the-documents-rows = rows-hold
 pub the-documents-listing : exampleListing ≡ joined exampleLines
 the-documents-listing = listing-holds
 
+-- integers as text, -1, 0 and the ends of int128 and int256 among them
+pub the-integers-texts : map integerText exampleIntegers ≡ exampleTexts
+the-integers-texts = integers-hold
+
 -- ---- answers: number, place and values fix each
 pub refusal-by-numbers : (r r′ : Refusal) → said r ≡ said r′ → r ≡ r′
 refusal-by-numbers = refusals-apart
@@ -93,6 +104,9 @@ stop-by-numbers = stops-apart
 
 pub written-by-numbers : (a b : Written) → writtenSaid a ≡ writtenSaid b → a ≡ b
 written-by-numbers = writings-apart
+
+pub text-by-numbers : (a b : TextWritten) → textSaid a ≡ textSaid b → a ≡ b
+text-by-numbers = texts-apart
 
 pub check-by-numbers : (a b : Checked) → checkedSaid a ≡ checkedSaid b → a ≡ b
 check-by-numbers = checks-apart
@@ -373,3 +387,25 @@ module _ (v : Value) (table store : List ℕ) (is : TableOf v table store) (shor
 
     pub view-next-field : (vs : Values) → n .value ≡ tuple vs → (k m : ℕ) → suc k < values vs → fieldRule table i k ≡ Number m → fieldRule table i (suc k) ≡ afterRule table m
     view-next-field = view.next-field v table store is short small i n at
+
+-- ---- integers as text, in a base from 2 on, and of whatever width in bytes
+
+-- two whole numbers of one text are equal,
+pub text-fixes-number : (base : ℕ) → 1 < base → (a b : ℤ) → integerIn base a ≡ integerIn base b → a ≡ b
+text-fixes-number = integers.integer-determines
+
+-- and two integers of one width and one text have the same bytes
+pub text-fixes-bytes : (x y : List ℕ) → Bytes x → Bytes y → length x ≡ length y → integerText x ≡ integerText y → x ≡ y
+text-fixes-bytes = integers.text-determines
+
+-- the digits of what is not 0 do not begin with a `0`
+pub no-leading-zero : (base : ℕ) → 1 < base → (n : ℕ) → 0 < n → (rest : List ℕ) → numeral base n ≡ 48 ∷ rest → ⊥
+no-leading-zero = numerals.no-leading-zero
+
+-- the text begins with a minus sign just where the highest bit is set
+pub minus-where-negative : (x : List ℕ) → Bytes x → (getD (integerText x) 0 0 ≡ 45) ↔ (256 ^ length x ≤ 2 * leAt x 0 (length x))
+minus-where-negative = integers.minus-sign
+
+-- where the call refuses, its slice stays
+pub refused-text-leaves : (x s : List ℕ) → 0 < textSaid (integerTextRule x s .answer) .number → integerTextRule x s .text ≡ s
+refused-text-leaves = texts.refused-leaves

@@ -1,18 +1,15 @@
 -- What a record says, by the tests that the code makes.
 -- Assumes nothing.
-use Prim.Native.Nat.{ℕ, suc, _+_, _-_, _*_, _/_, _^_, _≤_, _<_}
+use Prim.Native.Nat.{ℕ, _^_, _≤_, _<_}
 use mathlib.Core.Path.{_≡_, refl}
 use mathlib.Core.Bool.{Bool, true, false}
 use mathlib.Core.List.{List}
 use native.Mathlib.Omega.{arith}
-use native.Mathlib.Numerals.{add-one}
 use native.Mathlib.Nat.{pow-le-pow-right}
-use borrow.Author.Tests.{lt-ltb, le-ltb, ltb-true, leb-true, leb-false}
-use lib.Dec.{leb}
+use borrow.Author.Tests.{lt-ltb, ltb-true, leb-true}
 use lib.ListN.{length}
 use mir.Syntax.{w64}
 use mir.Val.{SFits}
-use lib.IntN.{ℤ, pos, negsuc}
 use Rattle.rules.specs.Choice.{pick, _and_}
 use Rattle.rules.specs.Wire.{fixed, form}
 use Rattle.rules.specs.Query.{scalarAlone, recordAlone, recordThere, recordGood, recordSeen, signed}
@@ -20,38 +17,15 @@ use Rattle.rules.specs.declared.table_record.ValueRecord.{ValueRecord}
 use Rattle.rules.specs.declared.host_answer.Seen.{Seen}
 use Rattle.rules.specs.declared.host_answer.Seen.the-variants.{Record, Refused}
 use Rattle.rules.proofs.Tests.{and-both, either}
+use Rattle.rules.proofs.Signed.{signed-is}
 
--- ---- two's complement, over the width
-
-module _ (w x top : ℕ) (e : top + 1 ≡ 256 ^ w) where
-  -- the lower half is as it is
-  pub signed-low : x ≤ top / 2 → signed w x ≡ pos x
-  unfolding signed pick
-  signed-low l = rw (lt-ltb (2 * x) (256 ^ w) (omega arith))
-
-  -- the upper half is below nothing, by what it lacks to the largest and one more
-  pub signed-high : top / 2 < x → x ≤ top → signed w x ≡ negsuc (top - x)
-  unfolding signed pick
-  signed-high h l =
-      let z : suc top - suc x ≡ top - x = omega arith in
-      rw (le-ltb (2 * x) (256 ^ w) (omega arith), ← e, add-one, lt-ltb x (suc top) (omega arith), z)
+-- ---- two's complement
 
 -- either half is a number of 64 bits
 pub signed-fits : (w x : ℕ) → w ≤ 8 → x < 256 ^ w → SFits w64 (signed w x)
-signed-fits w x h l = by (leb x (top / 2)) refl
-  where
-    top : ℕ
-    top = 256 ^ w - 1
-
-    most : 256 ^ w ≤ 256 ^ 8
-    most = pow-le-pow-right (omega arith) h
-
-    is : top + 1 ≡ 256 ^ w
-    is = omega arith
-
-    by : (b : Bool) → leb x (top / 2) ≡ b → SFits w64 (signed w x)
-    by true e = let k : x ≤ top / 2 = leb-true x (top / 2) e in rw (signed-low w x top is k) (record { sfits = omega (arith, most, k) })
-    by false e = let k : top / 2 < x = leb-false x (top / 2) e in rw (signed-high w x top is k (omega arith)) (record { sfits = omega (arith, most, k) })
+signed-fits w x h l =
+    let most : 256 ^ w ≤ 256 ^ 8 = pow-le-pow-right (omega arith) h in
+    signed-is w x l (SFits w64) (λ k. record { sfits = omega (arith, most, k) }) (λ k. record { sfits = omega (arith, most, k, l) })
 
 -- ---- what a record that was seen is known for
 

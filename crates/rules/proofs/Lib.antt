@@ -7,3 +7,5 @@ pub mod Stands
 pub mod Codes
 pub mod Answers
 pub mod Listing
+pub mod Signed
+pub mod Integers

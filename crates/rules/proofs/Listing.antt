@@ -16,9 +16,10 @@ use Rattle.rules.specs.Walk.{blobLimit, _>>=_, numberOf, bytesOf, charge
 use Rattle.rules.specs.Reading.{defaults, settingsOk, limits, start, rootFrom, rowAt, whenAccepted, door, through, extent, roomFor}
 use Rattle.rules.specs.Query.{signed}
 use Rattle.rules.specs.Rows.{schemaRecord, oneTable, B}
-use Rattle.rules.specs.Lines.{digits, decimal, codeWords, codeWord, endLine}
-use Rattle.rules.specs.Listing.{integer, parentWords, kindWord, numberText, valueText, listingLine, nodeLine, linesBelow, linesOf, rowLines, refusalLine, pieceOf, rowPiece, pieceAt, filesOk, filesPiece, andThen, piecesFrom, pieces, joined, listing, filesListing, exampleListing, ended, exampleLines}
+use Rattle.rules.specs.Numerals.{digit, digitsIf, digits, numeral, integerIn}
+use Rattle.rules.specs.Lines.{decimal, codeWords, codeWord, endLine}
+use Rattle.rules.specs.Listing.{parentWords, kindWord, numberText, valueText, listingLine, nodeLine, linesBelow, linesOf, rowLines, refusalLine, pieceOf, rowPiece, pieceAt, filesOk, filesPiece, andThen, piecesFrom, pieces, joined, listing, filesListing, exampleListing, ended, exampleLines}
 
 pub listing-holds : exampleListing ≡ joined exampleLines
-unfolding spelling nameOf defaults pick _and_ all le leAt part order isEqual isLess form written writtenIf typeOf typeIn wireTypes widthOf endTag maximum ascii lineOf _then_ inOrder deep child nodeAt block earlier nameOk childrenOk recordOk recordAt blockOk nameIn treesFrom treeAt blockTree depthOf nodeRule ruleAt schemaRule notTuple rootRule nameRule childRule tableRule blockFormOk blockDepthOk blockRule referenceAt entryAt entryName lookup resolved tableSchema referenceOk ascending entryOk referenceFormOk formsOk entryDepthOk referenceDepthOk depthsOk entryRule rootOf inlineRule referenceRule rulesOrder sizesOk formatRules items values bit valueKind blobLimit _>>=_ numberOf bytesOf charged blobOf childOf pairsOf fieldsOf valueOf walk settingsOk limits start rootFrom rowAt whenAccepted door through extent roomFor schemaRecord oneTable B digits decimal codeWords codeWord endLine integer parentWords kindWord signed numberText valueText listingLine nodeLine linesBelow linesOf rowLines refusalLine pieceOf rowPiece pieceAt filesOk filesPiece andThen piecesFrom pieces joined listing filesListing exampleListing ended exampleLines
+unfolding spelling nameOf defaults pick _and_ all le leAt part order isEqual isLess form written writtenIf typeOf typeIn wireTypes widthOf endTag maximum ascii lineOf _then_ inOrder deep child nodeAt block earlier nameOk childrenOk recordOk recordAt blockOk nameIn treesFrom treeAt blockTree depthOf nodeRule ruleAt schemaRule notTuple rootRule nameRule childRule tableRule blockFormOk blockDepthOk blockRule referenceAt entryAt entryName lookup resolved tableSchema referenceOk ascending entryOk referenceFormOk formsOk entryDepthOk referenceDepthOk depthsOk entryRule rootOf inlineRule referenceRule rulesOrder sizesOk formatRules items values bit valueKind blobLimit _>>=_ numberOf bytesOf charged blobOf childOf pairsOf fieldsOf valueOf walk settingsOk limits start rootFrom rowAt whenAccepted door through extent roomFor schemaRecord oneTable B digit digitsIf digits numeral decimal codeWords codeWord endLine integerIn parentWords kindWord signed numberText valueText listingLine nodeLine linesBelow linesOf rowLines refusalLine pieceOf rowPiece pieceAt filesOk filesPiece andThen piecesFrom pieces joined listing filesListing exampleListing ended exampleLines
 listing-holds = refl

@@ -5,6 +5,7 @@ use mathlib.Core.Path.{_≡_, refl, sym, ap, _∙_}
 use mathlib.Core.List.{List, [], _∷_, _++_, append-nil}
 use native.Mathlib.Omega.{arith}
 use native.Mathlib.Nat.{add-zero}
+use native.Mathlib.Numerals.{add-one}
 use lib.ListN.{length, getD, replicate, length-append, length-replicate}
 use lib.Seq.{getD-append-seam, append-snoc}
 use Rattle.rules.specs.Bytes.{Bytes, le, leAt, part, Stands}
@@ -24,6 +25,14 @@ pub length-part : (s : List ℕ) (at n : ℕ) → length (part s at n) ≡ n
 unfolding part
 length-part s at zero = refl
 length-part s at (suc n) = ap suc (length-part s (at + 1) n)
+
+-- a number behind the first byte is one of the rest
+leAt-behind : (x : ℕ) (xs : List ℕ) (at w : ℕ) → leAt (x ∷ xs) (at + 1) w ≡ leAt xs at w
+unfolding leAt
+leAt-behind x xs at zero = refl
+leAt-behind x xs at (suc w) =
+    let b : getD (x ∷ xs) (at + 1) 0 ≡ getD xs at 0 = rw (add-one at) in
+    rw (b, leAt-behind x xs (at + 1) w)
 
 module _ (s : List ℕ) where
   -- what stands somewhere ends within the list
@@ -59,6 +68,12 @@ module _ (s : List ℕ) where
   unfolding Stands part
   stands-part at [] h = refl
   stands-part at (x ∷ xs) h = rw (h .0 .1, stands-part (at + 1) xs (h .1))
+
+  -- and so is its number
+  pub stands-number : (at : ℕ) (xs : List ℕ) → Stands s at xs → leAt s at (length xs) ≡ leAt xs 0 (length xs)
+  unfolding Stands leAt
+  stands-number at [] h = refl
+  stands-number at (x ∷ xs) h = rw (h .0 .1, stands-number (at + 1) xs (h .1), leAt-behind x xs 0 (length xs))
 
   -- what is read there stands there
   pub part-stands : (at n : ℕ) → at + n ≤ length s → Stands s at (part s at n)

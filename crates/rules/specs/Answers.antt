@@ -13,6 +13,7 @@ use Rattle.rules.specs.declared.answer.Extent.{Extent}
 use Rattle.rules.specs.declared.answer.Read.{Read}
 use Rattle.rules.specs.declared.answer.Stop.{Stop}
 use Rattle.rules.specs.declared.answer.Written.{Written}
+use Rattle.rules.specs.declared.answer.TextWritten.{TextWritten}
 use Rattle.rules.specs.declared.host_answer.Scalar.{Scalar}
 use Rattle.rules.specs.declared.host_answer.Queried.{Queried}
 
@@ -49,6 +50,11 @@ stopSaid (Stop.Refused r) = said r
 unfoldable pub writtenSaid : Written → Said
 writtenSaid (Written.Row e) = rowSaid e
 writtenSaid (Written.Refused r) = said r
+
+-- a text: its bytes, or a refusal
+unfoldable pub textSaid : TextWritten → Said
+textSaid (TextWritten.Text n) = record { number = 0; place = 0; carries = n ∷ [] }
+textSaid (TextWritten.Refused r) = said r
 
 -- a check: accepted, or a refusal
 unfoldable pub checkedSaid : Checked → Said

@@ -23,6 +23,7 @@ pub mod Answers
 pub mod Windows
 pub mod Index
 pub mod Writing
+pub mod Numerals
 pub mod Lines
 pub mod RoundTrip
 pub mod Rows

@@ -1,6 +1,6 @@
 -- The lines that a run is told in.
 -- Assumes nothing: these are definitions.
-use Prim.Native.Nat.{ℕ, zero, suc, _+_, _-_, _/_, _%_}
+use Prim.Native.Nat.{ℕ, zero, suc, _-_}
 use mathlib.Core.List.{List, [], _∷_, _++_}
 use Prim.Native.String.{String}
 use mathlib.Core.Bool.{Bool, true, false}
@@ -9,6 +9,7 @@ use lib.Dec.{ltb, eqb}
 use Rattle.rules.specs.Choice.{pick}
 use Rattle.rules.specs.Wire.{wireTypes}
 use Rattle.rules.specs.Names.{ascii, nameOf}
+use Rattle.rules.specs.Numerals.{numeral}
 use Rattle.rules.specs.Refusals.{lineOf, labelsOf, reportOf}
 use Rattle.rules.specs.declared.wire_type.WireType.{WireType}
 use Rattle.rules.specs.declared.refusal.Label.{Label}
@@ -19,14 +20,9 @@ use Rattle.rules.specs.declared.answer.Stop.{Stop}
 use Rattle.rules.specs.declared.answer.Stop.the-variants.{End, Refused}
 use Rattle.rules.specs.declared.answer.Ran.{Ran}
 
--- the decimal digits of n, of at most so many: a number below 10 is its digit; any other has those of a tenth of it, and then its last
-unfoldable pub digits : ℕ → ℕ → List ℕ
-digits zero n = []
-digits (suc enough) n = pick (ltb n 10) ((48 + n) ∷ []) (digits enough (n / 10) ++ ((48 + n % 10) ∷ []))
-
--- a number in decimal: its digits are at most as many as itself and one
+-- a number in decimal
 unfoldable pub decimal : ℕ → List ℕ
-decimal n = digits (suc n) n
+decimal n = numeral 10 n
 
 -- ---- words
 

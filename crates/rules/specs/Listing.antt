@@ -4,12 +4,12 @@ use Prim.Native.Nat.{ℕ, zero, suc, _+_, _-_, _/_, _%_}
 use Prim.Native.String.{String}
 use mathlib.Core.List.{List, [], _∷_, _++_}
 use mathlib.Core.Bool.{Bool}
-use lib.IntN.{ℤ, pos, negsuc}
 use lib.ListN.{length, getD}
 use lib.Dec.{ltb, leb}
 use Rattle.rules.specs.Choice.{pick, _and_}
 use Rattle.rules.specs.Wire.{form, widthOf}
 use Rattle.rules.specs.Names.{ascii}
+use Rattle.rules.specs.Numerals.{digit, integerIn, integerText}
 use Rattle.rules.specs.Lines.{decimal, isNone, codeWord, endLine}
 use Rattle.rules.specs.Refusals.{refusalNumber, Setting}
 use Rattle.rules.specs.Block.{records}
@@ -27,24 +27,15 @@ use Rattle.rules.specs.declared.answer.Read.the-variants.{Row, End}
 
 -- ---- numbers and bytes as text
 
--- a whole number in decimal
-unfoldable pub integer : ℤ → List ℕ
-integer (pos n) = decimal n
-integer (negsuc n) = 45 ∷ decimal (suc n)
-
--- a number below 16 as a digit, from 10 on a small letter
-unfoldable pub hexDigit : ℕ → ℕ
-hexDigit d = pick (ltb d 10) (48 + d) (87 + d)
-
 -- bytes as they are stored, each by two digits, the upper first
 unfoldable pub hex : List ℕ → List ℕ
 hex [] = []
-hex (b ∷ bs) = hexDigit (b / 16) ∷ hexDigit (b % 16) ∷ hex bs
+hex (b ∷ bs) = digit (b / 16) ∷ digit (b % 16) ∷ hex bs
 
 -- a number by n digits, the top one first
 unfoldable pub hexNumber : ℕ → ℕ → List ℕ
 hexNumber zero x = []
-hexNumber (suc n) x = hexNumber n (x / 16) ++ (hexDigit (x % 16) ∷ [])
+hexNumber (suc n) x = hexNumber n (x / 16) ++ (digit (x % 16) ∷ [])
 
 -- no bytes are a `-`
 unfoldable pub hexBytes : List ℕ → List ℕ
@@ -61,14 +52,14 @@ kindWord kind = pick (ltb kind 15) (codeWord kind) (getD parentWords (kind - 15)
 
 -- the bits of a kind: int8 to int64, uint8 to uint64, double
 unfoldable pub numberText : ℕ → ℕ → List ℕ
-numberText kind x = pick (ltb kind 8) (integer (signed (widthOf (form kind)) x)) (pick (ltb kind 12) (decimal x) (hexNumber 16 x))
+numberText kind x = pick (ltb kind 8) (integerIn 10 (signed (widthOf (form kind)) x)) (pick (ltb kind 12) (decimal x) (hexNumber 16 x))
 
--- what is told of a value: of one with children how many they are
+-- what is told of a value: int128 and int256 are integers of their width, blobs bytes as they are stored; of one with children how many they are
 unfoldable pub valueText : Value → List ℕ
 valueText nothing = ascii "-"
 valueText (boolean x) = decimal (bit x)
 valueText (number k x) = numberText k x
-valueText (wide k x) = hexBytes x
+valueText (wide k x) = integerText x
 valueText (blob k x) = hexBytes x
 valueText (variant t v) = decimal 1
 valueText (repeated is) = decimal (items is)

@@ -67,3 +67,9 @@ pub enum Written {
     Row(Extent),
     Refused(Refusal),
 }
+
+// What writing a text answers: how many bytes it has.
+pub enum TextWritten {
+    Text(u64),
+    Refused(Refusal),
+}

@@ -17,6 +17,7 @@ pub use answer::Ran;
 pub use answer::Read;
 pub use answer::RowSpan;
 pub use answer::Stop;
+pub use answer::TextWritten;
 pub use answer::Written;
 pub use host_answer::Queried;
 pub use host_answer::Scalar;

@@ -8,19 +8,15 @@ use lib.ListN.{length}
 use Rattle.rules.specs.Choice.{pick}
 use Rattle.rules.specs.Bytes.{over}
 use Rattle.rules.specs.Reading.{Decoded, untouched}
-use Rattle.rules.specs.Writing.{Encoded}
-use Rattle.rules.specs.Index.{Indexed}
 use Rattle.rules.specs.Query.{queryRule}
 use Rattle.rules.specs.declared.host_answer.Queried.{Queried}
 use Rattle.rules.specs.declared.host_answer.Viewed.{Viewed}
-use Rattle.rules.specs.declared.answer.Ran.{Ran}
 use Rattle.rules.specs.declared.answer.Read.{Read}
-use Rattle.rules.specs.declared.answer.Written.{Written}
 use Rattle.scalars.specs.Numbers.{SaysBits}
 use Rattle.scalars.proofs.Said.{query-says-bits}
 use Rattle.answers.specs.declared.AnswerNumbers.{AnswerNumbers}
-use Rattle.answers.specs.Answers.{answerLayout, answerOfRead, answerOfRan, answerOfWritten}
-use Rattle.skiff.specs.Calls.{Given, given, viewGiven, givenRow, givenOutput, givenIndex}
+use Rattle.answers.specs.Answers.{answerLayout, answerOfRead}
+use Rattle.skiff.specs.Calls.{Given, given, viewGiven, givenRow, givenSlice}
 
 -- ---- what a call gives
 
@@ -51,24 +47,13 @@ pub room-row : (x : Read) (d : Decoded) (a : AnswerNumbers) (s s′ rs rs′ ps 
 unfolding givenRow pick
 room-row x d a s s′ rs rs′ ps ps′ n h p q g = rw (← q, ← p, le-leb 88 (length s) h, g .0, g .1)
 
--- ---- what encode gives: the output too
+-- ---- what a call gives that writes one slice: that slice too
 
-pub short-output : (s : List ℕ) (e : Encoded) (out : List ℕ) → length s < 88 → record { number = 1; answer = s; output = out } ≡ givenOutput s e out
-unfolding givenOutput pick
-short-output s e out h = rw (lt-leb 88 (length s) h)
+pub short-slice : (s : List ℕ) (a : AnswerNumbers) (left lent : List ℕ) → length s < 88 → record { number = 1; answer = s; lent = lent } ≡ givenSlice s a left lent
+unfolding givenSlice pick
+short-slice s a left lent h = rw (lt-leb 88 (length s) h)
 
-pub room-output : (x : Written) (e : Encoded) (a : AnswerNumbers) (s s′ out out′ : List ℕ) (n : ℕ) → 88 ≤ length s → a ≡ answerOfWritten x → record { answer = x; output = out′ } ≡ e → (n ≡ a .why .number) × (s′ ≡ over s 0 (answerLayout a)) →
-    record { number = n; answer = s′; output = out′ } ≡ givenOutput s e out
-unfolding givenOutput pick
-room-output x e a s s′ out out′ n h p q g = rw (← q, ← p, le-leb 88 (length s) h, g .0, g .1)
-
--- ---- what building and extending an index give: its slice too
-
-pub short-index : (s : List ℕ) (x : Indexed) (index : List ℕ) → length s < 88 → record { number = 1; answer = s; index = index } ≡ givenIndex s x index
-unfolding givenIndex pick
-short-index s x index h = rw (lt-leb 88 (length s) h)
-
-pub room-index : (r : Ran) (x : Indexed) (a : AnswerNumbers) (s s′ index index′ : List ℕ) (n : ℕ) → 88 ≤ length s → a ≡ answerOfRan r → record { answer = r; index = index′ } ≡ x → (n ≡ a .why .number) × (s′ ≡ over s 0 (answerLayout a)) →
-    record { number = n; answer = s′; index = index′ } ≡ givenIndex s x index
-unfolding givenIndex pick
-room-index r x a s s′ index index′ n h p q g = rw (← q, ← p, le-leb 88 (length s) h, g .0, g .1)
+pub room-slice : {A : Type 0} (f : A → AnswerNumbers) (x y : A) (a : AnswerNumbers) (s s′ left left′ lent : List ℕ) (n : ℕ) → 88 ≤ length s → a ≡ f x → x ≡ y → left′ ≡ left → (n ≡ a .why .number) × (s′ ≡ over s 0 (answerLayout a)) →
+    record { number = n; answer = s′; lent = left′ } ≡ givenSlice s (f y) left lent
+unfolding givenSlice pick
+room-slice f x y a s s′ left left′ lent n h p q t g = rw (← q, ← p, t, le-leb 88 (length s) h, g .0, g .1)

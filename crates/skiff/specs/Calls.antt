@@ -9,15 +9,16 @@ use Rattle.rules.specs.Bytes.{over}
 use Rattle.rules.specs.Names.{parsed}
 use Rattle.rules.specs.Format.{Format, formatRule, encoderRule}
 use Rattle.rules.specs.Reading.{skipRule, runRule, ranOf, Decoded, decodeRule}
-use Rattle.rules.specs.Writing.{Encoded, encodeRule}
+use Rattle.rules.specs.Writing.{encodeRule}
+use Rattle.rules.specs.Numerals.{integerTextRule}
 use Rattle.rules.specs.ValueCheck.{valueTableRule}
 use Rattle.rules.specs.Query.{queryRule}
 use Rattle.rules.specs.Windows.{runAfter}
-use Rattle.rules.specs.Index.{Indexed, buildRule, checkIndexRule, extendRule, indexedRowRule}
+use Rattle.rules.specs.Index.{buildRule, checkIndexRule, extendRule, indexedRowRule}
 use Rattle.rules.specs.declared.settings.Settings.{Settings}
 use Rattle.rules.specs.declared.host_answer.Viewed.{Viewed}
 use Rattle.answers.specs.declared.AnswerNumbers.{AnswerNumbers}
-use Rattle.answers.specs.Answers.{answerLayout, answerOfRead, answerOfRan, answerOfWindow, answerOfWritten, answerOfChecked, answerOfKnown, answerOfQueried, answerOfViewed}
+use Rattle.answers.specs.Answers.{answerLayout, answerOfRead, answerOfRan, answerOfWindow, answerOfWritten, answerOfText, answerOfChecked, answerOfKnown, answerOfQueried, answerOfViewed}
 
 abbrev pub settingsOf : ℕ → ℕ → ℕ → Settings
 settingsOf charge blob row = record { «node_charge» = charge; «max_blob_bytes» = blob; «max_row_bytes» = row }
@@ -79,48 +80,44 @@ givenRow slice d rs ps =
 unfoldable pub decodeGiven : Format → Settings → List ℕ → ℕ → List ℕ → List ℕ → List ℕ → GivenRow
 decodeGiven f s inp at slice rs ps = givenRow slice (decodeRule f s inp at rs ps) rs ps
 
--- encode's output too
-pub record GivenOutput : Type 0 where
+-- the one slice that encode, a text or an index is written to, too
+pub record GivenSlice : Type 0 where
   pub number : ℕ
   pub answer : List ℕ
-  pub output : List ℕ
+  pub lent : List ℕ
 
--- it is as encode leaves it, but stays where there is no room for an answer
-unfoldable pub givenOutput : List ℕ → Encoded → List ℕ → GivenOutput
-givenOutput slice e out =
-    let a = answerOfWritten (e .answer) in
+-- it is as the call leaves it, but stays where there is no room for an answer
+unfoldable pub givenSlice : List ℕ → AnswerNumbers → List ℕ → List ℕ → GivenSlice
+givenSlice slice a left lent =
     pick (leb 88 (length slice))
-    (record { number = a .why .number; answer = over slice 0 (answerLayout a); output = e .output })
-    (record { number = 1; answer = slice; output = out })
+    (record { number = a .why .number; answer = over slice 0 (answerLayout a); lent = left })
+    (record { number = 1; answer = slice; lent = lent })
 
-unfoldable pub encodeGiven : Settings → List ℕ → List ℕ → ℕ → ℕ → List ℕ → List ℕ → List ℕ → ℕ → List ℕ → GivenOutput
-encodeGiven s table names first n rs ps out at slice = givenOutput slice (encodeRule s table names first n rs ps out at) out
+unfoldable pub encodeGiven : Settings → List ℕ → List ℕ → ℕ → ℕ → List ℕ → List ℕ → List ℕ → ℕ → List ℕ → GivenSlice
+encodeGiven s table names first n rs ps out at slice =
+    let e = encodeRule s table names first n rs ps out at in
+    givenSlice slice (answerOfWritten (e .answer)) (e .output) out
+
+unfoldable pub integerTextGiven : List ℕ → List ℕ → List ℕ → GivenSlice
+integerTextGiven x text slice =
+    let t = integerTextRule x text in
+    givenSlice slice (answerOfText (t .answer)) (t .text) text
 
 -- ---- the index
 
--- its slice too
-pub record GivenIndex : Type 0 where
-  pub number : ℕ
-  pub answer : List ℕ
-  pub index : List ℕ
-
--- it is as the call leaves it, but stays where there is no room for an answer
-unfoldable pub givenIndex : List ℕ → Indexed → List ℕ → GivenIndex
-givenIndex slice x index =
-    let a = answerOfRan (x .answer) in
-    pick (leb 88 (length slice))
-    (record { number = a .why .number; answer = over slice 0 (answerLayout a); index = x .index })
-    (record { number = 1; answer = slice; index = index })
-
-unfoldable pub buildIndexGiven : Format → Settings → List ℕ → List ℕ → List ℕ → GivenIndex
-buildIndexGiven f s inp index slice = givenIndex slice (buildRule f s inp index) index
+unfoldable pub buildIndexGiven : Format → Settings → List ℕ → List ℕ → List ℕ → GivenSlice
+buildIndexGiven f s inp index slice =
+    let x = buildRule f s inp index in
+    givenSlice slice (answerOfRan (x .answer)) (x .index) index
 
 unfoldable pub checkIndexGiven : Format → Settings → List ℕ → List ℕ → List ℕ → Given
 checkIndexGiven f s inp index slice = given slice (answerOfRan (checkIndexRule f s inp index))
 
 -- the first `old` records stand there already
-unfoldable pub extendIndexGiven : Format → Settings → List ℕ → ℕ → List ℕ → List ℕ → GivenIndex
-extendIndexGiven f s inp old index slice = givenIndex slice (extendRule f s inp old index) index
+unfoldable pub extendIndexGiven : Format → Settings → List ℕ → ℕ → List ℕ → List ℕ → GivenSlice
+extendIndexGiven f s inp old index slice =
+    let x = extendRule f s inp old index in
+    givenSlice slice (answerOfRan (x .answer)) (x .index) index
 
 -- row n, as decode gives one
 unfoldable pub decodeIndexedGiven : Format → Settings → List ℕ → List ℕ → ℕ → List ℕ → List ℕ → List ℕ → GivenRow

@@ -26,7 +26,7 @@ pub extern "C" fn skiff1_build_index(
     index: &mut [u8],
     answer: &mut [u8],
 ) -> u32
-    ensures { λ r. ⌜ record { number = r; answer = now (answer .exit); index = now (index .exit) }
+    ensures { λ r. ⌜ record { number = r; answer = now (answer .exit); lent = now (index .exit) }
         ≡ buildIndexGiven (slices (now (table .entry)) (now (names .entry)) (now (references .entry)) (now (registry .entry)))
         (settingsOf «node_charge» «max_blob_bytes» «max_row_bytes») (now (input .entry)) (now (index .entry)) (now (answer .entry)) ⌝ }
 {
@@ -89,7 +89,7 @@ pub extern "C" fn skiff1_extend_index(
     index: &mut [u8],
     answer: &mut [u8],
 ) -> u32
-    ensures { λ r. ⌜ record { number = r; answer = now (answer .exit); index = now (index .exit) }
+    ensures { λ r. ⌜ record { number = r; answer = now (answer .exit); lent = now (index .exit) }
         ≡ extendIndexGiven (slices (now (table .entry)) (now (names .entry)) (now (references .entry)) (now (registry .entry)))
         (settingsOf «node_charge» «max_blob_bytes» «max_row_bytes») (now (input .entry)) old (now (index .entry)) (now (answer .entry)) ⌝ }
 {

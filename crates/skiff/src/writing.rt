@@ -23,7 +23,7 @@ pub extern "C" fn skiff1_encode(
     position: u64,
     answer: &mut [u8],
 ) -> u32
-    ensures { λ r. ⌜ record { number = r; answer = now (answer .exit); output = now (output .exit) }
+    ensures { λ r. ⌜ record { number = r; answer = now (answer .exit); lent = now (output .exit) }
         ≡ encodeGiven (settingsOf «node_charge» «max_blob_bytes» «max_row_bytes») (now (table .entry)) (now (names .entry)) first count
         (now (records .entry)) (now (payload .entry)) (now (output .entry)) position (now (answer .entry)) ⌝ }
 {

@@ -15,7 +15,7 @@ use mir.Val.{Fits, SFits, ofZ, toZ}
 use mir.ValLaws.{toZ-ofZ}
 use Rattle.rules.specs.Names.{ascii}
 use Rattle.rules.specs.Lines.{decimal}
-use Rattle.rules.specs.Listing.{integer}
+use Rattle.rules.specs.Numerals.{integerIn}
 use Rattle.lines.specs.Puts.{TextPut}
 
 is-low : (z : ℤ) → ltZ z (pos 0) ≡ true → z ≡ negsuc (mag z)
@@ -53,11 +53,11 @@ module _ (z : ℤ) (f : SFits w64 z) where
     pub one-more : natAbs (toZ w64 (ofZ w64 (negsuc 0 -ℤ toZ w64 (ofZ w64 z)))) + 1 ≡ natAbs z
     one-more = rw less-one-read (add-one (mag z) ∙ ap natAbs (sym low))
 
-    low-text : integer z ≡ ascii "-" ++ decimal (natAbs (toZ w64 (ofZ w64 z)))
-    unfolding integer ascii
+    low-text : integerIn 10 z ≡ ascii "-" ++ decimal (natAbs (toZ w64 (ofZ w64 z)))
+    unfolding integerIn decimal ascii
     low-text = rw (toZ-ofZ w64 z f, low)
 
-    pub put-low : (s t : List ℕ) (at end size : ℕ) → size ≡ natAbs (toZ w64 (ofZ w64 z)) → TextPut s at (ascii "-" ++ decimal size) t end → TextPut s at (integer z) t end
+    pub put-low : (s t : List ℕ) (at end size : ℕ) → size ≡ natAbs (toZ w64 (ofZ w64 z)) → TextPut s at (ascii "-" ++ decimal size) t end → TextPut s at (integerIn 10 z) t end
     put-low s t at end size e p = rw (low-text, ← e) p
 
   module _ (l : ltZ (toZ w64 (ofZ w64 z)) (pos 0) ≡ false) where
@@ -67,9 +67,9 @@ module _ (z : ℤ) (f : SFits w64 z) where
     pub high-cast : T (nonNeg (toZ w64 (ofZ w64 z))) × Fits w64 (natAbs (toZ w64 (ofZ w64 z)))
     high-cast = rw (toZ-ofZ w64 z f ∙ high) (tt, record { fits = omega (arith, f .sfits) })
 
-    high-text : integer z ≡ decimal (natAbs (toZ w64 (ofZ w64 z)))
-    unfolding integer
+    high-text : integerIn 10 z ≡ decimal (natAbs (toZ w64 (ofZ w64 z)))
+    unfolding integerIn decimal
     high-text = rw (toZ-ofZ w64 z f, high)
 
-    pub put-high : (s t : List ℕ) (at end size : ℕ) → size ≡ natAbs (toZ w64 (ofZ w64 z)) → TextPut s at (decimal size) t end → TextPut s at (integer z) t end
+    pub put-high : (s t : List ℕ) (at end size : ℕ) → size ≡ natAbs (toZ w64 (ofZ w64 z)) → TextPut s at (decimal size) t end → TextPut s at (integerIn 10 z) t end
     put-high s t at end size e p = rw (high-text, ← e) p

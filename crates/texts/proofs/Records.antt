@@ -11,7 +11,7 @@ use mir.Syntax.{w64}
 use mir.Val.{SFits, ofZ, toZ}
 use mir.ValLaws.{toZ-ofZ}
 use Rattle.rules.specs.Choice.{pick}
-use Rattle.rules.specs.Bytes.{part}
+use Rattle.rules.specs.Bytes.{Bytes, leAt, part}
 use Rattle.rules.specs.Wire.{form, widthOf}
 use Rattle.rules.specs.Names.{ascii}
 use Rattle.rules.specs.Refusals.{reportOf}
@@ -19,16 +19,17 @@ use Rattle.rules.specs.Lines.{decimal}
 use Rattle.rules.specs.declared.refusal.Refusal.{Refusal}
 use Rattle.rules.specs.declared.refusal.Report.{Report}
 use Rattle.rules.specs.Query.{signed}
-use Rattle.rules.specs.Listing.{integer, hexNumber, hexBytes, kindWord, numberText, listingLine, refusalLine}
+use Rattle.rules.specs.Numerals.{integerIn}
+use Rattle.rules.specs.Listing.{hexNumber, hexBytes, kindWord, numberText, listingLine, refusalLine}
 use Rattle.rules.specs.declared.table_record.ValueRecord.{ValueRecord}
 use Rattle.query.proofs.Says.{signed-fits}
 use Rattle.lines.specs.Puts.{TextPut}
-use Rattle.texts.specs.Records.{isStored, kept, IsNumber, contentText, lineFront, recordLine}
+use Rattle.texts.specs.Records.{isStored, kept, IsNumber, payloadText, contentText, lineFront, recordLine}
 
 -- ---- the bits of a number
 
 module _ (s t : List ℕ) (at end kind x : ℕ) where
-  pub put-signed : IsNumber kind x → kind < 8 → (w : ℕ) → w ≡ widthOf (form kind) → (z : ℤ) → z ≡ signed w x → TextPut s at (integer (toZ w64 (ofZ w64 z))) t end → TextPut s at (numberText kind x) t end
+  pub put-signed : IsNumber kind x → kind < 8 → (w : ℕ) → w ≡ widthOf (form kind) → (z : ℤ) → z ≡ signed w x → TextPut s at (integerIn 10 (toZ w64 (ofZ w64 z))) t end → TextPut s at (numberText kind x) t end
   unfolding numberText pick
   put-signed n h w f z e p =
       let k : SFits w64 z = rw (e, f) (signed-fits (widthOf (form kind)) x (n .narrow) (n .fits)) in
@@ -42,6 +43,17 @@ module _ (s t : List ℕ) (at end kind x : ℕ) where
   unfolding numberText pick
   put-double h p = rw (le-ltb kind 8 (omega arith), le-ltb kind 12 h) p
 
+-- ---- payload
+
+module _ (s t store : List ℕ) (at end kind from count : ℕ) where
+  pub put-integer-payload : kind < 8 → TextPut s at (integerIn 16 (signed count (leAt store from count))) t end → TextPut s at (payloadText kind store from count) t end
+  unfolding payloadText pick
+  put-integer-payload h p = rw (lt-ltb kind 8 h) p
+
+  pub put-blob-payload : 8 ≤ kind → TextPut s at (hexBytes (part store from count)) t end → TextPut s at (payloadText kind store from count) t end
+  unfolding payloadText pick
+  put-blob-payload h p = rw (le-ltb kind 8 h) p
+
 -- ---- a record's size and content
 
 pub kept-is : (r : ValueRecord) → isStored (r .kind) ≡ true → kept r ≡ r .size
@@ -49,7 +61,7 @@ unfolding kept pick
 kept-is r h = rw h
 
 module _ (s t store : List ℕ) (at end : ℕ) (r : ValueRecord) where
-  pub put-stored : isStored (r .kind) ≡ true → TextPut s at (hexBytes (part store (r .content) (r .size))) t end → TextPut s at (contentText r store) t end
+  pub put-stored : isStored (r .kind) ≡ true → TextPut s at (payloadText (r .kind) store (r .content) (r .size)) t end → TextPut s at (contentText r store) t end
   unfolding contentText pick
   put-stored h p = rw h p
 

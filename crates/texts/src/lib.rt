@@ -4,11 +4,13 @@ ghost use Prim.Native.Nat.{_+_, _*_, _≤_, _<_};
 ghost use mathlib.Core.Path.{_≡_};
 ghost use lib.IntN.{natAbs};
 ghost use lib.ListN.{length};
-ghost use Rattle.rules.specs.Bytes.{part};
-ghost use Rattle.rules.specs.Listing.{integer, hexDigit, hex, hexNumber, hexBytes, numberText, refusalLine};
+ghost use Rattle.rules.specs.Numerals.{integerIn};
+ghost use Rattle.rules.specs.Listing.{numberText, refusalLine};
 ghost use Rattle.lines.specs.Puts.{TextPut};
-ghost use Rattle.texts.specs.Records.{isStored, kept, IsNumber, Told, contentText, lineFront, recordLine};
-use lines::put_decimal;
+ghost use Rattle.texts.specs.Records.{isStored, kept, IsNumber, IsPayload, Told, payloadText, contentText, lineFront, recordLine};
+use hex::integers::put_signed;
+use hex::put_hex_bytes;
+use hex::put_hex_number;
 use lines::put_number;
 use lines::put_text;
 use lines::put_word;
@@ -18,7 +20,7 @@ use rules::ValueRecord;
 use wire::codes::code_width;
 use words::kind_word;
 
-// ---- numbers and bytes
+// ---- numbers
 
 // How far a number is from 0. The lowest has no counterpart above 0, so that one is taken off and put on again.
 fn magnitude(n: i64) -> u64
@@ -33,7 +35,7 @@ fn magnitude(n: i64) -> u64
 // A whole number in decimal.
 fn put_integer(buffer: &mut [u8], at: usize, n: i64) -> usize
     requires { ⌜ at + 21 ≤ length (now buffer) ⌝ }
-    ensures { λ r. ⌜ TextPut (now (buffer .entry)) at (integer n) (now (buffer .exit)) r ⌝ }
+    ensures { λ r. ⌜ TextPut (now (buffer .entry)) at (integerIn 10 n) (now (buffer .exit)) r ⌝ }
     ensures { λ r. ⌜ r ≤ at + 21 ⌝ }
 {
     let size = magnitude(n);
@@ -41,61 +43,6 @@ fn put_integer(buffer: &mut [u8], at: usize, n: i64) -> usize
         return put_number(buffer, at, b"-", size);
     }
     put_number(buffer, at, b"", size)
-}
-
-// A number below 16 as a digit.
-fn hex_digit(d: u8) -> u8
-    requires { ⌜ d < 16 ⌝ }
-    ensures { λ r. ⌜ r ≡ hexDigit d ⌝ }
-{
-    if d < 10 {
-        return 48 + d;
-    }
-    87 + d
-}
-
-// Bytes of a store in hex, as they stand there.
-fn put_hex(buffer: &mut [u8], at: usize, store: &[u8], from: usize, count: usize) -> usize
-    requires { ⌜ (at + 2 * count ≤ length (now buffer)) × (from + count ≤ length (now store)) ⌝ }
-    ensures { λ r. ⌜ TextPut (now (buffer .entry)) at (hex (part (now (store .entry)) from count)) (now (buffer .exit)) r ⌝ }
-    ensures { λ r. ⌜ r ≡ at + 2 * count ⌝ }
-{
-    let mut k = 0;
-    let mut next = at;
-    while k < count {
-        let byte = store[from + k];
-        buffer[next] = hex_digit(byte / 16);
-        buffer[next + 1] = hex_digit(byte % 16);
-        next += 2;
-        k += 1;
-    }
-    next
-}
-
-// The same, and a `-` where there are none.
-fn put_hex_bytes(buffer: &mut [u8], at: usize, store: &[u8], from: usize, count: usize) -> usize
-    requires { ⌜ (at + 1 + 2 * count ≤ length (now buffer)) × (from + count ≤ length (now store)) ⌝ }
-    ensures { λ r. ⌜ TextPut (now (buffer .entry)) at (hexBytes (part (now (store .entry)) from count)) (now (buffer .exit)) r ⌝ }
-    ensures { λ r. ⌜ r ≤ at + 1 + 2 * count ⌝ }
-{
-    if count == 0 {
-        return put_text(buffer, at, b"-");
-    }
-    put_hex(buffer, at, store, from, count)
-}
-
-// A number by so many hex digits: those of a sixteenth of it, and then its last.
-fn put_hex_number(buffer: &mut [u8], at: usize, count: usize, x: u64) -> usize
-    requires { ⌜ at + count ≤ length (now buffer) ⌝ }
-    ensures { λ r. ⌜ TextPut (now (buffer .entry)) at (hexNumber count x) (now (buffer .exit)) r ⌝ }
-    ensures { λ r. ⌜ r ≡ at + count ⌝ }
-{
-    if count == 0 {
-        return at;
-    }
-    let last = put_hex_number(buffer, at, count - 1, x / 16);
-    buffer[last] = hex_digit((x % 16) as u8);
-    last + 1
 }
 
 // ---- a record
@@ -128,6 +75,25 @@ fn put_bits(buffer: &mut [u8], at: usize, kind: u8, bits: u64) -> usize
     put_hex_number(buffer, at, 16, bits)
 }
 
+// What payload says: an int128 or int256 its number, a blob its bytes.
+fn put_payload(
+    buffer: &mut [u8],
+    at: usize,
+    kind: u8,
+    store: &[u8],
+    from: usize,
+    count: usize,
+) -> usize
+    requires { ⌜ (at + (1 + 2 * count) ≤ length (now buffer)) × IsPayload kind from count (length (now store)) ⌝ }
+    ensures { λ r. ⌜ TextPut (now (buffer .entry)) at (payloadText kind (now (store .entry)) from count) (now (buffer .exit)) r ⌝ }
+    ensures { λ r. ⌜ r ≤ at + (1 + 2 * count) ⌝ }
+{
+    if kind < 8 {
+        return put_signed(buffer, at, store, from, count);
+    }
+    put_hex_bytes(buffer, at, store, from, count)
+}
+
 // What a record's size and content say.
 fn put_content(buffer: &mut [u8], at: usize, r: ValueRecord, store: &[u8]) -> usize
     requires { ⌜ (at + (21 + 2 * kept r) ≤ length (now buffer)) × Told r (length (now store)) ⌝ }
@@ -136,7 +102,7 @@ fn put_content(buffer: &mut [u8], at: usize, r: ValueRecord, store: &[u8]) -> us
 {
     let kind = r.kind;
     if is_stored(kind) {
-        return put_hex_bytes(buffer, at, store, r.content as usize, r.size as usize);
+        return put_payload(buffer, at, kind, store, r.content as usize, r.size as usize);
     }
     if 14 < kind {
         return put_number(buffer, at, b"", r.size);

@@ -18,26 +18,17 @@ file-room-requires-3 c κs = search needs
 slice-aggregate-read-file : tie.Need-slice-aggregate-read-file
 slice-aggregate-read-file c = search needs
 
-slice-aggregate-read-file-2 : tie.Need-slice-aggregate-read-file-2
-slice-aggregate-read-file-2 c = search needs
-
 read-file-requires : tie.Need-read-file-requires
 read-file-requires c κs = search needs
 
-slice-aggregate-read-file-3 : tie.Need-slice-aggregate-read-file-3
-slice-aggregate-read-file-3 c = search needs
-
-slice-aggregate-read-file-4 : tie.Need-slice-aggregate-read-file-4
-slice-aggregate-read-file-4 c = search needs
+slice-aggregate-read-file-2 : tie.Need-slice-aggregate-read-file-2
+slice-aggregate-read-file-2 c = search needs
 
 read-file-requires-2 : tie.Need-read-file-requires-2
 read-file-requires-2 c κs = search needs
 
-slice-aggregate-read-file-5 : tie.Need-slice-aggregate-read-file-5
-slice-aggregate-read-file-5 c = search needs
-
-slice-aggregate-read-file-6 : tie.Need-slice-aggregate-read-file-6
-slice-aggregate-read-file-6 c = search needs
+slice-aggregate-read-file-3 : tie.Need-slice-aggregate-read-file-3
+slice-aggregate-read-file-3 c = search needs
 
 read-file-requires-3 : tie.Need-read-file-requires-3
 read-file-requires-3 c κs = search needs
@@ -92,13 +83,10 @@ list-files-spec =
     file-room-requires-2
     file-room-requires-3
     slice-aggregate-read-file
-    slice-aggregate-read-file-2
     read-file-requires
-    slice-aggregate-read-file-3
-    slice-aggregate-read-file-4
+    slice-aggregate-read-file-2
     read-file-requires-2
-    slice-aggregate-read-file-5
-    slice-aggregate-read-file-6
+    slice-aggregate-read-file-3
     read-file-requires-3
     tell-refused-requires
     returns

@@ -7,7 +7,7 @@ use lib.IntN.{ℤ, pos, negsuc, _-ℤ_}
 use mir.Syntax.{w64}
 use mir.Val.{toZ}
 use mir.Facts.{toZ-pos, toZ-neg}
-use Rattle.query.proofs.Says.{signed-low, signed-high}
+use Rattle.rules.proofs.Signed.{signed-low, signed-high}
 use Rattle.query.proofs.signed.Statement.{statement}
 use Rattle.query.proofs.signed.Tie as tie
 

@@ -11,14 +11,14 @@ use Rattle.texts.proofs.put_content.Tie as tie
 is-stored-requires : tie.Need-is-stored-requires
 is-stored-requires c κs = search needs
 
-put-hex-bytes-requires : tie.Need-put-hex-bytes-requires
-put-hex-bytes-requires c κs = let h = sym (c .before .before .is-stored .ensures) ∙ c .before .if1 .taken in (omega (arith, kept-is (c .before .before .before .before .before .args .r) h, c .before .before .before .before .before .pre .0), c .before .before .before .before .before .pre .1 .stored h)
+put-payload-requires : tie.Need-put-payload-requires
+put-payload-requires c κs = let h = sym (c .before .before .is-stored .ensures) ∙ c .before .if1 .taken in (omega (arith, kept-is (c .before .before .before .before .before .args .r) h, c .before .before .before .before .before .pre .0), c .before .before .before .before .before .pre .1 .stored h)
 
 same-length : tie.Need-same-length
 same-length c = search needs
 
 returns : tie.Need-returns
-returns c = let h = sym (c .before .before .before .before .before .is-stored .ensures) ∙ c .before .before .before .before .if1 .taken in (put-stored _ _ _ _ _ _ h (c .before .before .put-hex-bytes .ensures .0), omega (arith, kept-is (c .before .before .before .before .before .before .before .before .args .r) h, c .before .before .put-hex-bytes .ensures .1))
+returns c = let h = sym (c .before .before .before .before .before .is-stored .ensures) ∙ c .before .before .before .before .if1 .taken in (put-stored _ _ _ _ _ _ h (c .before .before .put-payload .ensures .0), omega (arith, kept-is (c .before .before .before .before .before .before .before .before .args .r) h, c .before .before .put-payload .ensures .1))
 
 slice-aggregate-put-number : tie.Need-slice-aggregate-put-number
 slice-aggregate-put-number c = search needs
@@ -71,7 +71,7 @@ put-content-spec =
     tie.close
     (tie.spec
     is-stored-requires
-    put-hex-bytes-requires
+    put-payload-requires
     same-length
     returns
     slice-aggregate-put-number

@@ -1,12 +1,15 @@
+use mathlib.Core.Path.{ap}
 use borrow.Author.Needs.{needs}
+use Rattle.rules.specs.Writing.{Encoded}
+use Rattle.answers.specs.Answers.{answerOfWritten}
 use Rattle.skiff.specs.Calls.{encodeGiven}
-use Rattle.skiff.proofs.Laws.{short-output, room-output}
+use Rattle.skiff.proofs.Laws.{short-slice, room-slice}
 use Rattle.skiff.proofs.writing.skiff1_encode.Statement.{statement}
 use Rattle.skiff.proofs.writing.skiff1_encode.Tie as tie
 
 returns : tie.Need-returns
 unfolding encodeGiven
-returns c = short-output _ _ _ (c .if1 .taken)
+returns c = short-slice _ _ _ _ (c .if1 .taken)
 
 encode-requires : tie.Need-encode-requires
 encode-requires c κs = search needs
@@ -25,7 +28,9 @@ same-length-2 c = search needs
 
 returns-2 : tie.Need-returns-2
 unfolding encodeGiven
-returns-2 c = room-output _ _ _ _ _ _ _ _ (c .before .before .before .before .before .before .before .before .before .if1 .left) (c .before .before .before .answer-of-written .ensures) (c .before .before .before .before .before .before .before .encode .ensures) (c .before .before .give .ensures)
+returns-2 c =
+    let left = c .before .before .before .before .before .before .before .encode .ensures in
+    room-slice answerOfWritten _ _ _ _ _ _ _ _ _ (c .before .before .before .before .before .before .before .before .before .if1 .left) (c .before .before .before .answer-of-written .ensures) (ap (λ (d : Encoded). d .answer) left) (ap (λ (d : Encoded). d .output) left) (c .before .before .give .ensures)
 
 pub skiff1-encode-spec : {M : Type 1} → statement M
 skiff1-encode-spec =

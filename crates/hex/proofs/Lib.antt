@@ -1,0 +1,5 @@
+pub mod Putting
+pub mod Digits
+pub mod Turns
+pub mod Negated
+pub mod Texts
