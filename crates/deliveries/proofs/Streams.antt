@@ -18,9 +18,10 @@ use Rattle.windows.specs.Bounds.{Laid}
 use Rattle.windows.specs.Steps.{Stream}
 use Rattle.windows.specs.declared.space.Ends.{Ends}
 use Rattle.windows.proofs.Streams.{filled, more, more-bytes, longer, stream-kept, stream-long}
-use Rattle.deliveries.specs.Outcomes.{outcomeOf, Answers, read, long}
-use Rattle.deliveries.specs.declared.outcome.Outcome.{Outcome}
-use Rattle.deliveries.specs.declared.outcome.Outcome.the-variants.{Told}
+use Rattle.reads.specs.Outcomes.{outcomeOf}
+use Rattle.reads.specs.declared.Outcome.{Outcome}
+use Rattle.reads.specs.declared.Outcome.the-variants.{Told}
+use Rattle.deliveries.specs.Outcomes.{Answers, read, long}
 
 module _ (f : Format) (set : Settings) {ends : Ends} {end n : ℕ} (s : List ℕ) (ran : Ran) (last : ℤ) (o : Outcome) (t : Stream f set ends s end ran n) where
   -- the window is full

@@ -1,12 +1,10 @@
--- What is told of a file, by the numbers that reads answer.
+-- What is told of a stream that is read in windows.
 -- Assumes nothing: these are definitions.
-use Prim.Native.Nat.{ℕ, zero, suc, _<_}
-use mathlib.Core.Bool.{Bool}
+use Prim.Native.Nat.{ℕ, _<_}
 use mathlib.Core.List.{List}
-use lib.IntN.{ℤ, pos, negsuc}
+use lib.IntN.{ℤ}
 use lib.ListN.{length}
 use lib.Dec.{eqb}
-use Rattle.rules.specs.Choice.{pick}
 use Rattle.rules.specs.Bytes.{Bytes}
 use Rattle.rules.specs.Format.{Format}
 use Rattle.rules.specs.Reading.{runRule, ranOf}
@@ -14,28 +12,9 @@ use Rattle.rules.specs.declared.answer.Ran.{Ran}
 use Rattle.rules.specs.declared.settings.Settings.{Settings}
 use Rattle.windows.specs.Steps.{Stream}
 use Rattle.windows.specs.declared.space.Ends.{Ends}
-use Rattle.deliveries.specs.declared.outcome.Outcome.{Outcome}
-use Rattle.deliveries.specs.declared.outcome.Outcome.the-variants.{Told, NoRoom, Unreadable}
-use Rattle.deliveries.specs.declared.outcome.TableRead.{TableRead}
-use Rattle.deliveries.specs.declared.outcome.TableRead.the-variants.{Whole, TooLong, Unreadable as Failed}
-
--- At the end of the file a read of one byte answers 0, and the run is told. Where the byte comes, a window that is full has no room for the
--- row, and a window that is not full was left so by a read that failed. Any other answer is a failed read.
-unfoldable pub outcomeOf : ℤ → Ran → Bool → Outcome
-outcomeOf (pos zero) ran full = Told ran
-outcomeOf (pos (suc zero)) ran full = pick full (NoRoom (ran .bytes)) Unreadable
-outcomeOf (pos (suc (suc n))) ran full = Unreadable
-outcomeOf (negsuc n) ran full = Unreadable
-
--- a table is whole where one more read answers 0
-unfoldable pub wholeAt : ℤ → TableRead
-wholeAt (pos zero) = Whole
-wholeAt (pos (suc n)) = Failed
-wholeAt (negsuc n) = Failed
-
--- and has to leave some of the space
-unfoldable pub tableRead : ℕ → ℕ → ℤ → TableRead
-tableRead end space last = pick (eqb end space) TooLong (wholeAt last)
+use Rattle.reads.specs.Outcomes.{outcomeOf}
+use Rattle.reads.specs.declared.Outcome.{Outcome}
+use Rattle.reads.specs.declared.Outcome.the-variants.{Told}
 
 -- What is told of a stream under a format and settings, where `space` is what the space holds afterwards. Some bytes were read, and the
 -- run over them is told as the last read has it; the bytes after the run's rows, where the run may go on over them, stand in the window. Or

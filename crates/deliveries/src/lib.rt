@@ -1,16 +1,15 @@
 // What the programs for deliveries share: the four tables and the stream are the files that five arguments name. One line goes to
 // standard output: the rows and bytes that were accepted, and the refusal that ended the run, if one did. What is wrong with a file
 // goes to standard error.
-mod outcome;
 mod reading;
 mod telling;
 
 use failures::Failure;
-use outcome::Outcome;
-use outcome::TableRead;
-use outcome::table_read;
 use reading::read_one_more;
 use reading::run_stream;
+use reads::Outcome;
+use reads::TableRead;
+use reads::table_read;
 use rules::Settings;
 use telling::tell_failure;
 use telling::tell_run;

@@ -1,8 +1,8 @@
 -- The cases of the number.
 -- Assumes nothing.
-use Rattle.deliveries.proofs.Outcomes.{table-long, table-whole, table-failed}
-use Rattle.deliveries.proofs.outcome.table_read.Statement.{statement}
-use Rattle.deliveries.proofs.outcome.table_read.Tie as tie
+use Rattle.reads.proofs.Outcomes.{table-long, table-whole, table-failed}
+use Rattle.reads.proofs.table_read.Statement.{statement}
+use Rattle.reads.proofs.table_read.Tie as tie
 
 returns : tie.Need-returns
 returns c = table-long _ _ _ (c .if1 .taken)

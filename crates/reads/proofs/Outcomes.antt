@@ -10,9 +10,9 @@ use mir.ValLaws.{toZ-ofZ}
 use lib.IntN.{ℤ, pos, negsuc}
 use Rattle.rules.specs.Choice.{pick}
 use Rattle.rules.specs.declared.answer.Ran.{Ran}
-use Rattle.deliveries.specs.Outcomes.{outcomeOf, wholeAt, tableRead}
-use Rattle.deliveries.specs.declared.outcome.Outcome.the-variants.{Told, NoRoom, Unreadable}
-use Rattle.deliveries.specs.declared.outcome.TableRead.the-variants.{Whole, TooLong, Unreadable as Failed}
+use Rattle.reads.specs.Outcomes.{outcomeOf, wholeAt, tableRead}
+use Rattle.reads.specs.declared.Outcome.the-variants.{Told, NoRoom, Unreadable}
+use Rattle.reads.specs.declared.TableRead.the-variants.{Whole, TooLong, Unreadable as Failed}
 
 module _ (z : ℤ) where
   -- the number whose bits these are

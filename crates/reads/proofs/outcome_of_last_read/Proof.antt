@@ -1,8 +1,8 @@
 -- The cases of the number.
 -- Assumes nothing.
-use Rattle.deliveries.proofs.Outcomes.{told, no-room, left-short, failed}
-use Rattle.deliveries.proofs.outcome.outcome_of_last_read.Statement.{statement}
-use Rattle.deliveries.proofs.outcome.outcome_of_last_read.Tie as tie
+use Rattle.reads.proofs.Outcomes.{told, no-room, left-short, failed}
+use Rattle.reads.proofs.outcome_of_last_read.Statement.{statement}
+use Rattle.reads.proofs.outcome_of_last_read.Tie as tie
 
 returns : tie.Need-returns
 returns c = told _ _ _ (c .before .fits .last) (c .if1 .taken)

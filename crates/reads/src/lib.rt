@@ -1,6 +1,6 @@
 // What is decided from the numbers that reads answer: the end of a file is a read of no bytes, and a failed read is none.
 ghost use mathlib.Core.Path.{_≡_};
-ghost use Rattle.deliveries.specs.Outcomes.{outcomeOf, tableRead};
+ghost use Rattle.reads.specs.Outcomes.{outcomeOf, tableRead};
 use rules::Ran;
 
 // How the run over a file comes out: with an answer, with a row at a position that does not end in the window, or with a failed read.
