@@ -6,15 +6,14 @@ use mathlib.Core.Bool.{Bool, true, false}
 use mathlib.Core.List.{List, [], _∷_, _++_}
 use native.Mathlib.Omega.{arith}
 use native.Mathlib.Numerals.{add-one}
-use native.Mathlib.Nat.{mod-lt, div-one, div-div-eq-div-mul, pow-suc, pow-succ', one-le-pow, div-lt-iff-lt-mul, le-div-iff-mul-le}
-use borrow.Author.Tests.{lt-ltb, le-ltb, ltb-true, ltb-false, eq-eqb, ne-eqb, eqb-true, eqb-false}
+use native.Mathlib.Nat.{div-one, div-div-eq-div-mul, pow-suc, pow-succ', one-le-pow, div-lt-iff-lt-mul, le-div-iff-mul-le}
+use borrow.Author.Tests.{ltb-true, ltb-false, eqb-true, eqb-false}
 use lib.Dec.{ltb, eqb}
-use lib.ListN.{length, getD, length-append}
+use lib.ListN.{length, getD}
 use Rattle.rules.specs.Choice.{pick}
 use Rattle.rules.specs.Bytes.{Bytes, leAt}
 use Rattle.rules.specs.Numerals.{digit, numeral}
 use Rattle.rules.specs.Listing.{hexNumber}
-use Rattle.rules.proofs.Stands.{leAt-lt}
 use Rattle.text_laws.proofs.Numerals.{numeral-small, numeral-more, small-length, more-length}
 use Rattle.hex.specs.Digits.{digitOf, digitAt}
 

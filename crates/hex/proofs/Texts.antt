@@ -1,24 +1,23 @@
 -- The text of an integer, by its sign.
 -- Assumes nothing.
 use Prim.Native.Nat.{ℕ, suc, _+_, _-_, _*_, _^_, _≤_, _<_}
-use mathlib.Core.Path.{_≡_, refl, sym, ap, _∙_}
+use mathlib.Core.Path.{_≡_, refl, sym, _∙_}
 use mathlib.Core.Bool.{Bool, true, false}
-use mathlib.Core.List.{List, [], _∷_, _++_}
+use mathlib.Core.List.{List, [], _∷_}
 use native.Mathlib.Omega.{arith}
 use borrow.Author.Tests.{lt-ltb, le-ltb, le-leb, lt-leb, leb-true, leb-false}
 use lib.Dec.{leb}
-use lib.IntN.{ℤ, pos, negsuc}
+use lib.IntN.{ℤ}
 use lib.ListN.{length, drop, replicate}
 use Rattle.rules.specs.Choice.{pick, _and_}
-use Rattle.rules.specs.Bytes.{Bytes, Stands, le, leAt, over}
+use Rattle.rules.specs.Bytes.{Bytes, le, leAt, over}
 use Rattle.rules.specs.Query.{signed}
 use Rattle.rules.specs.Reading.{room}
-use Rattle.rules.specs.Numerals.{numeral, integerIn, TextLeft, textInto, integerWidthOk, signedBytes, integerText, integerTextRule}
+use Rattle.rules.specs.Numerals.{numeral, integerIn, textInto, integerWidthOk, integerText, integerTextRule}
 use Rattle.rules.specs.Refusals.{Setting, NoOutputRoom}
-use Rattle.rules.specs.declared.answer.TextWritten.{TextWritten}
 use Rattle.rules.specs.declared.answer.TextWritten.the-variants.{Text, Refused}
 use Rattle.rules.proofs.Stands.{length-le, leAt-lt, stands-le, stands-seam}
-use Rattle.rules.proofs.Over.{length-over, over-is}
+use Rattle.rules.proofs.Over.{over-is}
 use Rattle.rules.proofs.Signed.{signed-is}
 use Rattle.lines.specs.Puts.{TextPut}
 use Rattle.lines.proofs.Putting.{put-both}

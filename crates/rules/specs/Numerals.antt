@@ -3,7 +3,7 @@
 -- Assumes nothing: these are definitions.
 use Prim.Native.Nat.{ℕ, zero, suc, _+_, _/_, _%_}
 use mathlib.Core.Bool.{Bool, true, false}
-use mathlib.Core.List.{List, [], _∷_, _++_, map}
+use mathlib.Core.List.{List, [], _∷_, _++_}
 use lib.IntN.{ℤ, pos, negsuc}
 use lib.ListN.{length, replicate}
 use lib.Dec.{ltb, leb}
@@ -13,7 +13,6 @@ use Rattle.rules.specs.Names.{ascii}
 use Rattle.rules.specs.Refusals.{Setting, NoOutputRoom}
 use Rattle.rules.specs.Query.{signed}
 use Rattle.rules.specs.Reading.{room}
-use Rattle.rules.specs.declared.refusal.Refusal.{Refusal}
 use Rattle.rules.specs.declared.answer.TextWritten.{TextWritten}
 use Rattle.rules.specs.declared.answer.TextWritten.the-variants.{Text, Refused}
 

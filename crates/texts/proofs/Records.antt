@@ -1,8 +1,8 @@
 -- What is told of a record, by its kind.
 -- Assumes nothing.
-use Prim.Native.Nat.{ℕ, _+_, _*_, _^_, _≤_, _<_}
-use mathlib.Core.Path.{_≡_, refl, ap, _∙_}
-use mathlib.Core.Bool.{Bool, true, false}
+use Prim.Native.Nat.{ℕ, _+_, _≤_, _<_}
+use mathlib.Core.Path.{_≡_}
+use mathlib.Core.Bool.{true, false}
 use mathlib.Core.List.{List, [], _∷_, _++_, append-assoc}
 use native.Mathlib.Omega.{arith}
 use borrow.Author.Tests.{lt-ltb, le-ltb, eq-eqb, ne-eqb}
@@ -11,7 +11,7 @@ use mir.Syntax.{w64}
 use mir.Val.{SFits, ofZ, toZ}
 use mir.ValLaws.{toZ-ofZ}
 use Rattle.rules.specs.Choice.{pick}
-use Rattle.rules.specs.Bytes.{Bytes, leAt, part}
+use Rattle.rules.specs.Bytes.{leAt, part}
 use Rattle.rules.specs.Wire.{form, widthOf}
 use Rattle.rules.specs.Names.{ascii}
 use Rattle.rules.specs.Refusals.{reportOf}

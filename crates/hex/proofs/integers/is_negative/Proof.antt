@@ -1,6 +1,5 @@
 -- The highest bit is the highest byte's.
 -- Assumes nothing.
-use Prim.Native.Nat.{_<_}
 use native.Mathlib.Omega.{arith}
 use borrow.Author.Needs.{needs}
 use Rattle.hex.proofs.Negated.{top-bit}

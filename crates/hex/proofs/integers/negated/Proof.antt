@@ -1,10 +1,9 @@
 -- What is left to write, over what is written, is the whole.
 -- Assumes nothing.
 use Prim.Native.Nat.{_-_}
-use mathlib.Core.Path.{_∙_, ap}
+use mathlib.Core.Path.{_∙_}
 use native.Mathlib.Omega.{arith}
 use borrow.Author.Needs.{needs}
-use lib.ListN.{length}
 use Rattle.hex.proofs.Negated.{Negates, negates-first, negates-turn, negates-end}
 use Rattle.hex.proofs.integers.negated.Statement.{statement}
 use Rattle.hex.proofs.integers.negated.Tie as tie
