@@ -2,7 +2,8 @@
 
 use std::fmt;
 
-use crate::{Value, ValueRef, Values, Variant, VariantRef, Variants};
+use crate::sys::INTEGER_TEXT_BYTES;
+use crate::{integer_text, Value, ValueRef, Values, Variant, VariantRef, Variants};
 
 /// Bytes as text where they are UTF-8, else as an escaped byte string.
 struct Text<'a>(&'a [u8]);
@@ -32,6 +33,12 @@ fn hex(bytes: &[u8], out: &mut fmt::Formatter<'_>) -> fmt::Result {
         return out.write_str("-");
     }
     bytes.iter().try_for_each(|byte| write!(out, "{byte:02x}"))
+}
+
+/// An int128 or int256 as the library has it.
+fn integer(bytes: &[u8], out: &mut fmt::Formatter<'_>) -> fmt::Result {
+    let mut text = [0; INTEGER_TEXT_BYTES];
+    out.write_str(integer_text(bytes, &mut text).expect("there is room for the widest"))
 }
 
 macro_rules! questions {
@@ -146,8 +153,8 @@ macro_rules! questions {
                     Self::Int16(number) => write!(out, "{number}"),
                     Self::Int32(number) => write!(out, "{number}"),
                     Self::Int64(number) => write!(out, "{number}"),
-                    Self::Int128(number) => hex(&number.to_le_bytes(), out),
-                    Self::Int256(bytes) => hex(&bytes[..], out),
+                    Self::Int128(number) => integer(&number.to_le_bytes(), out),
+                    Self::Int256(bytes) => integer(&bytes[..], out),
                     Self::Uint8(number) => write!(out, "{number}"),
                     Self::Uint16(number) => write!(out, "{number}"),
                     Self::Uint32(number) => write!(out, "{number}"),
