@@ -42,6 +42,14 @@ fn the_ends_of_an_int256() {
     assert_eq!(Value::Int256([0x80; 32]).to_string(), format!("-{}80", "7f".repeat(31)));
 }
 
+/// Where numbers are in decimal, as an int128 is there, an int256 says that it is not.
+#[test]
+fn in_words() {
+    let words = |number: i128| format!("{:?} {:?}", Value::Int128(number), Value::Int256(widened(number)));
+    assert_eq!(words(-128), "Int128(-128) Int256(-0x80)");
+    assert_eq!(words(0), "Int128(0) Int256(0x0)");
+}
+
 #[test]
 fn every_width_has_a_text() {
     let mut text = [0; INTEGER_TEXT_BYTES];

@@ -2,6 +2,7 @@
 
 use crate::answer::Refusal;
 use crate::integer::{text_of, write_text};
+use crate::report::Report;
 
 #[test]
 fn document_02() {
@@ -46,6 +47,7 @@ fn room_and_widths() {
     let mut text = *b"......";
     assert_eq!(write_text(&bytes, &mut text), Ok(4));
     assert_eq!(&text, b"-abc..");
+    assert_eq!(Report::of_text(&Ok(4)).numbers(), [0, 0, 0, 0, 0, 0, 0, 4, 0, 0, 0]);
     for room in 0..4 {
         let mut text = vec![b'.'; room];
         assert_eq!(write_text(&bytes, &mut text), Err(Refusal::at(21, 0, [4, 0, 0])));
