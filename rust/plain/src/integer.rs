@@ -13,11 +13,11 @@ pub fn text_of(bytes: &[u8]) -> String {
     let is_negative = bytes.last().is_some_and(|top| *top >= 128);
     let mut left = if is_negative { missing_to_the_power(bytes) } else { bytes.to_vec() };
     let mut digits = vec![take_a_digit(&mut left)];
-    while left.iter().any(|byte| *byte != 0) {
+    while !left.is_empty() {
         digits.push(take_a_digit(&mut left));
     }
     let sign = if is_negative { "-" } else { "" };
-    let digits: String = digits.iter().rev().map(|digit| format!("{digit:x}")).collect();
+    let digits: String = digits.iter().rev().collect();
     format!("{sign}{digits}")
 }
 
@@ -34,15 +34,19 @@ fn missing_to_the_power(bytes: &[u8]) -> Vec<u8> {
     rest
 }
 
-/// Divides an unsigned number, the lowest byte first, by 16, and gives what is left over: long division.
-fn take_a_digit(number: &mut [u8]) -> u16 {
+/// Divides an unsigned number, the lowest byte first, by 16, and gives what is left over as a digit: long division.
+/// Zeros at the top are dropped, so that no byte is left of 0.
+fn take_a_digit(number: &mut Vec<u8>) -> char {
     let mut rest = 0;
     for byte in number.iter_mut().rev() {
-        let part = 256 * rest + u16::from(*byte);
+        let part = 256 * rest + u32::from(*byte);
         *byte = (part / 16) as u8;
         rest = part % 16;
     }
-    rest
+    while number.last() == Some(&0) {
+        number.pop();
+    }
+    char::from_digit(rest, 16).expect("it is below 16")
 }
 
 /// As a call: the text at the start of a slice, and how many bytes it has.

@@ -34,8 +34,8 @@ impl IntegerCase {
         self.room.of(if has_text { text_of(&self.bytes).len() } else { INTEGER_TEXT_BYTES })
     }
 
-    /// The text slice before the call.
-    fn no_text(&self) -> Vec<u8> {
+    /// What the text slice holds before the call.
+    fn lent(&self) -> Vec<u8> {
         filled(0, self.text_bytes())
     }
 }
@@ -54,17 +54,17 @@ impl Left {
 }
 
 /// The plain reading's report, and what it would leave. Without room for its answer a call leaves both slices.
-fn plainly(case: &IntegerCase) -> (Report, Left) {
-    let mut text = case.no_text();
+fn plainly(case: &IntegerCase, lent: &[u8]) -> (Report, Left) {
+    let mut text = lent.to_vec();
     let report = Report::of_text(&write_text(&case.bytes, &mut text));
-    let text = if case.answer < REPORT_BYTES { case.no_text() } else { text };
+    let text = if case.answer < REPORT_BYTES { lent.to_vec() } else { text };
     (report, Left { reply: Reply::expected(&report, case.answer), text })
 }
 
-/// What the library leaves, given these bytes, which are the case's.
-fn by_the_library(case: &IntegerCase, bytes: &[u8], turn: &Turn) -> Left {
-    let mut text = turn.hold(&case.no_text());
-    let reply = Reply::of(case.answer, turn.place(), |answer| sys::integer_text(bytes, &mut text, answer));
+/// What the library leaves in an answer slice of so many bytes and in a text slice.
+fn by_the_library(bytes: &[u8], lent: &[u8], answer: usize, turn: &Turn) -> Left {
+    let mut text = turn.hold(lent);
+    let reply = Reply::of(answer, turn.place(), |answer| sys::integer_text(bytes, &mut text, answer));
     Left { reply, text: text.to_vec() }
 }
 
@@ -79,9 +79,9 @@ fn same(got: &Left, wanted: &Left) -> Result<(), String> {
 fn verdict(case: &IntegerCase, number: u64) -> Result<Report, String> {
     trap::while_asked(&|| describe(case), || {
         let turn = Turn::new(number);
-        let held = turn.hold(&case.bytes);
-        let (report, wanted) = plainly(case);
-        same(&by_the_library(case, &held, &turn), &wanted)?;
+        let (held, lent) = (turn.hold(&case.bytes), case.lent());
+        let (report, wanted) = plainly(case, &lent);
+        same(&by_the_library(&held, &lent, case.answer, &turn), &wanted)?;
         if *held != *case.bytes {
             return Err("the call writes to the slice that it was to read".to_owned());
         }

@@ -11,14 +11,16 @@ use crate::trap;
 struct Question {
     case: IntegerCase,
     bytes: ReadOnly,
+    lent: Vec<u8>,
     wanted: Left,
 }
 
 impl Question {
     fn new(case: IntegerCase, number: u64) -> Self {
         let bytes = ReadOnly::new(&case.bytes, Turn::new(number).place());
-        let (_, wanted) = plainly(&case);
-        Self { case, bytes, wanted }
+        let lent = case.lent();
+        let (_, wanted) = plainly(&case, &lent);
+        Self { case, bytes, lent, wanted }
     }
 }
 
@@ -26,9 +28,10 @@ impl Question {
 pub fn check() -> Result<u64, String> {
     let cases = edges(16).into_iter().zip(0..).flat_map(|(bytes, number)| calls(bytes, number));
     let questions: Vec<Question> = cases.zip(0..).map(|(case, number)| Question::new(case, number)).collect();
-    by_two_threads(&questions, |Question { case, bytes, wanted }, number| {
+    by_two_threads(&questions, |Question { case, bytes, lent, wanted }, number| {
         let told = || describe(case);
-        let ask = || same(&by_the_library(case, bytes, &Turn::new(number)), wanted).map(|()| 1);
-        trap::while_asked(&told, ask).map_err(|why| format!("{why}\n{}", told()))
+        let asked = || by_the_library(bytes, lent, case.answer, &Turn::new(number));
+        same(&trap::while_asked(&told, asked), wanted).map_err(|why| format!("{why}\n{}", told()))?;
+        Ok(1)
     })
 }
