@@ -32,7 +32,8 @@ static void short_answer(const char *call, uint32_t said)
 
 int main(void)
 {
-    const uint8_t int8[4] = {'i', 'n', 't', '8'}, minus_255[2] = {0x01, 0xff};
+    const uint8_t int8[4] = {'i', 'n', 't', '8'};
+    const uint8_t minus_255[2] = {0x01, 0xff};
     uint8_t text[SKIFF_INTEGER_TEXT_BYTES];
     memset(answer, 255, sizeof answer);
 

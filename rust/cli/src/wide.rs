@@ -63,11 +63,10 @@ mod tests {
 
     #[test]
     fn a_number_that_has_no_room() {
-        let (eighty, seventy) = (format!("8{}", "0".repeat(31)), format!("7{}", "f".repeat(31)));
-        assert_eq!(from_hex::<16>(&seventy), Some(i128::MAX.to_le_bytes()));
-        assert_eq!(from_hex::<16>(&format!("-{eighty}")), Some(i128::MIN.to_le_bytes()));
-        for bad in
-            [&eighty, &format!("-{}1", &eighty[..31]), &format!("1{}", "0".repeat(32)), &"f".repeat(33)]
+        let (above, highest) = (format!("8{}", "0".repeat(31)), format!("7{}", "f".repeat(31)));
+        assert_eq!(from_hex::<16>(&highest), Some(i128::MAX.to_le_bytes()));
+        assert_eq!(from_hex::<16>(&format!("-{above}")), Some(i128::MIN.to_le_bytes()));
+        for bad in [&above, &format!("-{}1", &above[..31]), &format!("1{}", "0".repeat(32)), &"f".repeat(33)]
         {
             assert_eq!(from_hex::<16>(bad), None, "{bad}");
             assert!(from_hex::<32>(bad).is_some(), "{bad}");
