@@ -5,7 +5,8 @@
  * Link target/staticlib/libskiff.a, which `rt staticlib skiff` writes; it is for x86-64 and needs no
  * other library. The functions keep nothing between calls, allocate nothing and write to nothing but
  * the answer slice and, in skiff_decode and skiff_decode_indexed, the two slices for a row, in skiff_encode
- * the output, in skiff_build_index and skiff_extend_index the index, so any number of threads may call them.
+ * the output, in skiff_build_index and skiff_extend_index the index, in skiff_integer_text the text, so any
+ * number of threads may call them.
  *
  * A slice is a pointer and a length. The pointer leads to so many bytes; where the length is 0 it is not
  * followed and may be null. The length is below 2^63. A slice that is written overlaps none of the others.
@@ -56,7 +57,7 @@ enum skiff_refusal {
     SKIFF_BAD_VALUE_TABLE = 18,
     SKIFF_NO_NODE_ROOM = 19,                   /* carries needed: records */
     SKIFF_NO_PAYLOAD_ROOM = 20,                /* carries needed: payload bytes */
-    SKIFF_NO_OUTPUT_ROOM = 21,                 /* carries needed: output bytes */
+    SKIFF_NO_OUTPUT_ROOM = 21,                 /* carries needed: output bytes, or a text's */
     SKIFF_NO_INDEX_ROOM = 30,                  /* more rows than an index slice has room for */
     SKIFF_INDEX_MISMATCH = 31,                 /* an index, or a record of it, is not the stream's */
     SKIFF_NO_SUCH_ROW = 32                     /* the index has no record of that number */
@@ -90,6 +91,7 @@ enum skiff_answer {
     SKIFF_ANSWER_CARRIED = 3,   /* three numbers that the refusal carries, in the order above; else 0 */
     SKIFF_ANSWER_ROWS = 6,      /* 1 for an accepted row; the accepted rows of a run */
     SKIFF_ANSWER_ROW_BYTES = 7, /* bytes of the row; of all accepted rows of a run */
+    SKIFF_ANSWER_TEXT_BYTES = 7, /* of skiff_integer_text, bytes of the text */
     SKIFF_ANSWER_TABLE = 8,     /* the row's table, and below how much skiff_decode makes of it, or
                                    skiff_encode was given: */
     SKIFF_ANSWER_RECORDS = 9,   /* value records, of SKIFF_VALUE_RECORD_BYTES each, */
@@ -105,7 +107,8 @@ enum skiff_answer {
 enum skiff_what {
     SKIFF_WHAT_ROW = 0,     /* a row was skipped, decoded or written; or a format, a schema or a value
                                table was accepted, and then all other numbers are 0 too; or a name is
-                               that of a wire type; or a record has a value, or what else was asked of it */
+                               that of a wire type; or a record has a value, or what else was asked of it;
+                               or an integer has its text */
     SKIFF_WHAT_END = 1,     /* the position is the input's length, or the run came to it */
     SKIFF_WHAT_REFUSAL = 2, /* refused; a run then has the rows and bytes before, and all of them where the
                                index alone was refused */
@@ -419,6 +422,22 @@ static inline uint32_t skiff_after(const uint8_t *value_records, size_t value_re
  */
 static inline uint32_t skiff_field(const uint8_t *value_records, size_t value_records_len, uint64_t record,
                                    uint64_t field, uint8_t *answer, size_t answer_len);
+
+/*
+ * The text of an integer in two's complement, the lowest byte first, as the payload has an int128 and an int256:
+ * a minus sign where it is negative, then the magnitude in lower hex, the most significant digit first, without
+ * leading zeros; zero is "0". It stands at the start of `text`, without a zero byte behind it, and
+ * SKIFF_ANSWER_TEXT_BYTES says how long it is; what comes after it stays. Refused, it has written nothing to
+ * `text`: SKIFF_SETTING where `bytes` are none or more than SKIFF_INTEGER_BYTES; then SKIFF_NO_OUTPUT_ROOM, which
+ * carries the text's bytes. Of `text` only the first 4,294,967,295 bytes count; SKIFF_INTEGER_TEXT_BYTES are
+ * enough for every integer.
+ */
+#define SKIFF_INTEGER_BYTES 32
+#define SKIFF_INTEGER_TEXT_BYTES 65
+
+static inline uint32_t skiff_integer_text(const uint8_t *bytes, size_t bytes_len,
+                                          uint8_t *text, size_t text_len,
+                                          uint8_t *answer, size_t answer_len);
 
 /*
  * Whether the four tables are a format. The calls that read a stream check it by themselves at every call,

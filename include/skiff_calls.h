@@ -192,6 +192,14 @@ static inline uint32_t skiff_check_value_table(const uint8_t *value_records, siz
     return skiff1_check_value_table(SKIFF_READ(value_records), SKIFF_READ(payload), SKIFF_WRITTEN(answer));
 }
 
+uint32_t skiff1_integer_text(const uint8_t *, size_t, uint8_t *, size_t, uint8_t *, size_t);
+
+static inline uint32_t skiff_integer_text(const uint8_t *bytes, size_t bytes_len, uint8_t *text,
+                                          size_t text_len, uint8_t *answer, size_t answer_len)
+{
+    return skiff1_integer_text(SKIFF_READ(bytes), SKIFF_WRITTEN(text), SKIFF_WRITTEN(answer));
+}
+
 uint32_t skiff1_check_format(const uint8_t *, size_t, const uint8_t *, size_t, const uint8_t *, size_t,
                              const uint8_t *, size_t, uint8_t *, size_t);
 

@@ -33,6 +33,8 @@ static void short_answer(const char *call, uint32_t said)
 int main(void)
 {
     const uint8_t int8[4] = {'i', 'n', 't', '8'};
+    const uint8_t minus_255[2] = {0x01, 0xff};
+    uint8_t text[SKIFF_INTEGER_TEXT_BYTES];
     memset(answer, 255, sizeof answer);
 
     /* No tables are a format without tables; an empty block is no schema, an empty value table no value. */
@@ -54,6 +56,9 @@ int main(void)
          SKIFF_WHAT_REFUSAL);
     says("skiff_check_value_table", skiff_check_value_table(NONE, NONE, ANSWER), SKIFF_BAD_VALUE_TABLE,
          SKIFF_WHAT_REFUSAL);
+    says("skiff_integer_text", skiff_integer_text(NONE, NONE, ANSWER), SKIFF_SETTING, SKIFF_WHAT_REFUSAL);
+    says("skiff_integer_text, two bytes", skiff_integer_text(minus_255, sizeof minus_255, NONE, ANSWER),
+         SKIFF_NO_OUTPUT_ROOM, SKIFF_WHAT_REFUSAL);
     says("skiff_check_format", skiff_check_format(FORMAT, ANSWER), SKIFF_EMPTY_TABLE_SCHEMAS, SKIFF_WHAT_REFUSAL);
     says("skiff_check_encoder_schema", skiff_check_encoder_schema(NONE, NONE, 0, 0, ANSWER), SKIFF_BAD_SCHEMA_TABLE,
          SKIFF_WHAT_REFUSAL);
@@ -75,6 +80,7 @@ int main(void)
     short_answer("skiff_decode_indexed", skiff_decode_indexed(SETTINGS, FORMAT, NONE, NONE, 0, NONE, NONE, NONE));
     short_answer("skiff_encode", skiff_encode(SETTINGS, NONE, NONE, 0, 0, NONE, NONE, NONE, 0, NONE));
     short_answer("skiff_check_value_table", skiff_check_value_table(NONE, NONE, NONE));
+    short_answer("skiff_integer_text", skiff_integer_text(NONE, NONE, NONE));
     short_answer("skiff_check_format", skiff_check_format(FORMAT, NONE));
     short_answer("skiff_check_encoder_schema", skiff_check_encoder_schema(NONE, NONE, 0, 0, NONE));
     short_answer("skiff_parse", skiff_parse(NONE, NONE));
@@ -88,5 +94,10 @@ int main(void)
     skiff_parse(int8, sizeof int8, ANSWER);
     printf("int8 is %u\n", (unsigned)answer[SKIFF_ANSWER_TYPE]);
     wrong += answer[SKIFF_ANSWER_WHAT] != SKIFF_WHAT_ROW || answer[SKIFF_ANSWER_TYPE] != SKIFF_KIND_INT8;
+
+    skiff_integer_text(minus_255, sizeof minus_255, text, sizeof text, ANSWER);
+    const int right = answer[SKIFF_ANSWER_TEXT_BYTES] == 3 && memcmp(text, "-ff", 3) == 0;
+    printf("01 ff is %s\n", right ? "-ff" : "WRONG");
+    wrong += !right;
     return wrong != 0;
 }

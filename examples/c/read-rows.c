@@ -1,5 +1,6 @@
 /* read-rows FOLDER: decodes the rows of a delivery and prints a line for each value: the row, the depth, the tag
- * by which a variant or a repeated parent chose it, and the value. Ends as count-rows does. */
+ * by which a variant or a repeated parent chose it, and the value, an int128 or int256 in hex. Ends as count-rows
+ * does. */
 
 #include <inttypes.h>
 #include <stdio.h>

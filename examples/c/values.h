@@ -23,7 +23,17 @@ static void make_room(struct slice *slice, uint64_t length)
     slice->length = (size_t)length;
 }
 
-static void print_value(const uint64_t *answer, const struct slice *payload)
+/* An int128 or int256: the library has the text, since C has no such number. */
+static void print_integer(const uint8_t *bytes, size_t length)
+{
+    uint64_t answer[SKIFF_ANSWER_NUMBERS];
+    uint8_t text[SKIFF_INTEGER_TEXT_BYTES];
+    if (skiff_integer_text(bytes, length, text, sizeof text, (uint8_t *)answer, sizeof answer) != SKIFF_NO_REFUSAL)
+        stop("an integer that is none", "skiff_decode");
+    printf("%.*s", (int)answer[SKIFF_ANSWER_TEXT_BYTES], (const char *)text);
+}
+
+static void print_value(uint8_t kind, const uint64_t *answer, const struct slice *payload)
 {
     const uint64_t value = answer[SKIFF_ANSWER_VALUE];
     double number;
@@ -44,6 +54,10 @@ static void print_value(const uint64_t *answer, const struct slice *payload)
         printf("%.17g", number);
         break;
     case SKIFF_CASE_PAYLOAD:
+        if (kind == SKIFF_KIND_INT128 || kind == SKIFF_KIND_INT256) {
+            print_integer(payload->bytes + value, (size_t)answer[SKIFF_ANSWER_LENGTH]);
+            break;
+        }
         for (i = 0; i < answer[SKIFF_ANSWER_LENGTH]; i++)
             printf("%02x", payload->bytes[value + i]);
         break;
@@ -66,7 +80,7 @@ static void print_row(uint64_t row, uint64_t records, const struct slice *values
                         sizeof answer) != SKIFF_NO_REFUSAL)
             stop("a record that is none", "skiff_decode");
         printf("%" PRIu64 " %u %u ", row, depth + 1, record.tag);
-        print_value(answer, payload);
+        print_value(record.kind, answer, payload);
         printf("\n");
         depth++;
         left[depth] = answer[SKIFF_ANSWER_CASE] == SKIFF_CASE_CHILDREN ? answer[SKIFF_ANSWER_VALUE] : 0;

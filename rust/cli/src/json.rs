@@ -15,15 +15,16 @@ array of them. Where the format has several tables, it is {\"table\": N, \"row\"
   nothing             null
   boolean             true, false
   int8 .. uint64      a number; as text beyond 2^53, where readers of JSON lose digits
-  int128, int256      text, in decimal
+  int128, int256      text, in hexadecimal, the highest digit first: \"-1\", \"ff\"
   double              a number; {\"bits\": \"7ff0000000000000\"} where JSON has none
   string32, yson32    text where the bytes are UTF-8, else {\"base64\": \"0cU=\"}
   variant             {\"tag\": 1, \"value\": ...}; of nothing and something else: null or the value
   repeated variant    an array of {\"tag\": 1, \"value\": ...}; of one choice: of the values
   tuple               an object by its fields' names, else an array
 
-`encode` writes what `cat --json` prints as the same rows. It takes each integer as text, too, and a column of \
-nothing and something else may be missing. Rows are refused by line and column.";
+`encode` writes what `cat --json` prints as the same rows. It takes each of int8 to uint64 as text, too, in decimal, \
+and an int128 or int256 as a number, which is decimal as all of JSON's are. A column of nothing and something else \
+may be missing. Rows are refused by line and column.";
 
 /// Beyond this a reader that keeps numbers as doubles loses digits.
 const MOST_EXACT: i128 = 1 << 53;
@@ -95,8 +96,7 @@ fn write_value(out: &mut dyn Write, shape: &Shape, value: &ValueRef) -> io::Resu
     match value {
         ValueRef::Nothing => write!(out, "null"),
         ValueRef::Boolean(truth) => write!(out, "{truth}"),
-        ValueRef::Int128(number) => write!(out, "\"{number}\""),
-        ValueRef::Int256(bytes) => write!(out, "\"{}\"", wide::to_decimal(bytes)),
+        ValueRef::Int128(_) | ValueRef::Int256(_) => write!(out, "\"{value}\""),
         ValueRef::Double(number) if number.is_finite() => Ok(serde_json::to_writer(out, number)?),
         ValueRef::Double(number) => write!(out, "{{\"bits\":\"{:016x}\"}}", number.to_bits()),
         ValueRef::Bytes(bytes) | ValueRef::Yson(bytes) => write_blob(out, bytes),
@@ -227,6 +227,15 @@ fn integer<T: TryFrom<i128>>(shape: &Shape, json: &Json) -> Result<T, Fault> {
     T::try_from(number).map_err(|_| Fault::new(format!("{number} is no {}", shape.wire_type)))
 }
 
+/// An int128 or int256: as text in hexadecimal, as it is written; as a number in decimal.
+fn wide_integer<const BYTES: usize>(shape: &Shape, json: &Json) -> Result<[u8; BYTES], Fault> {
+    let words = |text: &str| Fault::new(format!("{text:?} is no {} in hexadecimal", shape.wire_type));
+    match json {
+        Json::String(text) => wide::from_hex(text).ok_or_else(|| words(text)),
+        other => integer(shape, other).map(wide::from_number),
+    }
+}
+
 fn blob(shape: &Shape, json: &Json) -> Result<Vec<u8>, Fault> {
     match (json, only(json, "base64")) {
         (Json::String(text), _) => Ok(text.as_bytes().to_vec()),
@@ -251,16 +260,8 @@ fn read_value(shape: &Shape, json: &Json) -> Result<Value, Fault> {
         WireType::Int16 => Value::Int16(integer(shape, json)?),
         WireType::Int32 => Value::Int32(integer(shape, json)?),
         WireType::Int64 => Value::Int64(integer(shape, json)?),
-        WireType::Int128 => Value::Int128(integer(shape, json)?),
-        WireType::Int256 => {
-            let text = match json {
-                Json::Number(number) => number.to_string(),
-                Json::String(text) => text.clone(),
-                _ => return Err(wanted(shape, json)),
-            };
-            let words = || Fault::new(format!("{text} is no int256"));
-            Value::Int256(wide::from_decimal(&text).ok_or_else(words)?)
-        }
+        WireType::Int128 => Value::Int128(i128::from_le_bytes(wide_integer(shape, json)?)),
+        WireType::Int256 => Value::Int256(wide_integer(shape, json)?),
         WireType::Uint8 => Value::Uint8(integer(shape, json)?),
         WireType::Uint16 => Value::Uint16(integer(shape, json)?),
         WireType::Uint32 => Value::Uint32(integer(shape, json)?),

@@ -1,101 +1,84 @@
-//! An int256 in decimal: two's complement, the lowest byte first.
+//! An int128 or int256 of JSON: two's complement in so many bytes, the lowest first.
 
-const LIMBS: usize = 8;
-const CHUNK: u64 = 1_000_000_000;
-
-fn limbs(bytes: &[u8; 32]) -> [u32; LIMBS] {
-    std::array::from_fn(|limb| u32::from_le_bytes(*bytes[limb * 4..].first_chunk().expect("four bytes")))
+/// The number that a hexadecimal text stands for, with a minus sign before it or none. None where it is no such text,
+/// and where the number has no room.
+pub fn from_hex<const BYTES: usize>(text: &str) -> Option<[u8; BYTES]> {
+    let (is_negative, digits) = text.strip_prefix('-').map_or((false, text), |digits| (true, digits));
+    if digits.is_empty() {
+        return None;
+    }
+    let mut number = [0; BYTES];
+    for digit in digits.chars() {
+        let mut pushed = digit.to_digit(16)? as u8;
+        for byte in &mut number {
+            (*byte, pushed) = (*byte << 4 | pushed, *byte >> 4);
+        }
+        if pushed > 0 {
+            return None;
+        }
+    }
+    let number = if is_negative { negated(number) } else { number };
+    // The lowest number is its own opposite; 0 has no sign.
+    let fits = (number[BYTES - 1] >= 0x80) == is_negative || number == [0; BYTES];
+    fits.then_some(number)
 }
 
-fn bytes(limbs: &[u32; LIMBS]) -> [u8; 32] {
-    std::array::from_fn(|index| limbs[index / 4].to_le_bytes()[index % 4])
-}
-
-fn negated(limbs: [u32; LIMBS]) -> [u32; LIMBS] {
+fn negated<const BYTES: usize>(number: [u8; BYTES]) -> [u8; BYTES] {
     let mut carry = true;
-    limbs.map(|limb| {
-        let (sum, over) = (!limb).overflowing_add(u32::from(carry));
+    number.map(|byte| {
+        let (sum, over) = (!byte).overflowing_add(u8::from(carry));
         carry = over;
         sum
     })
 }
 
-fn is_negative(limbs: &[u32; LIMBS]) -> bool {
-    limbs[LIMBS - 1] >> 31 == 1
-}
-
-pub fn to_decimal(number: &[u8; 32]) -> String {
-    let mut left = limbs(number);
-    let sign = if is_negative(&left) { "-" } else { "" };
-    if !sign.is_empty() {
-        left = negated(left);
-    }
-    let mut chunks = Vec::new();
-    while left != [0; LIMBS] {
-        let mut rest = 0;
-        for limb in left.iter_mut().rev() {
-            let part = rest << 32 | u64::from(*limb);
-            *limb = (part / CHUNK) as u32;
-            rest = part % CHUNK;
-        }
-        chunks.push(rest);
-    }
-    let highest = chunks.pop().unwrap_or(0);
-    let lower: String = chunks.iter().rev().map(|chunk| format!("{chunk:09}")).collect();
-    format!("{sign}{highest}{lower}")
-}
-
-/// None where it is no number, or one that has no room.
-pub fn from_decimal(text: &str) -> Option<[u8; 32]> {
-    let (sign, digits) = text.strip_prefix('-').map_or((false, text), |digits| (true, digits));
-    if digits.is_empty() {
-        return None;
-    }
-    let mut number = [0_u32; LIMBS];
-    for digit in digits.chars() {
-        let mut carry = u64::from(digit.to_digit(10)?);
-        for limb in &mut number {
-            let part = u64::from(*limb) * 10 + carry;
-            *limb = part as u32;
-            carry = part >> 32;
-        }
-        if carry > 0 {
-            return None;
-        }
-    }
-    let signed = if sign { negated(number) } else { number };
-    // The lowest number is its own opposite; 0 has no sign.
-    let fits = is_negative(&signed) == sign || signed == [0; LIMBS];
-    fits.then(|| bytes(&signed))
+/// A number that both widths have room for.
+pub fn from_number<const BYTES: usize>(number: i128) -> [u8; BYTES] {
+    let mut bytes = [if number < 0 { 0xFF } else { 0 }; BYTES];
+    bytes[..16].copy_from_slice(&number.to_le_bytes());
+    bytes
 }
 
 #[cfg(test)]
 mod tests {
     use super::*;
+    use skiff::Value;
 
     #[test]
-    fn numbers_are_read_back() {
-        let small = |number: i128| {
-            let filling = if number < 0 { 0xFF } else { 0 };
-            let mut bytes = [filling; 32];
-            bytes[..16].copy_from_slice(&number.to_le_bytes());
-            bytes
-        };
-        for number in [0, 1, -1, 9, 10, 999_999_999, 1_000_000_000, -1_000_000_001, i128::MAX, i128::MIN] {
-            assert_eq!(to_decimal(&small(number)), number.to_string());
-            assert_eq!(from_decimal(&number.to_string()), Some(small(number)));
+    fn what_is_shown_is_read_back() {
+        let powers = (0..128).map(|bit| 1_i128 << bit);
+        for power in powers.chain([0x0123_4567_89AB_CDEF_0011_2233_4455_6677]) {
+            for number in [power.wrapping_sub(1), power, power.wrapping_add(1), power.wrapping_neg()] {
+                let (wide, wider) = (from_number::<16>(number), from_number::<32>(number));
+                assert_eq!(wide, number.to_le_bytes());
+                assert_eq!(from_hex(&Value::Int128(number).to_string()), Some(wide));
+                assert_eq!(from_hex(&Value::Int256(wider).to_string()), Some(wider));
+                // The same digits at the top of the wider one.
+                let mut shifted = wider;
+                shifted.rotate_right(16);
+                assert_eq!(from_hex(&Value::Int256(shifted).to_string()), Some(shifted));
+            }
         }
-        let mut most = [0xFF; 32];
-        most[31] = 0x7F;
-        let mut least = [0; 32];
-        least[31] = 0x80;
-        let digits = "57896044618658097711785492504343953926634992332820282019728792003956564819967";
-        assert_eq!((to_decimal(&most), from_decimal(digits)), (digits.to_owned(), Some(most)));
-        let digits = "-57896044618658097711785492504343953926634992332820282019728792003956564819968";
-        assert_eq!((to_decimal(&least), from_decimal(digits)), (digits.to_owned(), Some(least)));
-        for bad in ["", "-", "1x", "+1", " 1", &digits[1..], &digits.replace('8', "9")] {
-            assert_eq!(from_decimal(bad), None, "{bad}");
+    }
+
+    #[test]
+    fn a_number_that_has_no_room() {
+        let (above, highest) = (format!("8{}", "0".repeat(31)), format!("7{}", "f".repeat(31)));
+        assert_eq!(from_hex::<16>(&highest), Some(i128::MAX.to_le_bytes()));
+        assert_eq!(from_hex::<16>(&format!("-{above}")), Some(i128::MIN.to_le_bytes()));
+        for bad in [&above, &format!("-{}1", &above[..31]), &format!("1{}", "0".repeat(32)), &"f".repeat(33)]
+        {
+            assert_eq!(from_hex::<16>(bad), None, "{bad}");
+            assert!(from_hex::<32>(bad).is_some(), "{bad}");
         }
-        assert_eq!(from_decimal("-0"), Some([0; 32]));
+    }
+
+    #[test]
+    fn a_text_that_is_no_number() {
+        for bad in ["", "-", "0x1", "+1", " 1", "1 ", "--1", "1-", "g", "1.0", "1_0"] {
+            assert_eq!(from_hex::<16>(bad), None, "{bad}");
+        }
+        assert_eq!(from_hex("-0"), Some([0; 16]));
+        assert_eq!(from_hex("00FF"), Some(from_number::<16>(255)));
     }
 }

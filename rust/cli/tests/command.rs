@@ -142,8 +142,8 @@ fn json_there_and_back() {
     // null itself, so that it has a tag.
     let lines = [
         r#"[null,true,-8,"-9223372036854775808",9007199254740992,"#,
-        r#""-170141183460469231731687303715884105728","#,
-        r#""-57896044618658097711785492504343953926634992332820282019728792003956564819968","#,
+        r#""-80000000000000000000000000000000","#,
+        r#""-8000000000000000000000000000000000000000000000000000000000000000","#,
         r#"-0.0,"grün \"q\"",{"base64":"0cU="},"hi",{"tag":1,"value":5},"#,
         r#"{"tag":1,"value":{"x":0.1,"y":5e-324}},[1,2,3],[{"tag":1,"value":true},{"tag":0,"value":7}],"#,
         "[1,-2],false]\n",
@@ -161,6 +161,36 @@ fn json_there_and_back() {
     let first = accepted(&skiff(&["cat", "--json", ".", "rows.skf"]));
     assert_eq!(first.lines().count(), 5);
     assert_eq!(with_input(&["encode", "."], &first).stdout, rows());
+}
+
+/// An int128 and an int256 in hexadecimal, the highest digit first; a number of JSON is decimal.
+#[test]
+fn wide_integers() {
+    let schema = file(&folder("wide"), "wide.txt", "table\n  wide: int128\n  wider: int256\n");
+    let lines = "{\"wide\":\"-1\",\"wider\":\"ff\"}\n{\"wide\":\"0\",\"wider\":\"-123456789abcdef0123456789abcdef00\"}\n";
+    let stream = with_input(&["encode", &schema], lines);
+    assert_eq!(accepted(&with_input(&["cat", "--json", &schema, "-"], &stream.stdout)), lines);
+    let listed = [
+        "0 1 0 tuple 2\n0 2 0 int128 -1\n0 2 0 int256 ff\n",
+        "1 1 0 tuple 2\n1 2 0 int128 0\n1 2 0 int256 -123456789abcdef0123456789abcdef00\nend 2 100\n",
+    ];
+    assert_eq!(accepted(&with_input(&["list", &schema, "-"], &stream.stdout)), listed.concat());
+    let numbers = with_input(&["encode", &schema], "{\"wide\":-10,\"wider\":18446744073709551615}");
+    let shown = accepted(&with_input(&["cat", "--json", &schema, "-"], &numbers.stdout));
+    assert_eq!(shown, "{\"wide\":\"-a\",\"wider\":\"ffffffffffffffff\"}\n");
+
+    let refused = |wide: &str| {
+        let line = format!("{{\"wide\":{wide},\"wider\":0}}");
+        let (status, _, errors) = told(&with_input(&["encode", &schema], line));
+        assert_eq!(status, 1);
+        errors.strip_prefix("skiff: -: line 1: column \"wide\": ").expect("the column").trim_end().to_owned()
+    };
+    assert_eq!(refused("\"0x1\""), "\"0x1\" is no int128 in hexadecimal");
+    let too_wide = format!("\"8{}\"", "0".repeat(31));
+    assert_eq!(refused(&too_wide), format!("{too_wide} is no int128 in hexadecimal"));
+    assert_eq!(refused("true"), "a boolean is no int128");
+    assert_eq!(refused("1.5"), "a number is no int128");
+    assert_eq!(refused("18446744073709551616"), "a number is no int128");
 }
 
 #[test]

@@ -1,6 +1,6 @@
 //! Differential runs: cases are made, put to what is under test, and each answer is held against the
 //! plain reading and, on its domain, against the original. The format side goes to a program over a
-//! pipe; the calls that read, write and index rows go to the library itself, in this process.
+//! pipe; the calls that read, write and index rows and that show integers go to the library itself, in this process.
 
 // Its symbols are those that the front end calls.
 #[cfg(feature = "double")]
@@ -17,8 +17,11 @@ pub mod generate;
 #[cfg(feature = "library")]
 pub mod in_process;
 pub mod indexing;
+#[cfg(feature = "library")]
+pub mod integers;
 pub mod judge;
 pub mod listing;
+pub mod options;
 pub mod original;
 pub mod plan;
 pub mod program;

@@ -20,7 +20,7 @@ pub enum Slack {
 use Slack::{Half, Less, More, Nothing};
 
 impl Slack {
-    fn of(self, need: usize) -> usize {
+    pub(crate) fn of(self, need: usize) -> usize {
         match self {
             More(bytes) => need + bytes,
             Less(bytes) => need.saturating_sub(bytes),

@@ -9,6 +9,7 @@ mod decoding;
 mod encoding;
 mod fault;
 mod indexing;
+mod integer;
 mod viewing;
 
 use std::slice;

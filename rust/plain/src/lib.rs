@@ -8,7 +8,7 @@
 //! [`format`]. Reading: [`settings`], the [`walk`] over a row, the calls in [`reading`] and
 //! [`decoding`], and the [`report`] that the C functions write. Writing: [`value_table`] and
 //! [`encoding`]. Row starts beside a stream: [`indexing`]. What a host sees of a decoded row, record by record:
-//! [`view`]. What the listing program prints: [`listing`].
+//! [`view`]. An int128 or int256 as text: [`integer`]. What the listing program prints: [`listing`].
 
 pub mod answer;
 pub mod decoding;
@@ -17,6 +17,7 @@ pub mod encoding;
 pub mod format;
 pub mod forms;
 pub mod indexing;
+pub mod integer;
 pub mod listing;
 pub mod reading;
 pub mod report;

@@ -3,11 +3,12 @@
 use crate::answer::number::SETTING;
 use crate::answer::Refusal;
 use crate::decoding::{decode, kind};
+use crate::integer;
 use crate::reading::{Row, Skipped};
 use crate::settings::Settings;
 use crate::tables::{record_count, FormatTables, RECORD_BYTES};
 use crate::value_table::{value_records, ValueRecord};
-use crate::wire_type::{BOOLEAN, NAMES};
+use crate::wire_type::{BOOLEAN, INT128, INT256, NAMES};
 
 /// A file may have so many bytes.
 pub const MOST_FILE_BYTES: usize = 65_536;
@@ -124,6 +125,7 @@ fn value_text(record: &ValueRecord, payload: &[u8]) -> String {
         5 => i64::from_le_bytes(data).to_string(),
         8..=11 => u64::from_le_bytes(data).to_string(),
         12 => format!("{:016x}", u64::from_le_bytes(data)),
+        INT128 | INT256 => integer::text_of(record.payload(payload)),
         _ if record.has_payload() => hex(record.payload(payload)),
         _ => record.size.to_string(),
     }

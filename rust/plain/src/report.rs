@@ -91,6 +91,14 @@ impl Report {
         }
     }
 
+    /// The text of an integer is told by how many bytes it has, in the place of a row's.
+    pub fn of_text(written: &Result<u64, Refusal>) -> Self {
+        match written {
+            Ok(bytes) => Self { bytes: *bytes, ..Self::default() },
+            Err(refusal) => Self::of_refusal(refusal),
+        }
+    }
+
     pub fn of_run(run: &Run) -> Self {
         let stop = match &run.refusal {
             Some(refusal) => Self::of_refusal(refusal),

@@ -2,7 +2,8 @@
 
 use std::fmt;
 
-use crate::{Value, ValueRef, Values, Variant, VariantRef, Variants};
+use crate::sys::INTEGER_TEXT_BYTES;
+use crate::{integer_text, Value, ValueRef, Values, Variant, VariantRef, Variants};
 
 /// Bytes as text where they are UTF-8, else as an escaped byte string.
 struct Text<'a>(&'a [u8]);
@@ -16,13 +17,24 @@ impl fmt::Debug for Text<'_> {
     }
 }
 
-/// An int256 as a reader writes it: the highest digit first.
-struct Wide<'a>(&'a [u8; 32]);
+/// An int128 or int256 as the library shows it.
+struct Wide<'a>(&'a [u8]);
 
+impl fmt::Display for Wide<'_> {
+    fn fmt(&self, out: &mut fmt::Formatter<'_>) -> fmt::Result {
+        let mut text = [0; INTEGER_TEXT_BYTES];
+        out.write_str(integer_text(self.0, &mut text).expect("there is room for the widest"))
+    }
+}
+
+/// Among numbers that are in decimal: `-0x1`.
 impl fmt::Debug for Wide<'_> {
     fn fmt(&self, out: &mut fmt::Formatter<'_>) -> fmt::Result {
-        out.write_str("0x")?;
-        self.0.iter().rev().try_for_each(|byte| write!(out, "{byte:02x}"))
+        let shown = self.to_string();
+        match shown.strip_prefix('-') {
+            Some(digits) => write!(out, "-0x{digits}"),
+            None => write!(out, "0x{shown}"),
+        }
     }
 }
 
@@ -121,7 +133,7 @@ macro_rules! questions {
                     Self::Int32(number) => case("Int32", number),
                     Self::Int64(number) => case("Int64", number),
                     Self::Int128(number) => case("Int128", number),
-                    Self::Int256(bytes) => case("Int256", &Wide(bytes)),
+                    Self::Int256(bytes) => case("Int256", &Wide(&bytes[..])),
                     Self::Uint8(number) => case("Uint8", number),
                     Self::Uint16(number) => case("Uint16", number),
                     Self::Uint32(number) => case("Uint32", number),
@@ -146,8 +158,8 @@ macro_rules! questions {
                     Self::Int16(number) => write!(out, "{number}"),
                     Self::Int32(number) => write!(out, "{number}"),
                     Self::Int64(number) => write!(out, "{number}"),
-                    Self::Int128(number) => hex(&number.to_le_bytes(), out),
-                    Self::Int256(bytes) => hex(&bytes[..], out),
+                    Self::Int128(number) => write!(out, "{}", Wide(&number.to_le_bytes())),
+                    Self::Int256(bytes) => write!(out, "{}", Wide(&bytes[..])),
                     Self::Uint8(number) => write!(out, "{number}"),
                     Self::Uint16(number) => write!(out, "{number}"),
                     Self::Uint32(number) => write!(out, "{number}"),

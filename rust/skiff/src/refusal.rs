@@ -203,11 +203,11 @@ pub enum Refusal {
         /// The offset of the row.
         place: u64,
     },
-    /// The output has fewer bytes from the position on than the row.
+    /// The output has fewer bytes from the position on than the row, or a slice has fewer than an integer's text.
     NoOutputRoom {
-        /// The row's bytes.
+        /// The row's bytes, or the text's.
         needed: u64,
-        /// The output position.
+        /// The output position; 0 for a text.
         place: u64,
     },
     /// The stream has more rows than an index slice has room for records. What is answered beside it has the

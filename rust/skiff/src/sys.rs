@@ -21,6 +21,9 @@ pub const SCHEMA_RECORD_BYTES: usize = 16;
 /// What one row takes of an index.
 pub const INDEX_RECORD_BYTES: usize = 16;
 
+/// What the text of the widest integer takes: a minus sign and 64 digits.
+pub const INTEGER_TEXT_BYTES: usize = 65;
+
 /// The C functions: all of them are given settings, format and input first and the answer slice last, so
 /// that only what stands between is written for each. The version of the layouts is part of the symbol, as
 /// in the header, so that an archive of another version does not link.
@@ -102,6 +105,15 @@ extern "C" {
         value_records_len: usize,
         payload: *const u8,
         payload_len: usize,
+        answer: *mut u8,
+        answer_len: usize,
+    ) -> u32;
+    #[link_name = "skiff1_integer_text"]
+    fn skiff_integer_text(
+        bytes: *const u8,
+        bytes_len: usize,
+        text: *mut u8,
+        text_len: usize,
         answer: *mut u8,
         answer_len: usize,
     ) -> u32;
@@ -355,6 +367,13 @@ pub(crate) fn append(
 pub fn check_value_table(value: &ValueTable, answer: &mut [u8]) -> u32 {
     // SAFETY: as in `skip`.
     unsafe { lend!(skiff_check_value_table: read value.records; read value.payload; written answer;) }
+}
+
+/// `skiff_integer_text`: the refusal's number, 0 where the text was written.
+#[inline]
+pub fn integer_text(bytes: &[u8], text: &mut [u8], answer: &mut [u8]) -> u32 {
+    // SAFETY: as in `decode`: text and answer are written.
+    unsafe { lend!(skiff_integer_text: read bytes; written text; written answer;) }
 }
 
 /// `skiff_check_format`: the refusal's number, 0 where it is a format.

@@ -101,9 +101,9 @@ impl<'a> Table<'a> {
 /// One value of a row, looked at where the library wrote it. Whether a tag had one byte or two is no part
 /// of it. [`ValueRef::to_value`] makes a [`crate::Value`] of it, which lives by itself.
 ///
-/// `Debug` shows text as text, and `Display` is the value as a listing has it: a number in decimal, a
-/// boolean as 0 or 1, a double as its bits in hex, blobs, int128 and int256 in hex as they are stored, and
-/// of a compound value the count of its children.
+/// `Debug` shows text as text, and `Display` is the value as a listing has it: a number in decimal, but an
+/// int128 and an int256 in hex, as [`crate::integer_text`] has them, a boolean as 0 or 1, a double as its bits
+/// in hex, blobs in hex as they are stored, and of a compound value the count of its children.
 ///
 /// ```
 /// # use skiff::{Decoder, FormatBuilder, Schema, Value, WireType};

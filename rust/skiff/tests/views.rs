@@ -130,7 +130,7 @@ fn words_show_text_as_text() {
 #[test]
 fn a_listing_has_a_line_for_each_record() {
     let (schema, value) = every_kind();
-    let wide: String = (0..32).map(|byte| format!("{byte:02x}")).collect();
+    let wide: String = (1..32).rev().map(|byte| format!("{byte:02x}")).collect();
     let lines = [
         "1 0 tuple 19",
         "2 0 nothing -",
@@ -139,8 +139,8 @@ fn a_listing_has_a_line_for_each_record() {
         "2 0 int16 -16",
         "2 0 int32 -32",
         "2 0 int64 -9223372036854775808",
-        "2 0 int128 80ffffffffffffffffffffffffffffff",
-        &format!("2 0 int256 {wide}"),
+        "2 0 int128 -80",
+        &format!("2 0 int256 {wide}00"),
         "2 0 uint8 8",
         "2 0 uint16 16",
         "2 0 uint32 32",

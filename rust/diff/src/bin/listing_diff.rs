@@ -4,27 +4,13 @@ use std::process::ExitCode;
 use std::{env, fs};
 
 use diff::listing::{report, run, Stop};
+use diff::options::count_and_seed;
 use diff::program::Program;
 
 const USAGE: &str = "\
 usage: listing-diff [--count N] [--seed N]
   has N deliveries (100,000 by default) listed by the program that SKIFF_LISTING names, by way of SKIFF_RUNNER if
   that is set, and compares every byte that it prints";
-
-fn options() -> Result<(u64, u64), String> {
-    let (mut count, mut seed) = (100_000, 1);
-    let mut given = env::args().skip(1);
-    while let Some(word) = given.next() {
-        let value = given.next().ok_or(USAGE)?;
-        let number = value.parse::<u64>().map_err(|_| format!("{word} wants a number, not {value}"))?;
-        match word.as_str() {
-            "--count" => count = number,
-            "--seed" => seed = number,
-            _ => return Err(USAGE.to_owned()),
-        }
-    }
-    Ok((count, seed))
-}
 
 /// By its whole path, for it is run in other folders.
 fn program() -> Result<Program, String> {
@@ -36,7 +22,7 @@ fn program() -> Result<Program, String> {
 }
 
 fn compare() -> Result<ExitCode, String> {
-    let (count, seed) = options()?;
+    let (count, seed) = count_and_seed(USAGE, 100_000)?;
     let program = program()?;
     println!("seed {seed}");
     match run(&program, seed, count) {

@@ -5,14 +5,14 @@ use std::collections::BTreeSet;
 
 use plain::listing::{Delivery, MOST_FILE_BYTES, MOST_RECORDS};
 use plain::tables::Block;
-use plain::wire_type::fixed_width;
+use plain::wire_type::{fixed_width, INT128, INT256};
 
 use super::rows::damage::{change, TELLING};
 use super::rows::edges;
 use super::rows::values::{write_row, DOUBLES, SHORT};
 use super::trees::{random_plans, random_size, random_table_plans, widened};
 use super::writes::draw::number;
-use super::{damage, Kind};
+use super::{damage, integers, Kind};
 use crate::case::Case;
 use crate::plan::{fan, lay_out, over, table_of, Plan};
 use crate::rng::Rng;
@@ -299,6 +299,15 @@ fn each_kind(emit: &mut Emit) {
     }
 }
 
+/// Each power of two, its neighbours and their opposites, a row for each.
+fn wide_integers(emit: &mut Emit) {
+    for (code, width) in [(INT128, 16), (INT256, 32)] {
+        let row = |number: Vec<u8>| [&[0, 0], &number[..]].concat();
+        let rows: Vec<u8> = integers::edges(width).into_iter().flat_map(row).collect();
+        emit(EDGE, Parts::of(&table_of(&[Plan::new(code, 0)])).with(&rows));
+    }
+}
+
 fn document_table() -> Parts {
     Parts::of(&edges::schema_b())
 }
@@ -379,6 +388,7 @@ fn refused_schemas(emit: &mut Emit) {
 pub fn fixed(emit: &mut Emit) {
     reading_edges(emit);
     each_kind(emit);
+    wide_integers(emit);
     files(emit);
     full_rows(emit);
     dear_rows(emit);

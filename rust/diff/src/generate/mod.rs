@@ -6,6 +6,7 @@ pub mod edges;
 pub mod exhaustive;
 pub mod formats;
 pub mod indexes;
+pub mod integers;
 pub mod rows;
 pub mod small_formats;
 pub mod trees;

@@ -55,7 +55,7 @@ struct Call<'a> {
 }
 
 /// How many calls were right, or the first that was not.
-type Right = Result<u64, String>;
+pub(crate) type Right = Result<u64, String>;
 
 impl<'a> Call<'a> {
     fn plain(&self) -> (FormatTables<'a>, &'a [u8]) {
@@ -102,7 +102,10 @@ impl<'a> Call<'a> {
 
 impl Reply {
     /// A decoding call into slices of which only the first bytes are looked at.
-    fn near(lent: [&mut [u8]; 2], call: impl FnOnce(&mut [u8], &mut [u8], &mut [u8]) -> u32) -> Self {
+    pub(crate) fn near(
+        lent: [&mut [u8]; 2],
+        call: impl FnOnce(&mut [u8], &mut [u8], &mut [u8]) -> u32,
+    ) -> Self {
         let [records, payload] = lent;
         for (slice, from) in [&mut *records, &mut *payload].into_iter().zip(LENT_FILLING) {
             slice.iter_mut().take(NEAR).zip(from..).for_each(|(byte, index)| *byte = filling(index));
@@ -113,7 +116,7 @@ impl Reply {
     }
 }
 
-fn same(call: &str, wanted: Reply, got: Reply) -> Right {
+pub(crate) fn same(call: &str, wanted: Reply, got: Reply) -> Right {
     if wanted == got {
         return Ok(1);
     }

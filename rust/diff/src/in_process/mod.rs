@@ -28,10 +28,10 @@ use crate::trap;
 use values::Queried;
 
 /// Answer slices come in these lengths, in turn: just long enough, and longer ones.
-const ANSWER_SIZES: [usize; 8] = [88, 89, 200, 96, 88, 120, 88, 89];
+pub(crate) const ANSWER_SIZES: [usize; 8] = [88, 89, 200, 96, 88, 120, 88, 89];
 
 /// Each sixteenth case comes once more, with a slice that is too short for an answer.
-const SHORT_SIZES: [usize; 5] = [87, 0, 1, 80, 8];
+pub(crate) const SHORT_SIZES: [usize; 5] = [87, 0, 1, 80, 8];
 const SHORT_EACH: u64 = 16;
 
 /// Of a lent slice no more bytes are printed.
@@ -105,7 +105,7 @@ fn unanswered(bytes: usize) -> Vec<u8> {
 
 impl Reply {
     /// A call into a filled slice of so many bytes.
-    fn of(answer_size: usize, place: Place, call: impl FnOnce(&mut [u8]) -> u32) -> Self {
+    pub(crate) fn of(answer_size: usize, place: Place, call: impl FnOnce(&mut [u8]) -> u32) -> Self {
         let mut answer = Held::new(&unanswered(answer_size), place);
         let returned = call(&mut answer);
         Self { returned, answer: answer.to_vec(), lent: None }

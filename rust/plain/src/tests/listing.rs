@@ -46,7 +46,10 @@ fn a_line_of_each_kind() {
     assert_eq!(line(13, &[0; 4]), "0 2 0 string32 -");
     assert_eq!(line(14, &[2, 0, 0, 0, 0x0A, 0xB1]), "0 2 0 yson32 0ab1");
     let wide: Vec<u8> = (0..16).collect();
-    assert_eq!(line(6, &wide), "0 2 0 int128 000102030405060708090a0b0c0d0e0f");
+    assert_eq!(line(6, &wide), "0 2 0 int128 f0e0d0c0b0a09080706050403020100");
+    assert_eq!(line(6, &[0xFF; 16]), "0 2 0 int128 -1");
+    assert_eq!(line(7, &[0; 32]), "0 2 0 int256 0");
+    assert_eq!(line(7, &[0x80; 32]), format!("0 2 0 int256 -{}80", "7f".repeat(31)));
 }
 
 #[test]

@@ -4,6 +4,7 @@ mod decoding;
 mod encoding;
 mod format;
 mod indexing;
+mod integer;
 mod listing;
 mod reading;
 mod view;
