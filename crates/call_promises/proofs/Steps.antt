@@ -76,6 +76,7 @@ use Rattle.wire.proofs.store.put32 as put32
 use Rattle.wire.proofs.store.put64 as put64
 use Rattle.record.proofs.value_record.put_record as put-record
 use Rattle.payload.proofs.copy as copy
+use Rattle.payload.proofs.copy_wide as copy-wide
 use Rattle.record.proofs.value_record.whole_records as whole-records
 use Rattle.block.proofs.validation.level_rule as level-rule
 use Rattle.block.proofs.validation.passes as passes
@@ -324,6 +325,9 @@ put-record-one-answer κs a x y s t p q = (refl, rw (p, q))
 
 pub copy-one-answer : OneOutcome copy.Kinds.ps copy.Kinds.r (λ κs (input, (from, (n, (payload, _)))). payload .now ∷ []) copy.Reads.Post
 copy-one-answer κs a x y s t p q = (refl, rw (p, q))
+
+pub copy-wide-one-answer : OneOutcome copy-wide.Kinds.ps copy-wide.Kinds.r (λ κs (input, (from, (n, (payload, _)))). payload .now ∷ []) copy-wide.Reads.Post
+copy-wide-one-answer κs a x y s t p q = (refl, rw (p, q))
 
 pub fill-row-one-answer : OneOutcome fill-row.Kinds.ps fill-row.Kinds.r (λ κs (block, (input, (at, (records, (payload, _))))). records .now ∷ payload .now ∷ []) fill-row.Reads.Post
 fill-row-one-answer κs a x y s t p q = (refl, rw (p .0, p .1, q .0, q .1))

@@ -86,7 +86,8 @@ pub fn decode_row(
 ) -> Read
     requires { ⌜ ThroughDoor (slices (now table) (now names) (now references) (now registry)) (now input) settings × (at ≤ length (now input)) ⌝ }
     ensures { λ r. ⌜ record { answer = r; records = now (records .exit); payload = now (payload .exit) }
-        ≡ filled at (rowAt (slices (now (table .entry)) (now (names .entry)) (now (references .entry)) (now (registry .entry))) (now (input .entry)) (limits settings) at)
+        ≡ filled at (rowAt (slices (now (table .entry)) (now (names .entry)) (now (references .entry)) (now (registry .entry)))
+        (now (input .entry)) (limits settings) at)
         (now (records .entry)) (now (payload .entry)) ⌝ }
 {
     let found = block_at(names, references, registry, input, at);

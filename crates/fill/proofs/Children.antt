@@ -26,7 +26,7 @@ use Rattle.fill.specs.declared.Next.{Next}
 use Rattle.fill.specs.declared.Next.the-variants.{Child, End}
 use Rattle.fill.specs.Plain.{PlainRead, Got, Not, _>>=_, IsGot, plainNumberAt, Reader, childAt, pairsAt, fieldsAt, leafAt, byForm, readAt, valueRead, endRead}
 use Rattle.fill.specs.Filling.{tagBytes, nextOf}
-use Rattle.leaves.proofs.Codes.{form-choice, form-series, form-fields}
+use Rattle.leaves.proofs.Codes.{form-variant, form-repeated, form-tuple}
 use Rattle.fill.proofs.Got.{not-got, got-from, got-is, read-step, step, number-step, child-step}
 
 -- the table of a node with children: a record that has their count, and theirs
@@ -96,9 +96,9 @@ module _ (inp : List ℕ) (rec : Reader) (n : Node) where
     pub all : left f 0 (suc (length inp - at)) at ≡ Got (children v) z
     pub parent : ParentTable (kindFor (n .code) f) v
 
-  choice-start : (w at z : ℕ) (v : Value) → byForm inp rec n (variant-form w) at ≡ Got v z → Start (variant-form w) at v z
+  variant-start : (w at z : ℕ) (v : Value) → byForm inp rec n (variant-form w) at ≡ Got v z → Start (variant-form w) at v z
   unfolding byForm left kindFor children _>>=_
-  choice-start w at z v e =
+  variant-start w at z v e =
       let a = step (plainNumberAt inp w at) _ v z e in
       let b = step (childAt rec n (a .got) (a .at)) _ v z (a .goes) in
       from (a .got) (a .at) (b .got) (b .at) (a .is) (b .is) (b .goes)
@@ -109,9 +109,9 @@ module _ (inp : List ℕ) (rec : Reader) (n : Node) where
           let ends : z ≡ r = cc in
           rw (is, ends) (record { all = rw (f, g); parent = variant-parent tag u })
 
-  series-start : (w at z : ℕ) (v : Value) → byForm inp rec n (repeated-form w) at ≡ Got v z → Start (repeated-form w) at v z
+  repeated-start : (w at z : ℕ) (v : Value) → byForm inp rec n (repeated-form w) at ≡ Got v z → Start (repeated-form w) at v z
   unfolding byForm left kindFor children
-  series-start w at z v e =
+  repeated-start w at z v e =
       let a = step (pairsAt inp rec n w (suc (length inp - at)) at) _ v z e in
       from (a .got) (a .at) (a .is) (a .goes)
     where
@@ -121,9 +121,9 @@ module _ (inp : List ℕ) (rec : Reader) (n : Node) where
           let ends : z ≡ q = cc in
           rw (same, ends) (record { all = f; parent = repeated-parent is })
 
-  fields-start : (at z : ℕ) (v : Value) → byForm inp rec n tuple-form at ≡ Got v z → Start tuple-form at v z
+  tuple-start : (at z : ℕ) (v : Value) → byForm inp rec n tuple-form at ≡ Got v z → Start tuple-form at v z
   unfolding byForm left kindFor children _>>=_
-  fields-start at z v e =
+  tuple-start at z v e =
       let a = step (fieldsAt rec (n .first) (n .children) at) _ v z e in
       from (a .got) (a .at) (a .is) (a .goes)
     where
@@ -139,9 +139,9 @@ module _ (inp : List ℕ) (rec : Reader) (n : Node) where
   start at z v h e = by (ltb (n .code) 17) (ltb (n .code) 19) (ltb (n .code) 20) refl refl refl
     where
       by : (a b c : Bool) → ltb (n .code) 17 ≡ a → ltb (n .code) 19 ≡ b → ltb (n .code) 20 ≡ c → (n .code < 20) × Start (form (n .code)) at v z
-      by true b c p q r = let l = ltb-true _ _ p in let f = form-choice (n .code) h l in (omega (arith, l), rw f (choice-start _ at z v (rw f at e)))
-      by false true c p q r = let l = ltb-true _ _ q in let f = form-series (n .code) (ltb-false _ _ p) l in (omega (arith, l), rw f (series-start _ at z v (rw f at e)))
-      by false false true p q r = let f = form-fields (n .code) (ltb-false _ _ q) (omega (arith, ltb-true (n .code) 20 r)) in (ltb-true _ _ r, rw f (fields-start at z v (rw f at e)))
+      by true b c p q r = let l = ltb-true _ _ p in let f = form-variant (n .code) h l in (omega (arith, l), rw f (variant-start _ at z v (rw f at e)))
+      by false true c p q r = let l = ltb-true _ _ q in let f = form-repeated (n .code) (ltb-false _ _ p) l in (omega (arith, l), rw f (repeated-start _ at z v (rw f at e)))
+      by false false true p q r = let f = form-tuple (n .code) (ltb-false _ _ q) (omega (arith, ltb-true (n .code) 20 r)) in (ltb-true _ _ r, rw f (tuple-start at z v (rw f at e)))
       by false false false p q r = let f = form-unknown (n .code) (ltb-false _ _ r) in absurd (not-got (Got v z) (sym (rw f at e)) (got-from (Got v z) v z refl))
 
   -- the tag of the next one is there
@@ -177,9 +177,9 @@ module _ (inp : List ℕ) (rec : Reader) (n : Node) where
   not-left : (f : Form) (i enough z : ℕ) (is : Items) (x : Next) → _≡_ {A = PlainRead Items} Not (Got is z) → Follows f i enough z is x
   not-left f i enough z is x e = absurd (not-got (Got is z) (sym e) (got-from (Got is z) is z refl))
 
-  choice-turn : (w enough at z : ℕ) (is : Items) → left (variant-form w) 0 enough at ≡ Got is z → Follows (variant-form w) 0 enough z is (Child (leAt inp at w) (n .first + leAt inp at w) (at + w))
+  variant-turn : (w enough at z : ℕ) (is : Items) → left (variant-form w) 0 enough at ≡ Got is z → Follows (variant-form w) 0 enough z is (Child (leAt inp at w) (n .first + leAt inp at w) (at + w))
   unfolding left
-  choice-turn w enough at z is e =
+  variant-turn w enough at z is e =
       let a = number-step is z inp w at _ e in
       let b = child-step is z rec n (leAt inp at w) (at + w) _ (a .1) in
       let s = step _ _ is z (b .1) in
@@ -193,10 +193,10 @@ module _ (inp : List ℕ) (rec : Reader) (n : Node) where
         inside = omega (arith, b .0);
       })
 
-  series-turn : (w i enough at z : ℕ) (is : Items) → left (repeated-form w) i enough at ≡ Got is z → Follows (repeated-form w) i enough z is (nextOf inp (n .first) (n .children) (repeated-form w) i at)
+  repeated-turn : (w i enough at z : ℕ) (is : Items) → left (repeated-form w) i enough at ≡ Got is z → Follows (repeated-form w) i enough z is (nextOf inp (n .first) (n .children) (repeated-form w) i at)
   unfolding left pairsAt nextOf pick
-  series-turn w i zero at z is e = not-left _ _ _ z is _ e
-  series-turn w i (suc enough) at z is e = let a = number-step is z inp w at _ e in by (eqb (leAt inp at w) (endTag w)) (a .1)
+  repeated-turn w i zero at z is e = not-left _ _ _ z is _ e
+  repeated-turn w i (suc enough) at z is e = let a = number-step is z inp w at _ e in by (eqb (leAt inp at w) (endTag w)) (a .1)
     where
       by : (b : Bool) → pick b (Got done (at + w)) (childAt rec n (leAt inp at w) (at + w) >>= (λ (y : Value × ℕ). pairsAt inp rec n w enough (y .1) >>= (λ (x : Items × ℕ). Got (item (leAt inp at w) (y .0) (x .0)) (x .1)))) ≡ Got is z →
           Follows (repeated-form w) i (suc enough) z is (pick b (End (at + w)) (Child (leAt inp at w) (n .first + leAt inp at w) (at + w)))
@@ -232,9 +232,9 @@ module _ (inp : List ℕ) (rec : Reader) (n : Node) where
       let b = step _ _ vs q (a .goes) in
       record { value = a .got; end = a .at; rest = b .got; reads = a .is; follows = (cc); first = (cc) }
 
-  fields-turn : (i enough at z : ℕ) (is : Items) → left tuple-form i enough at ≡ Got is z → Follows tuple-form i enough z is (nextOf inp (n .first) (n .children) tuple-form i at)
+  tuple-turn : (i enough at z : ℕ) (is : Items) → left tuple-form i enough at ≡ Got is z → Follows tuple-form i enough z is (nextOf inp (n .first) (n .children) tuple-form i at)
   unfolding left nextOf pick fieldsAt untagged _>>=_
-  fields-turn i enough at z is e = by (ltb i (n .children)) refl
+  tuple-turn i enough at z is e = by (ltb i (n .children)) refl
     where
       by : (b : Bool) → ltb i (n .children) ≡ b → Follows tuple-form i enough z is (pick b (Child 0 (n .first + i) at) (End at))
       by true h =
@@ -259,10 +259,10 @@ module _ (inp : List ℕ) (rec : Reader) (n : Node) where
 
   pub turn : (f : Form) (i enough at z : ℕ) (is : Items) → left f i enough at ≡ Got is z → Follows f i enough z is (nextOf inp (n .first) (n .children) f i at)
   unfolding left nextOf pick
-  turn (variant-form w) zero enough at z is e = choice-turn w enough at z is e
+  turn (variant-form w) zero enough at z is e = variant-turn w enough at z is e
   turn (variant-form w) (suc i) enough at z is e = rw (lt-ltb 0 (suc i) (omega arith)) (ends {q = at} (cc) (cc))
-  turn (repeated-form w) i enough at z is e = series-turn w i enough at z is e
-  turn tuple-form i enough at z is e = fields-turn i enough at z is e
+  turn (repeated-form w) i enough at z is e = repeated-turn w i enough at z is e
+  turn tuple-form i enough at z is e = tuple-turn i enough at z is e
   turn empty i enough at z is e = not-left _ _ _ z is _ e
   turn truth i enough at z is e = not-left _ _ _ z is _ e
   turn (fixed w) i enough at z is e = not-left _ _ _ z is _ e

@@ -14,7 +14,7 @@ use Rattle.rules.specs.ValueTable.{payloadBytes, valueKind, sizeOf, contentOf, 
 use Rattle.rules.specs.declared.table_record.Node.{Node}
 use Rattle.rules.proofs.Over.{over-at}
 use Rattle.value_laws.proofs.Records.{length-layout}
-use Rattle.leaves.proofs.Codes.{form-choice, tag-some}
+use Rattle.leaves.proofs.Codes.{form-variant, tag-some}
 use Rattle.fill.specs.declared.FillPos.{FillPos}
 use Rattle.fill.specs.declared.ToFill.{ToFill}
 use Rattle.fill.specs.declared.ToFill.the-variants.{Leaf, Children}
@@ -47,7 +47,7 @@ chosen : (sch inp : List ℕ) (d i at : ℕ) → 14 < nodeAt sch i .code → nod
     Chosen inp (readAt sch inp (d - 1)) (nodeAt sch i) (widthOf (form (nodeAt sch i .code))) at (valueRead (readAt sch inp d i at)) (endRead (readAt sch inp d i at))
 chosen sch inp d i at h l g =
     let e = sym (read-step sch inp d i at g .1) ∙ got-is (readAt sch inp d i at) g in
-    choose inp _ _ _ at _ _ (rw (form-choice (nodeAt sch i .code) h l) at e)
+    choose inp _ _ _ at _ _ (rw (form-variant (nodeAt sch i .code) h l) at e)
 
 -- ---- what is left to fill
 

@@ -16,6 +16,7 @@ ghost use Rattle.fill.specs.Filling.{RoomToFill, Filled, Fillable, rowVa
 ghost use Rattle.fill.specs.Leads.{Held, LeadsToFill};
 use leaves::fields::ends;
 use payload::copy;
+use payload::copy_wide;
 use record::node::node_children;
 use record::node::node_code;
 use record::node::node_first;
@@ -65,26 +66,16 @@ fn scalar_at(code: u8, input: &[u8], at: usize, width: usize) -> u64
     x
 }
 
-// A value whose n bytes from position `from` on are payload: they go straight from one slice into the other.
-fn fill_bytes(
-    code: u8,
-    input: &[u8],
-    from: usize,
-    n: usize,
-    tag: u64,
-    s: FillPos,
-    records: &mut [u8],
-    payload: &mut [u8],
-) -> FillPos
-    requires { ⌜ (from + n ≤ length (now input)) × ValueRecordIn (s .records) (length (now records)) × (s .payload + n ≤ length (now payload)) ⌝ }
+// The record of a value whose n bytes, from position `from` on, are payload, and where the walk stands after it.
+fn fill_stored(code: u8, from: usize, n: usize, tag: u64, s: FillPos, records: &mut [u8]) -> FillPos
+    requires { ⌜ ValueRecordIn (s .records) (length (now records)) × (from + n < 2 ^ 64) × (s .payload + n < 2 ^ 64) ⌝ }
     ensures spot { λ r. ⌜ r ≡ record { at = from + n; records = s .records + 1; payload = s .payload + n } ⌝ }
-    ensures records { λ _. ⌜ now (records .exit) ≡ over (now (records .entry)) (valueRecordStart (s .records)) (layout (valueRecord code tag n (s .payload))) ⌝ }
-    ensures payload { λ _. ⌜ now (payload .exit) ≡ over (now (payload .entry)) (s .payload) (part (now (input .entry)) from n) ⌝ }
+    ensures records { λ _. ⌜ now (records .exit) ≡ over (now (records .entry)) (valueRecordStart (s .records))
+        (layout (valueRecord code tag n (s .payload))) ⌝ }
 {
     let i = s.records;
     let to = s.payload;
     put_record(records, i, code, tag, n as u64, to as u64);
-    copy(input, from, n, payload, to);
     FillPos {
         at: from + n,
         records: i + 1,
@@ -92,7 +83,8 @@ fn fill_bytes(
     }
 }
 
-// A blob has its length before it, int128 and int256 have more bytes than a record holds, and all else is in the record.
+// A blob has its length before it, int128 and int256 have more bytes than a record holds, and all else is in the record. Payload goes
+// straight from one slice into the other.
 fn fill_leaf(
     code: u8,
     input: &[u8],
@@ -102,16 +94,20 @@ fn fill_leaf(
     payload: &mut [u8],
 ) -> FillPos
     requires { ⌜ (code < 15) × RoomToFill (leafAt (now input) code (form code) (s .at)) s (length (now records)) (length (now payload)) ⌝ }
-    ensures { λ r. ⌜ Filled (leafAt (now (input .entry)) code (form code) (s .at)) tag s r (now (records .entry)) (now (records .exit)) (now (payload .entry)) (now (payload .exit)) ⌝ }
+    ensures { λ r. ⌜ Filled (leafAt (now (input .entry)) code (form code) (s .at)) tag s r (now (records .entry))
+        (now (records .exit)) (now (payload .entry)) (now (payload .exit)) ⌝ }
 {
     let at = s.at;
+    let to = s.payload;
     if 12 < code {
-        let n = u32_at(input, at);
-        return fill_bytes(code, input, at + 4, n as usize, tag, s, records, payload);
+        let n = u32_at(input, at) as usize;
+        copy(input, at + 4, n, payload, to);
+        return fill_stored(code, at + 4, n, tag, s, records);
     }
     let width = code_width(code);
     if 8 < width {
-        return fill_bytes(code, input, at, width, tag, s, records, payload);
+        copy_wide(input, at, width, payload, to);
+        return fill_stored(code, at, width, tag, s, records);
     }
     let i = s.records;
     put_record(records, i, code, tag, 0, scalar_at(code, input, at, width));
@@ -313,8 +309,10 @@ fn fill_value(
 // row enters by the children step: the node step then has one caller, and the compiler makes one function of the two.
 pub fn fill_row(block: &[u8], input: &[u8], at: usize, records: &mut [u8], payload: &mut [u8])
     requires { ⌜ Fillable (now block) (now input) at (length (now records)) (length (now payload)) ⌝ }
-    ensures records { λ _. ⌜ now (records .exit) ≡ over (now (records .entry)) 0 (flat (rowValue (now (block .entry)) (now (input .entry)) at) 0 0) ⌝ }
-    ensures payload { λ _. ⌜ now (payload .exit) ≡ over (now (payload .entry)) 0 (payloadBytes (rowValue (now (block .entry)) (now (input .entry)) at)) ⌝ }
+    ensures records { λ _. ⌜ now (records .exit) ≡ over (now (records .entry)) 0
+        (flat (rowValue (now (block .entry)) (now (input .entry)) at) 0 0) ⌝ }
+    ensures payload { λ _. ⌜ now (payload .exit) ≡ over (now (payload .entry)) 0
+        (payloadBytes (rowValue (now (block .entry)) (now (input .entry)) at)) ⌝ }
 {
     let s = FillPos {
         at,

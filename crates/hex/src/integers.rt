@@ -51,7 +51,8 @@ fn digit_count(store: &[u8], from: usize, width: usize) -> usize
 
 // The digits, the highest first.
 fn put_digits(buffer: &mut [u8], at: usize, store: &[u8], from: usize, width: usize) -> usize
-    requires { ⌜ (0 < width) × (width ≤ 32) × (from + width ≤ length (now store)) × (at + length (numeral 16 (leAt (now store) from width)) ≤ length (now buffer)) ⌝ }
+    requires { ⌜ (0 < width) × (width ≤ 32) × (from + width ≤ length (now store))
+        × (at + length (numeral 16 (leAt (now store) from width)) ≤ length (now buffer)) ⌝ }
     ensures { λ r. ⌜ TextPut (now (buffer .entry)) at (numeral 16 (leAt (now (store .entry)) from width)) (now (buffer .exit)) r ⌝ }
 {
     let mut left = digit_count(store, from, width);

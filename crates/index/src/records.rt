@@ -46,7 +46,8 @@ pub fn compare_records(
 ) -> Compared
     requires { ⌜ Comparable (slices (now table) (now names) (now references) (now registry)) settings (now input) count (length (now index)) ⌝ }
     ensures { λ r. ⌜ r ≡ comparedWith
-        (runRule (slices (now (table .entry)) (now (names .entry)) (now (references .entry)) (now (registry .entry))) settings (now (input .entry)) .rows)
+        (runRule (slices (now (table .entry)) (now (names .entry)) (now (references .entry)) (now (registry .entry))) settings
+        (now (input .entry)) .rows)
         count (now (index .entry)) ⌝ }
 {
     let mut at: usize = 0;
@@ -79,7 +80,8 @@ pub fn put_records(
 )
     requires { ⌜ Writable (slices (now table) (now names) (now references) (now registry)) settings (now input) first start (length (now index)) ⌝ }
     ensures { λ _. ⌜ now (index .exit) ≡ over (now (index .entry)) (indexRecordStart first) (indexOf (drop first
-        (runRule (slices (now (table .entry)) (now (names .entry)) (now (references .entry)) (now (registry .entry))) settings (now (input .entry)) .rows))) ⌝ }
+        (runRule (slices (now (table .entry)) (now (names .entry)) (now (references .entry)) (now (registry .entry))) settings
+        (now (input .entry)) .rows))) ⌝ }
 {
     let mut at: usize = start;
     let mut i: usize = first;

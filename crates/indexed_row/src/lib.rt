@@ -45,9 +45,11 @@ pub fn decode_record(
     records: &mut [u8],
     payload: &mut [u8],
 ) -> Read
-    requires { ⌜ ThroughDoor (slices (now table) (now names) (now references) (now registry)) (now input) settings × (indexed .offset ≤ length (now input)) ⌝ }
+    requires { ⌜ ThroughDoor (slices (now table) (now names) (now references) (now registry)) (now input) settings
+        × (indexed .offset ≤ length (now input)) ⌝ }
     ensures { λ r. ⌜ record { answer = r; records = now (records .exit); payload = now (payload .exit) }
-        ≡ rowOfRecord (slices (now (table .entry)) (now (names .entry)) (now (references .entry)) (now (registry .entry))) (now (input .entry)) (limits settings)
+        ≡ rowOfRecord (slices (now (table .entry)) (now (names .entry)) (now (references .entry)) (now (registry .entry)))
+        (now (input .entry)) (limits settings)
         (now (records .entry)) (now (payload .entry)) indexed ⌝ }
 {
     let at = indexed.offset as usize;

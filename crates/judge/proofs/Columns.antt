@@ -28,7 +28,7 @@ use Rattle.rules.proofs.Checks.{refused-not}
 use Rattle.leaves.specs.Fields.{payloadOfFixed}
 use Rattle.leaves.specs.Shapes.{as-tuple, shapeOf}
 use Rattle.read.specs.Ready.{HasNode, SoundNodes}
-use Rattle.leaves.proofs.Codes.{form-fields, shape-variant, shape-tuple}
+use Rattle.leaves.proofs.Codes.{form-tuple, shape-variant, shape-tuple}
 use Rattle.value.specs.Records.{recordOk}
 use Rattle.value.specs.Walk.{walkChildren, walkTable}
 use Rattle.value.specs.declared.TablePos.{TablePos}
@@ -173,7 +173,7 @@ column-chosen first count j t r = rw (shape-tuple 19 (omega arith))
 
 root-kind : 17 ≡ kindFor 19 (form 19)
 unfolding kindFor
-root-kind = rw (form-fields 19 (omega arith) (omega arith))
+root-kind = rw (form-tuple 19 (omega arith) (omega arith))
 
 root-closes : 0 ≡ closingBytes (shapeOf 19)
 unfolding closingBytes

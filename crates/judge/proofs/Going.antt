@@ -25,7 +25,7 @@ use Rattle.value_laws.proofs.Span.{span-in, lands-here}
 use Rattle.value_laws.proofs.Children.{children}
 use Rattle.leaves.specs.Shapes.{Shape, as-variant, as-repeated, as-tuple, shapeOf}
 use Rattle.read.specs.Ready.{SoundNodes}
-use Rattle.leaves.proofs.Codes.{form-choice, form-series, form-fields}
+use Rattle.leaves.proofs.Codes.{form-variant, form-repeated, form-tuple}
 use Rattle.judge.specs.Table.{IsWhole, wholeValue, wholeEnd, valueStandingAt}
 use Rattle.judge.specs.Judging.{only, judgePos, judged, taggedOf, chosenOf, countOk, closingBytes, Judgeable, Opened, judgedAt}
 use Rattle.judge.specs.Tags.{tagBytes, closing}
@@ -140,14 +140,14 @@ unfolding kindFor
 compound-kind code l h = by (ltb code 17) (ltb code 19) refl refl
   where
     by : (a b : Bool) → ltb code 17 ≡ a → ltb code 19 ≡ b → 15 ≤ kindFor code (form code)
-    by true b e f = rw (form-choice code l (ltb-true _ _ e)) (omega arith)
-    by false true e f = rw (form-series code (ltb-false _ _ e) (ltb-true _ _ f)) (omega arith)
-    by false false e f = rw (form-fields code (ltb-false _ _ f) h) (omega arith)
+    by true b e f = rw (form-variant code l (ltb-true _ _ e)) (omega arith)
+    by false true e f = rw (form-repeated code (ltb-false _ _ e) (ltb-true _ _ f)) (omega arith)
+    by false false e f = rw (form-tuple code (ltb-false _ _ f) h) (omega arith)
 
 -- and a variant's node kind 15
 pub variant-kind : (code : ℕ) → 14 < code → code < 17 → kindFor code (form code) ≡ 15
 unfolding kindFor
-variant-kind code l h = rw (form-choice code l h)
+variant-kind code l h = rw (form-variant code l h)
 
 module _ (sch : List ℕ) (blob i : ℕ) (table store : List ℕ) where
   -- after j children: those that are left, and that they come to the whole

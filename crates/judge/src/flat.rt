@@ -116,7 +116,8 @@ fn column_fits(
     p: JudgePos,
 ) -> AtOnce
     requires { ⌜ Flat (now block) node (now records) (now payload) p ⌝ }
-    ensures { λ r. ⌜ ((q : JudgePos) → r ≡ AtOnce.Fits q → Seen (now (block .entry)) node (now (records .entry)) (now (payload .entry)) «max_blob_bytes» p q) ⌝ }
+    ensures { λ r. ⌜ ((q : JudgePos) → r ≡ AtOnce.Fits q → Seen (now (block .entry)) node (now (records .entry))
+        (now (payload .entry)) «max_blob_bytes» p q) ⌝ }
 {
     if records_in(records.len() as u64) <= p.at as u64 {
         return AtOnce::Later;
@@ -134,7 +135,8 @@ fn column_fits(
 // The row: its root's record, its columns, and nothing after them.
 pub fn flat_row(block: &[u8], settings: Settings, records: &[u8], payload: &[u8]) -> AtOnce
     requires { ⌜ RowFlat (now block) (now records) (now payload) ⌝ }
-    ensures { λ r. ⌜ ((q : JudgePos) → r ≡ AtOnce.Fits q → RowSeen (now (block .entry)) (limits settings) (now (records .entry)) (now (payload .entry)) q) ⌝ }
+    ensures { λ r. ⌜ ((q : JudgePos) → r ≡ AtOnce.Fits q → RowSeen (now (block .entry)) (limits settings) (now (records .entry))
+        (now (payload .entry)) q) ⌝ }
 {
     let bytes = records.len() as u64;
     if !whole_records(bytes) {

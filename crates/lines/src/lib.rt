@@ -102,7 +102,8 @@ fn put_item(
     text: &[u8],
 ) -> usize
     requires { ⌜ at + length (now before) + length (now label) + length (now text) + 22 ≤ length (now buffer) ⌝ }
-    ensures { λ r. ⌜ TextPut (now (buffer .entry)) at (item (now (before .entry)) (word (now (label .entry))) value (word (now (text .entry)))) (now (buffer .exit)) r ⌝ }
+    ensures { λ r. ⌜ TextPut (now (buffer .entry)) at (item (now (before .entry)) (word (now (label .entry))) value
+        (word (now (text .entry)))) (now (buffer .exit)) r ⌝ }
     ensures { λ r. ⌜ r ≤ at + length (now (before .entry)) + length (now (label .entry)) + length (now (text .entry)) + 22 ⌝ }
 {
     if no_word(label) {
@@ -117,7 +118,8 @@ fn put_item(
 // A carried value behind a text, by what it is.
 fn put_labelled(buffer: &mut [u8], at: usize, before: &[u8], label: Label, value: u64) -> usize
     requires { ⌜ at + length (now before) + 62 ≤ length (now buffer) ⌝ }
-    ensures { λ r. ⌜ TextPut (now (buffer .entry)) at (item (now (before .entry)) (labelled label) value (wordOf label value)) (now (buffer .exit)) r ⌝ }
+    ensures { λ r. ⌜ TextPut (now (buffer .entry)) at (item (now (before .entry)) (labelled label) value (wordOf label value))
+        (now (buffer .exit)) r ⌝ }
     ensures { λ r. ⌜ r ≤ at + length (now (before .entry)) + 62 ⌝ }
 {
     let name = label_word(label);

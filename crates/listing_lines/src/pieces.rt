@@ -90,7 +90,8 @@ fn put_read(
 ) -> Shown
     requires { ⌜ (length (now records) ≡ 65536) × (length (now payload) ≡ 65536) × (655360 ≤ length (now text)) ⌝ }
     ensures { λ r. ⌜ record { shown = r; text = now (text .exit) }
-        ≡ showPiece (pieceAt (oneTable (block.records (now (schema .entry))) (now (schema .entry)) (now (names .entry))) (now (stream .entry)) row at) (now (text .entry)) ⌝ }
+        ≡ showPiece (pieceAt (oneTable (block.records (now (schema .entry))) (now (schema .entry)) (now (names .entry)))
+        (now (stream .entry)) row at) (now (text .entry)) ⌝ }
     ensures { λ r. ⌜ shownLength r ≤ 655360 ⌝ }
 {
     let reference = inline_table(schema.len() / NODE_SIZE);

@@ -65,7 +65,8 @@ fn list_value(
 // and two for each byte of payload.
 pub fn list_row(records: &[u8], store: &[u8], row: u64, text: &mut [u8]) -> usize
     requires { ⌜ RowListable (now records) (now store) (length (now text)) ⌝ }
-    ensures { λ n. ⌜ TextPut (now (text .entry)) 0 (rowLines row (wholeValue (rootValue (now (records .entry)) (now (store .entry))))) (now (text .exit)) n ⌝ }
+    ensures { λ n. ⌜ TextPut (now (text .entry)) 0 (rowLines row
+        (wholeValue (rootValue (now (records .entry)) (now (store .entry))))) (now (text .exit)) n ⌝ }
     ensures { λ n. ⌜ n ≤ 655360 ⌝ }
 {
     let root = RowNode {

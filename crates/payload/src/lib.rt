@@ -69,3 +69,25 @@ pub fn copy(input: &[u8], from: usize, n: usize, payload: &mut [u8], to: usize)
     }
     copy_word(input, from + last, payload, to + last);
 }
+
+// Two words, both read before either is written, so that a compiler may move them at once.
+fn copy_pair(input: &[u8], from: usize, payload: &mut [u8], to: usize)
+    requires { ⌜ (from + 16 ≤ length (now input)) × (to + 16 ≤ length (now payload)) ⌝ }
+    ensures { λ _. ⌜ now (payload .exit) ≡ over (now (payload .entry)) to (part (now (input .entry)) from 16) ⌝ }
+{
+    let low = u64_at(input, from);
+    let high = u64_at(input, from + 8);
+    put64(payload, to, low);
+    put64(payload, to + 8, high);
+}
+
+// As `copy`, for int128 and int256: the first pair of words and the last, which of 16 bytes are the same and of 32 the halves. So nothing
+// depends on the length but where the last pair stands.
+pub fn copy_wide(input: &[u8], from: usize, n: usize, payload: &mut [u8], to: usize)
+    requires { ⌜ (16 ≤ n) × (n ≤ 32) × (from + n ≤ length (now input)) × (to + n ≤ length (now payload)) ⌝ }
+    ensures { λ _. ⌜ now (payload .exit) ≡ over (now (payload .entry)) to (part (now (input .entry)) from n) ⌝ }
+{
+    let last = n - 16;
+    copy_pair(input, from, payload, to);
+    copy_pair(input, from + last, payload, to + last);
+}

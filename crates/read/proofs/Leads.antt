@@ -24,7 +24,7 @@ use Rattle.leaves.specs.declared.fields.ReadNumber.the-variants.{Is}
 use Rattle.leaves.specs.declared.leaf.SkipPos.{SkipPos}
 use Rattle.read.specs.declared.walk.ToSkip.{ToSkip}
 use Rattle.read.specs.declared.walk.ToSkip.the-variants.{Leaf, Children}
-use Rattle.leaves.proofs.Codes.{form-choice}
+use Rattle.leaves.proofs.Codes.{form-variant}
 use Rattle.leaves.proofs.Steps.{number-past}
 use Rattle.read.proofs.Turn.{moved}
 use Rattle.read.proofs.Nodes.{skim-paid, node-leaf}
@@ -43,7 +43,7 @@ module _ (s inp : List ℕ) (rec : Skimmer) (i code : ℕ) (k : Coded s i code) 
   variant-child : (first count tag next : ℕ) → first ≡ nodeAt s i .first → count ≡ nodeAt s i .children → 14 < code → code < 17 →
       Is tag next ≡ readNumberAt inp (widthOf (form code)) (14 + widthOf (form code)) (p .at) → tag < count → skimNode s inp rec i p ≡ rec (first + tag) (moved p next)
   unfolding skimNode skimForm skimVariant reading skimChild pick
-  variant-child first count tag next a b h l e m = rw (← k .is, ← a, ← b, form-choice code h l, ← e, lt-ltb tag count m)
+  variant-child first count tag next a b h l e m = rw (← k .is, ← a, ← b, form-variant code h l, ← e, lt-ltb tag count m)
 
 -- and where that one is a leaf, paid for, its bytes are all that is left
 pub leads-child : (s inp : List ℕ) (charge depth i code : ℕ) (k : Coded s i code) (p : SkipPos) (r : Ready inp charge p) (first count : ℕ) → first ≡ nodeAt s i .first → count ≡ nodeAt s i .children → 14 < code → code < 17 → (depth ≡ 0 → ⊥) →

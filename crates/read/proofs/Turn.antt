@@ -28,7 +28,7 @@ use Rattle.read.specs.declared.walk.Pick.the-variants.{Child, End}
 use Rattle.read.specs.declared.walk.Pick.the-variants as pick-is
 use Rattle.leaves.specs.declared.leaf.Skipped.{Skipped}
 use Rattle.leaves.specs.declared.leaf.Skipped.the-variants.{At, Refused}
-use Rattle.leaves.proofs.Codes.{form-choice, form-series, form-fields, shape-variant, shape-repeated, shape-tuple, tag-some}
+use Rattle.leaves.proofs.Codes.{form-variant, form-repeated, form-tuple, shape-variant, shape-repeated, shape-tuple, tag-some}
 
 -- a position, moved
 abbrev pub moved : SkipPos → ℕ → SkipPos
@@ -149,9 +149,9 @@ module _ (inp : List ℕ) (rec : Skimmer) (code first count : ℕ) where
   steps-all p h m = by (ltb code 17) (ltb code 19) refl refl
     where
       by : (a b : Bool) → ltb code 17 ≡ a → ltb code 19 ≡ b → steps (shapeOf code) 0 (suc (length inp - p .at)) p ≡ skimForm inp rec code first count (form code) p
-      by true b e f = let l = ltb-true code 17 e in rw (shape-variant code l, form-choice code h l)
-      by false true e f = let k = ltb-false code 17 e in let l = ltb-true code 19 f in rw (shape-repeated code k l, form-series code k l)
-      by false false e f = let k = ltb-false code 19 f in rw (shape-tuple code k, form-fields code k m, add-zero, sub-zero)
+      by true b e f = let l = ltb-true code 17 e in rw (shape-variant code l, form-variant code h l)
+      by false true e f = let k = ltb-false code 17 e in let l = ltb-true code 19 f in rw (shape-repeated code k l, form-repeated code k l)
+      by false false e f = let k = ltb-false code 19 f in rw (shape-tuple code k, form-tuple code k m, add-zero, sub-zero)
 
   -- what the loop met comes to the whole
   module _ (s : Shape) (i enough : ℕ) (p : SkipPos) (left : ℕ) (f : Fuelled s left enough) (whole : Skipped) (all : steps s i enough p ≡ whole) (t : Pick) (is : t ≡ picked code first count inp s i (p .at)) where

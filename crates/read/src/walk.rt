@@ -108,7 +108,8 @@ fn leaf_at(
     charge: u64,
 ) -> ToSkip
     requires { ⌜ Coded (now block) node code × Ready (now input) charge p ⌝ }
-    ensures { λ r. ⌜ LeadsToSkip (now (block .entry)) (now (input .entry)) (skim (now (block .entry)) (now (input .entry)) charge (depth - 1)) node p r ⌝ }
+    ensures { λ r. ⌜ LeadsToSkip (now (block .entry)) (now (input .entry))
+        (skim (now (block .entry)) (now (input .entry)) charge (depth - 1)) node p r ⌝ }
 {
     if code < 15 {
         return ToSkip::Leaf(code, p);
@@ -213,7 +214,8 @@ fn skip_children(
     charge: u64,
 ) -> Skipped
     requires { ⌜ (0 < depth) × Coded (now block) node code × (14 < code) × Ready (now input) charge p ⌝ }
-    ensures { λ r. ⌜ r ≡ skimNode (now (block .entry)) (now (input .entry)) (skim (now (block .entry)) (now (input .entry)) charge (depth - 1)) node p ⌝ }
+    ensures { λ r. ⌜ r ≡ skimNode (now (block .entry)) (now (input .entry))
+        (skim (now (block .entry)) (now (input .entry)) charge (depth - 1)) node p ⌝ }
 {
     let first = node_first(block, node);
     let count = node_children(block, node);
@@ -260,7 +262,8 @@ fn skip_children(
 // the children step: so the node step has one caller, is compiled into it, and a leaf costs no call.
 pub fn skip_root(block: &[u8], input: &[u8], at: usize, settings: Settings) -> Skipped
     requires { ⌜ Rooted (now block) (now input) settings at ⌝ }
-    ensures { λ r. ⌜ r ≡ skimmed (limits settings) (walk (now (block .entry)) (now (input .entry)) (limits settings) 64 0 (start (limits settings) at)) ⌝ }
+    ensures { λ r. ⌜ r ≡ skimmed (limits settings) (walk (now (block .entry)) (now (input .entry)) (limits settings) 64 0
+        (start (limits settings) at)) ⌝ }
 {
     let charge = settings.node_charge;
     let budget = RowBudget::new(settings.max_blob_bytes, settings.max_row_bytes);

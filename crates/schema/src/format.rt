@@ -18,7 +18,8 @@ use rules::Reference;
 // table with a name costs no walk over the registry.
 pub fn lookup(names: &[u8], registry: &[u8], start: u64, len: u64) -> Located
     requires { ⌜ EntriesNamed (now names) (now registry) × (start + len ≤ length (now names)) ⌝ }
-    ensures { λ r. ⌜ r ≡ lookup (now (names .entry)) (now (registry .entry)) (part (now (names .entry)) start len) 0 (entryCount (now (registry .entry))) ⌝ }
+    ensures { λ r. ⌜ r ≡ lookup (now (names .entry)) (now (registry .entry)) (part (now (names .entry)) start len) 0
+        (entryCount (now (registry .entry))) ⌝ }
 {
     let mut low: u64 = 0;
     let mut high = (registry.len() / ENTRY_SIZE) as u64;

@@ -30,7 +30,8 @@ fn is_less(o: Order) -> bool
 
 // Entry j's name is greater than the one before it.
 fn ascending(names: &[u8], registry: &[u8], j: u64) -> bool
-    requires { ⌜ EntryIn j (length (now registry)) × ((i : ℕ) → i ≤ j → entryAt (now registry) i .start + entryAt (now registry) i .len ≤ length (now names)) ⌝ }
+    requires { ⌜ EntryIn j (length (now registry)) × ((i : ℕ) → i ≤ j
+        → entryAt (now registry) i .start + entryAt (now registry) i .len ≤ length (now names)) ⌝ }
     ensures { λ r. ⌜ r ≡ ascending (slices [] (now (names .entry)) [] (now (registry .entry))) j ⌝ }
 {
     if j == 0 {

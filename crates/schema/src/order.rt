@@ -82,7 +82,8 @@ fn reference_rule(table: &[u8], names: &[u8], references: &[u8], registry: &[u8]
 
 fn references_rule(table: &[u8], names: &[u8], references: &[u8], registry: &[u8]) -> Checked
     requires { ⌜ Forms (slices (now table) (now names) (now references) (now registry)) ⌝ }
-    ensures { λ r. ⌜ r ≡ inOrder (referenceRule (slices (now (table .entry)) (now (names .entry)) (now (references .entry)) (now (registry .entry)))) 0 (referenceCount (now (references .entry))) ⌝ }
+    ensures { λ r. ⌜ r ≡ inOrder (referenceRule (slices (now (table .entry)) (now (names .entry)) (now (references .entry))
+        (now (registry .entry)))) 0 (referenceCount (now (references .entry))) ⌝ }
 {
     let m = (references.len() / REFERENCE_SIZE) as u64;
     let mut t = 0;

@@ -17,7 +17,8 @@ pub extern "C" fn skiff1_check_format(
     answer: &mut [u8],
 ) -> u32
     ensures { λ r. ⌜ record { number = r; answer = now (answer .exit) }
-        ≡ checkFormatGiven (slices (now (table .entry)) (now (names .entry)) (now (references .entry)) (now (registry .entry))) (now (answer .entry)) ⌝ }
+        ≡ checkFormatGiven (slices (now (table .entry)) (now (names .entry)) (now (references .entry)) (now (registry .entry)))
+        (now (answer .entry)) ⌝ }
 {
     if answer.len() < ANSWER {
         return 1;

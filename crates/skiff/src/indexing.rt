@@ -134,7 +134,8 @@ pub extern "C" fn skiff1_decode_indexed(
 ) -> u32
     ensures { λ r. ⌜ record { number = r; answer = now (answer .exit); records = now (records .exit); payload = now (payload .exit) }
         ≡ decodeIndexedGiven (slices (now (table .entry)) (now (names .entry)) (now (references .entry)) (now (registry .entry)))
-        (settingsOf «node_charge» «max_blob_bytes» «max_row_bytes») (now (input .entry)) (now (index .entry)) row (now (answer .entry)) (now (records .entry)) (now (payload .entry)) ⌝ }
+        (settingsOf «node_charge» «max_blob_bytes» «max_row_bytes») (now (input .entry)) (now (index .entry)) row
+        (now (answer .entry)) (now (records .entry)) (now (payload .entry)) ⌝ }
 {
     if answer.len() < ANSWER {
         return 1;

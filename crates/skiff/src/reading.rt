@@ -94,7 +94,8 @@ pub extern "C" fn skiff1_decode(
 ) -> u32
     ensures { λ r. ⌜ record { number = r; answer = now (answer .exit); records = now (records .exit); payload = now (payload .exit) }
         ≡ decodeGiven (slices (now (table .entry)) (now (names .entry)) (now (references .entry)) (now (registry .entry)))
-        (settingsOf «node_charge» «max_blob_bytes» «max_row_bytes») (now (input .entry)) position (now (answer .entry)) (now (records .entry)) (now (payload .entry)) ⌝ }
+        (settingsOf «node_charge» «max_blob_bytes» «max_row_bytes») (now (input .entry)) position (now (answer .entry))
+        (now (records .entry)) (now (payload .entry)) ⌝ }
 {
     if answer.len() < ANSWER {
         return 1;

@@ -40,5 +40,5 @@ pub minus-sign : (x : List ℕ) → Bytes x → (getD (integerText x) 0 0 ≡ 45
 unfolding integerText signedBytes integerIn
 minus-sign x bs =
     signed-is (length x) (leAt x 0 (length x)) (leAt-lt x bs 0 (length x)) (λ (z : ℤ). (getD (integerIn 16 z) 0 0 ≡ 45) ↔ (256 ^ length x ≤ 2 * leAt x 0 (length x)))
-    (λ h. ((λ e. let l = first-least 16 (omega arith) (suc (leAt x 0 (length x))) (leAt x 0 (length x)) (omega arith) in absurd (omega (arith, e, l))), (λ g. absurd (omega (arith, g, h)))))
+    (λ h. ((λ e. let l = first-least 16 (omega arith) (leAt x 0 (length x)) in absurd (omega (arith, e, l))), (λ g. absurd (omega (arith, g, h)))))
     (λ h. ((λ e. h), (λ g. refl)))

@@ -152,12 +152,12 @@ module _ (base : ℕ) (more : 1 < base) where
   no-leading-zero n h rest e = let l = rw e at (leads (suc n) n (omega arith) h) in omega (arith, l)
 
   -- no digit is a minus sign
-  pub first-least : (k n : ℕ) → n < k → 48 ≤ getD (numeral base n) 0 0
-  first-least k n h = by n refl
+  pub first-least : (n : ℕ) → 48 ≤ getD (numeral base n) 0 0
+  first-least n = by n refl
     where
       by : (i : ℕ) → n ≡ i → 48 ≤ getD (numeral base n) 0 0
       by zero e = rw (e, numeral-small 0 (omega (arith, more))) (digit-least 0)
       by (suc i) e = let l = leads (suc n) n (omega arith) (omega (arith, e)) in omega (arith, l)
 
   pub no-sign : (n : ℕ) (rest : List ℕ) → numeral base n ≡ 45 ∷ rest → ⊥
-  no-sign n rest e = let l = rw e at (first-least (suc n) n (omega arith)) in omega (arith, l)
+  no-sign n rest e = let l = rw e at (first-least n) in omega (arith, l)

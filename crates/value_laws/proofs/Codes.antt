@@ -53,14 +53,14 @@ unfolding codeOk
 sized-code k e = ltb-true k 15 (rw e at (code-ok k))
 
 -- a variant's tag has at most two bytes
-pub choice-width : (k w : ℕ) → form k ≡ variant-form w → w ≤ 2
+pub variant-width : (k w : ℕ) → form k ≡ variant-form w → w ≤ 2
 unfolding codeOk
-choice-width k w e = leb-true w 2 (rw e at (code-ok k))
+variant-width k w e = leb-true w 2 (rw e at (code-ok k))
 
 -- so has the tag of a repeated variant
-pub series-width : (k w : ℕ) → form k ≡ repeated-form w → w ≤ 2
+pub repeated-width : (k w : ℕ) → form k ≡ repeated-form w → w ≤ 2
 unfolding codeOk
-series-width k w e = leb-true w 2 (rw e at (code-ok k))
+repeated-width k w e = leb-true w 2 (rw e at (code-ok k))
 
 -- ---- which codes take a value of a kind
 

@@ -11,7 +11,7 @@ use Rattle.rules.specs.Schema.{Schema, Schemas, nil, cons, count, child, deep, 
 use Rattle.rules.specs.Value.{Value, Items, Values, tall, tallI, tallV, tally, tallyI, tallyV, recordsOf, payloadOf}
 use Rattle.rules.specs.Grammar.{Conforms, conforms, Suits, s-nothing, s-boolean, s-number, s-wide, s-blob, s-variant, s-repeated, s-tuple, SuitI, s-done, s-item, SuitV, s-none, s-more, formOf, childrenOf, bytesV, bytesI, bytesF, encoded}
 use Rattle.rules.proofs.Stands.{length-le}
-use Rattle.value_laws.proofs.Codes.{fixed-code, choice-width, series-width}
+use Rattle.value_laws.proofs.Codes.{fixed-code, variant-width, repeated-width}
 
 -- the child that a tag names is one of them
 child-deep : (ss : Schemas) (t : ℕ) → t < count ss → deep (child ss t) ≤ deeps ss
@@ -59,8 +59,8 @@ mutual
   suits-length s-wide e = omega arith
   suits-length (s-blob {x = x}) e = rw (length-append (le 4 (length x)) x, length-le 4 (length x)) (omega arith)
   suits-length (s-variant {w = w} {k = k} {t = t} {ss = ss} {v = v} l c) e =
-      rw (length-append (le w t) (encoded (child ss t) v), length-le w t) (omega (arith, encoded-length c, choice-width k w e))
-  suits-length (s-repeated {w = w} {k = k} h) e = omega (arith, items-length h w (series-width k w e))
+      rw (length-append (le w t) (encoded (child ss t) v), length-le w t) (omega (arith, encoded-length c, variant-width k w e))
+  suits-length (s-repeated {w = w} {k = k} h) e = omega (arith, items-length h w (repeated-width k w e))
   suits-length (s-tuple h) e = omega (arith, values-length h)
 
   items-length : {ss : Schemas} {is : Items} → SuitI ss is → (w : ℕ) → w ≤ 2 → length (bytesI is w ss) ≤ 2 + (tallyI is 0 1 1 + 10 * tallyI is 1 0 0)

@@ -56,7 +56,8 @@ pub fn run_on(
     window: &[u8],
 ) -> Ran
     requires { ⌜ Counted before (length (now window)) ⌝ }
-    ensures { λ r. ⌜ r ≡ added before (ranOf (runRule (slices (now (table .entry)) (now (names .entry)) (now (references .entry)) (now (registry .entry))) settings (now (window .entry)))) ⌝ }
+    ensures { λ r. ⌜ r ≡ added before (ranOf (runRule (slices (now (table .entry)) (now (names .entry)) (now (references .entry))
+        (now (registry .entry))) settings (now (window .entry)))) ⌝ }
     ensures { λ r. ⌜ Further before r (length (now (window .entry))) ⌝ }
 {
     let ran = run(settings, table, names, references, registry, window);
@@ -100,7 +101,8 @@ pub fn run_after(
     registry: &[u8],
     window: &[u8],
 ) -> Ran
-    ensures { λ r. ⌜ r ≡ runAfter (slices (now (table .entry)) (now (names .entry)) (now (references .entry)) (now (registry .entry))) settings rows bytes (now (window .entry)) ⌝ }
+    ensures { λ r. ⌜ r ≡ runAfter (slices (now (table .entry)) (now (names .entry)) (now (references .entry))
+        (now (registry .entry))) settings rows bytes (now (window .entry)) ⌝ }
 {
     if bytes < rows {
         return no_rows(Stop::Refused(Refusal::SETTING));

@@ -37,7 +37,8 @@ fn move_bytes(space: &mut [u8], from: usize, to: usize, n: usize)
 // The run over the space's window, which ends at `end`.
 pub fn run_window(settings: Settings, before: Ran, space: &[u8], ends: Ends, end: usize) -> Ran
     requires { ⌜ Laid ends end (length (now space)) × Counted before (end - ends .registry) ⌝ }
-    ensures { λ r. ⌜ r ≡ added before (ranOf (runRule (formatIn (now (space .entry)) ends) settings (cut (now (space .entry)) (ends .registry) end))) ⌝ }
+    ensures { λ r. ⌜ r ≡ added before (ranOf (runRule (formatIn (now (space .entry)) ends) settings
+        (cut (now (space .entry)) (ends .registry) end))) ⌝ }
     ensures { λ r. ⌜ Further before r (end - ends .registry) ⌝ }
 {
     let x = ends.records;
@@ -78,9 +79,11 @@ pub fn run_filled_window(
     end: usize,
 ) -> WindowRun
     requires { ⌜ Laid ends end (length (now space)) × Counted ran (end - ends .registry) ⌝ }
-    ensures { λ r. ⌜ GoesOver (formatIn (now (space .entry)) ends) settings ran (cut (now (space .entry)) (ends .registry) end) (r .ran) (cut (now (space .exit)) (ends .registry) (r .end)) ⌝ }
+    ensures { λ r. ⌜ GoesOver (formatIn (now (space .entry)) ends) settings ran (cut (now (space .entry)) (ends .registry) end)
+        (r .ran) (cut (now (space .exit)) (ends .registry) (r .end)) ⌝ }
     ensures { λ _. ⌜ formatIn (now (space .exit)) ends ≡ formatIn (now (space .entry)) ends ⌝ }
-    ensures { λ r. ⌜ (ends .registry ≤ r .end) × (r .end ≤ end) × (r .ran .rows ≤ r .ran .bytes) × (r .ran .bytes + (r .end - ends .registry) ≤ ran .bytes + (end - ends .registry)) ⌝ }
+    ensures { λ r. ⌜ (ends .registry ≤ r .end) × (r .end ≤ end) × (r .ran .rows ≤ r .ran .bytes)
+        × (r .ran .bytes + (r .end - ends .registry) ≤ ran .bytes + (end - ends .registry)) ⌝ }
 {
     let w = ends.registry;
     let stop = ran.stop;

@@ -11,6 +11,7 @@ ghost use Rattle.write.specs.Leads.{LeadsToPut};
 ghost use Rattle.judge.specs.Tags.{tagBytes, closing};
 ghost use Rattle.write.specs.Putting.{childOf, leafKept, leafSize, leafBytes, Writable, Parted, Placed, RowWritable, rowBytes};
 use payload::copy;
+use payload::copy_wide;
 use record::node::node_code;
 use record::node::node_first;
 use record::value_record::value_record_at;
@@ -72,7 +73,8 @@ fn put_leaf(
     p: WritePos,
     out: &mut [u8],
 ) -> WritePos
-    requires { ⌜ (code < 15) × (p .at + 1 < 2 ^ 64) × (p .from + leafKept code size ≤ length (now payload)) × (p .to + leafSize code size ≤ length (now out)) ⌝ }
+    requires { ⌜ (code < 15) × (p .at + 1 < 2 ^ 64) × (p .from + leafKept code size ≤ length (now payload))
+        × (p .to + leafSize code size ≤ length (now out)) ⌝ }
     ensures spot { λ r. ⌜ r ≡ record { at = p .at + 1; from = p .from + leafKept code size; to = p .to + leafSize code size } ⌝ }
     ensures out { λ _. ⌜ now (out .exit) ≡ over (now (out .entry)) (p .to) (leafBytes (now (payload .entry)) code size content (p .from)) ⌝ }
 {
@@ -91,7 +93,7 @@ fn put_leaf(
     }
     let width = code_width(code);
     if 8 < width {
-        copy(payload, from, width, out, to);
+        copy_wide(payload, from, width, out, to);
         return WritePos {
             at: at + 1,
             from: from + width,
@@ -172,8 +174,10 @@ fn leaf_at(
     p: WritePos,
     out: &mut [u8],
 ) -> ToPut
-    requires { ⌜ Writable (now block) node depth (now records) (now payload) p (length (now out)) × (own ≡ valueRecordAt (now records) (p .at)) × (code ≡ nodeAt (now block) node .code) ⌝ }
-    ensures { λ r. ⌜ LeadsToPut (now (block .entry)) node depth (now (records .entry)) (now (payload .entry)) p (now (out .entry)) (now (out .exit)) r ⌝ }
+    requires { ⌜ Writable (now block) node depth (now records) (now payload) p (length (now out))
+        × (own ≡ valueRecordAt (now records) (p .at)) × (code ≡ nodeAt (now block) node .code) ⌝ }
+    ensures { λ r. ⌜ LeadsToPut (now (block .entry)) node depth (now (records .entry)) (now (payload .entry)) p (now (out .entry))
+        (now (out .exit)) r ⌝ }
 {
     if code < 15 {
         return ToPut::Leaf(code, own.size, own.content, p);
@@ -245,7 +249,8 @@ fn put_children(
     size: u64,
     out: &mut [u8],
 ) -> WritePos
-    requires { ⌜ Writable (now block) node depth (now records) (now payload) p (length (now out)) × Parted (now block) node code (now records) p size ⌝ }
+    requires { ⌜ Writable (now block) node depth (now records) (now payload) p (length (now out))
+        × Parted (now block) node code (now records) p size ⌝ }
     ensures { λ r. ⌜ Placed (now (block .entry)) node depth (now (records .entry)) (now (payload .entry)) p r (now (out .entry)) (now (out .exit)) ⌝ }
 {
     let first = node_first(block, node);
@@ -280,7 +285,8 @@ fn put_children(
 pub fn put_row(block: &[u8], records: &[u8], payload: &[u8], out: &mut [u8], to: usize) -> usize
     requires { ⌜ RowWritable (now block) (now records) (now payload) to (length (now out)) ⌝ }
     ensures next { λ r. ⌜ r ≡ to + length (rowBytes (now (block .entry)) (now (records .entry)) (now (payload .entry))) ⌝ }
-    ensures out { λ _. ⌜ now (out .exit) ≡ over (now (out .entry)) to (rowBytes (now (block .entry)) (now (records .entry)) (now (payload .entry))) ⌝ }
+    ensures out { λ _. ⌜ now (out .exit) ≡ over (now (out .entry)) to
+        (rowBytes (now (block .entry)) (now (records .entry)) (now (payload .entry))) ⌝ }
 {
     put16(out, to, 0);
     let p = WritePos {
@@ -306,7 +312,8 @@ fn put_column_leaf(
     p: WritePos,
     out: &mut [u8],
 ) -> WritePos
-    requires { ⌜ (code < 15) × (p .at + 1 < 2 ^ 64) × (p .from + leafKept code size ≤ length (now payload)) × (p .to + leafSize code size ≤ length (now out)) ⌝ }
+    requires { ⌜ (code < 15) × (p .at + 1 < 2 ^ 64) × (p .from + leafKept code size ≤ length (now payload))
+        × (p .to + leafSize code size ≤ length (now out)) ⌝ }
     ensures spot { λ r. ⌜ r ≡ record { at = p .at + 1; from = p .from + leafKept code size; to = p .to + leafSize code size } ⌝ }
     ensures out { λ _. ⌜ now (out .exit) ≡ over (now (out .entry)) (p .to) (leafBytes (now (payload .entry)) code size content (p .from)) ⌝ }
 {
@@ -325,7 +332,7 @@ fn put_column_leaf(
     }
     let width = code_width(code);
     if 8 < width {
-        copy(payload, from, width, out, to);
+        copy_wide(payload, from, width, out, to);
         return WritePos {
             at: at + 1,
             from: from + width,
@@ -380,7 +387,8 @@ pub fn put_flat_row(
 ) -> usize
     requires { ⌜ RowWritable (now block) (now records) (now payload) start (length (now out)) ⌝ }
     ensures next { λ r. ⌜ r ≡ start + length (rowBytes (now (block .entry)) (now (records .entry)) (now (payload .entry))) ⌝ }
-    ensures out { λ _. ⌜ now (out .exit) ≡ over (now (out .entry)) start (rowBytes (now (block .entry)) (now (records .entry)) (now (payload .entry))) ⌝ }
+    ensures out { λ _. ⌜ now (out .exit) ≡ over (now (out .entry)) start
+        (rowBytes (now (block .entry)) (now (records .entry)) (now (payload .entry))) ⌝ }
 {
     put16(out, start, 0);
     let own = value_record_at(records, 0);

@@ -52,10 +52,13 @@ pub fn place_row(
     out: &mut [u8],
     at: usize,
 ) -> Written
-    requires { ⌜ RowJudgeable (now block) (now records) (now payload) × (Judged.Fits p ≡ judgedRow (now block) (limits settings) (now records) (now payload))
+    requires { ⌜ RowJudgeable (now block) (now records) (now payload)
+        × (Judged.Fits p ≡ judgedRow (now block) (limits settings) (now records) (now payload))
         × (at ≤ min (length (now out)) 4294967295) ⌝ }
-    ensures answer { λ r. ⌜ r ≡ placedRow (now (block .entry)) (limits settings) (now (records .entry)) (now (payload .entry)) (now (out .entry)) at .answer ⌝ }
-    ensures out { λ _. ⌜ now (out .exit) ≡ placedRow (now (block .entry)) (limits settings) (now (records .entry)) (now (payload .entry)) (now (out .entry)) at .output ⌝ }
+    ensures answer { λ r. ⌜ r ≡ placedRow (now (block .entry)) (limits settings) (now (records .entry)) (now (payload .entry))
+        (now (out .entry)) at .answer ⌝ }
+    ensures out { λ _. ⌜ now (out .exit) ≡ placedRow (now (block .entry)) (limits settings) (now (records .entry))
+        (now (payload .entry)) (now (out .entry)) at .output ⌝ }
 {
     let row = Extent {
         table: 0,
@@ -81,10 +84,13 @@ pub fn place_flat_row(
     out: &mut [u8],
     at: usize,
 ) -> Written
-    requires { ⌜ RowJudgeable (now block) (now records) (now payload) × (Judged.Fits p ≡ judgedRow (now block) (limits settings) (now records) (now payload))
+    requires { ⌜ RowJudgeable (now block) (now records) (now payload)
+        × (Judged.Fits p ≡ judgedRow (now block) (limits settings) (now records) (now payload))
         × (at ≤ min (length (now out)) 4294967295) ⌝ }
-    ensures answer { λ r. ⌜ r ≡ placedRow (now (block .entry)) (limits settings) (now (records .entry)) (now (payload .entry)) (now (out .entry)) at .answer ⌝ }
-    ensures out { λ _. ⌜ now (out .exit) ≡ placedRow (now (block .entry)) (limits settings) (now (records .entry)) (now (payload .entry)) (now (out .entry)) at .output ⌝ }
+    ensures answer { λ r. ⌜ r ≡ placedRow (now (block .entry)) (limits settings) (now (records .entry)) (now (payload .entry))
+        (now (out .entry)) at .answer ⌝ }
+    ensures out { λ _. ⌜ now (out .exit) ≡ placedRow (now (block .entry)) (limits settings) (now (records .entry))
+        (now (payload .entry)) (now (out .entry)) at .output ⌝ }
 {
     let row = Extent {
         table: 0,
@@ -110,8 +116,10 @@ pub fn write_row(
     at: usize,
 ) -> Written
     requires { ⌜ RowJudgeable (now block) (now records) (now payload) × (at ≤ min (length (now out)) 4294967295) ⌝ }
-    ensures answer { λ r. ⌜ r ≡ placedRow (now (block .entry)) (limits settings) (now (records .entry)) (now (payload .entry)) (now (out .entry)) at .answer ⌝ }
-    ensures out { λ _. ⌜ now (out .exit) ≡ placedRow (now (block .entry)) (limits settings) (now (records .entry)) (now (payload .entry)) (now (out .entry)) at .output ⌝ }
+    ensures answer { λ r. ⌜ r ≡ placedRow (now (block .entry)) (limits settings) (now (records .entry)) (now (payload .entry))
+        (now (out .entry)) at .answer ⌝ }
+    ensures out { λ _. ⌜ now (out .exit) ≡ placedRow (now (block .entry)) (limits settings) (now (records .entry))
+        (now (payload .entry)) (now (out .entry)) at .output ⌝ }
 {
     let judged = judge_row(block, settings, records, payload);
     let Judged::Fits(p) = judged else {

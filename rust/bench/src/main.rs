@@ -4,6 +4,7 @@
 
 #[cfg(feature = "index")]
 mod indexing;
+mod ledger;
 mod same;
 mod schemas;
 mod timing;
@@ -12,17 +13,19 @@ mod writing;
 
 use std::process::ExitCode;
 
-use schemas::ALL;
+use schemas::{ALL, LEDGER};
 use timing::{
-    best_of, check_library, check_original, decode_bare, decode_library, decode_original, original,
+    best_of, best_of_each, check_library, check_original, decode_bare, decode_library, decode_original, original,
     run_library, run_original,
 };
 
 const USAGE: &str = "\
-usage: bench [rows|growth|decode|encode|index|format] [--runs N] [--rows N]
+usage: bench [rows|growth|decode|ledger|encode|index|format] [--runs N] [--rows N]
   rows    each schema, 1,000,000 rows of A and N (300,000) of the others
   growth  10,000 to 1,000,000 rows of schema A
   decode  1,000,000 rows of schema A decoded one by one
+  ledger  1,000,000 rows of wide integers alone decoded one by one and, with the feature `encode`, encoded, beside
+          copying the same bytes
   encode  1,000,000 rows of schema A encoded one by one, and rows of 1,000 to 1,000,000 records; only with
           the feature of that name
   index   an index of 100,000 rows of schema A built and checked, and rows decoded by it; only with the feature of
@@ -45,7 +48,7 @@ fn options() -> Option<Options> {
         match word.as_str() {
             "--runs" => options.runs = given.next()?.parse().ok()?,
             "--rows" => options.rows = given.next()?.parse().ok()?,
-            "rows" | "growth" | "decode" | "format" => options.words.push(word),
+            "rows" | "growth" | "decode" | "ledger" | "format" => options.words.push(word),
             "encode" if cfg!(feature = "encode") => options.words.push(word),
             "index" if cfg!(feature = "index") => options.words.push(word),
             _ => return None,
@@ -72,6 +75,9 @@ fn main() -> ExitCode {
     }
     if wants("decode") {
         decode(&options);
+    }
+    if wants("ledger") {
+        ledger(&options);
     }
     #[cfg(feature = "encode")]
     if wants("encode") {
@@ -135,6 +141,54 @@ fn decode(options: &Options) {
     line("Format::next_row", best_of(options.runs, original, || decode_library(&case, room, CLIENT_ROWS)));
     println!("(the library checks the format for every row, the original once, before its clock starts;");
     println!(" the original allocates a tree for every row, the library writes to slices that it is lent)");
+}
+
+/// All lines take turns, so that a slow moment of the machine meets them all.
+fn ledger(options: &Options) {
+    let case = LEDGER.stream(CLIENT_ROWS);
+    let format = original(&case);
+    let room = same::check(&case, &format, CLIENT_ROWS);
+    let check = best_of_each(options.runs, [&mut || check_library(&case, CLIENT_ROWS as u32)]);
+    let best = best_of_each(
+        options.runs,
+        [
+            &mut || decode_original(&case, &format, CLIENT_ROWS),
+            &mut || decode_bare(&case, room, CLIENT_ROWS),
+            &mut || decode_library(&case, room, CLIENT_ROWS),
+            &mut || ledger::copy_out(&case, ledger::each_column),
+            &mut || ledger::copy_out(&case, ledger::all_columns),
+        ],
+    );
+    let decoding = ["the original's next_row", "skiff_decode", "Format::next_row"];
+    ledger_lines("decoded", decoding, best);
+    println!("(of a decode call's time {:.1} ns are the check of the format)", check[0]);
+    #[cfg(feature = "encode")]
+    {
+        let standing = writing::Standing::of(&case, &format, room);
+        let best = best_of_each(
+            options.runs,
+            [
+                &mut || writing::encode_original(&case, &format, &standing),
+                &mut || writing::encode_bare(&case, &standing),
+                &mut || writing::encode_library(&case, &standing),
+                &mut || ledger::copy_back(&case, standing.payload(), ledger::each_column),
+                &mut || ledger::copy_back(&case, standing.payload(), ledger::all_columns),
+            ],
+        );
+        let encoding = ["the original's write", "skiff_encode", "SchemaBlock::append"];
+        ledger_lines("encoded", encoding, best);
+    }
+}
+
+/// The three calls, then the two copies, each beside the original and beside a copy of each column.
+fn ledger_lines(done: &str, calls: [&str; 3], best: [f64; 5]) {
+    let title = format!("{} {done}, ns/row", LEDGER.name);
+    println!("\n{title:46} {:>9} {:>13} {:>11}", "time", "by original", "by memcpy");
+    let copies = ["memcpy of each column", "memcpy of all columns of a row"];
+    for (name, time) in calls.into_iter().chain(copies).zip(best) {
+        let (by_original, by_copy) = (time / best[0], time / best[3]);
+        println!("{name:46} {:9.1} {by_original:13.2} {by_copy:11.2}", time / CLIENT_ROWS as f64);
+    }
 }
 
 /// Every call of skiff_encode checks the schema and the value table, as part of a row's time. How much of

@@ -79,12 +79,12 @@ fn same(tree: &Tree, value: ValueRef) -> bool {
 #[cfg(test)]
 mod tests {
     use super::*;
-    use crate::schemas::ALL;
+    use crate::schemas::{ALL, LEDGER};
     use crate::timing::original;
 
     #[test]
     fn all_schemas_decode_to_the_originals_values() {
-        for schema in &ALL {
+        for schema in ALL.iter().chain([&LEDGER]) {
             let case = schema.stream(2_000);
             check(&case, &original(&case), 2_000);
         }
@@ -93,7 +93,7 @@ mod tests {
     /// The slices whole, stale bytes after the row too.
     #[test]
     fn all_schemas_decode_to_the_plain_readings_bytes() {
-        for schema in &ALL {
+        for schema in ALL.iter().chain([&LEDGER]) {
             let case = schema.stream(2_000);
             let Case { records, names, references, registry, .. } = &case;
             let plain_tables = plain::tables::FormatTables { records, names, references, registry };

@@ -34,6 +34,9 @@ pub const ALL: [Timed; 6] = [
     Timed { name: "F: variant16 with int128", taste: &EVEN, plans: variants },
 ];
 
+/// A ledger's table: eight int256 columns and two int128, and no tag but its own.
+pub const LEDGER: Timed = Timed { name: "ledger: eight int256, two int128", taste: &EVEN, plans: wide_integers };
+
 fn leaves(codes: &[u8]) -> Vec<Plan> {
     codes.iter().map(|code| Plan::new(*code, 0)).collect()
 }
@@ -76,6 +79,14 @@ fn variants() -> Vec<Plan> {
     let mut plans = vec![Plan::new(19, 3), Plan::named(16, 3, b"k"), Plan::named(6, 0, b"m")];
     plans.push(Plan::named(16, 2, b"n"));
     plans.extend(leaves(&[6, 13, 11, 0, 6]));
+    plans
+}
+
+/// tuple("c" int256, ... eight of them, "c" int128, "c" int128).
+fn wide_integers() -> Vec<Plan> {
+    let columns = [7, 7, 7, 7, 7, 7, 7, 7, 6, 6];
+    let mut plans = vec![Plan::new(19, columns.len() as u32)];
+    plans.extend(columns.map(|code| Plan::named(code, 0, b"c")));
     plans
 }
 

@@ -44,14 +44,20 @@ pub fn nanoseconds(work: impl FnOnce()) -> f64 {
     processor_time() - start
 }
 
-/// The best of `runs` of both, which take turns, so that a slow moment of the machine meets both.
-pub fn best_of(runs: u32, mut original: impl FnMut() -> f64, mut library: impl FnMut() -> f64) -> Best {
-    let mut best = Best { original: f64::MAX, library: f64::MAX };
+/// The best of `runs` of each, which take turns, so that a slow moment of the machine meets all.
+pub fn best_of_each<const N: usize>(runs: u32, mut works: [&mut dyn FnMut() -> f64; N]) -> [f64; N] {
+    let mut best = [f64::MAX; N];
     for _ in 0..runs {
-        best.original = best.original.min(original());
-        best.library = best.library.min(library());
+        for (best, work) in best.iter_mut().zip(&mut works) {
+            *best = best.min(work());
+        }
     }
     best
+}
+
+pub fn best_of(runs: u32, mut original: impl FnMut() -> f64, mut library: impl FnMut() -> f64) -> Best {
+    let [original, library] = best_of_each(runs, [&mut original, &mut library]);
+    Best { original, library }
 }
 
 pub fn tables(case: &Case) -> Format<'_> {

@@ -41,6 +41,11 @@ impl Standing {
         all
     }
 
+    /// The payload stores of all rows, one after another.
+    pub fn payload(&self) -> &[u8] {
+        &self.payload
+    }
+
     fn tables(&self) -> impl Iterator<Item = ValueTable<'_>> {
         let mut from = [0, 0];
         self.ends.iter().map(move |to| {

@@ -1,5 +1,6 @@
 use borrow.Author.Needs.{needs}
 use native.Mathlib.Omega.{arith}
+use Rattle.leaves.proofs.Codes.{wide-width}
 use Rattle.fill.proofs.Leaves.{narrow, narrow-room, narrow-fills, wide-stored, blob-stored, stored-room, stored-fills}
 use Rattle.fill.proofs.fill_leaf.Statement.{statement}
 use Rattle.fill.proofs.fill_leaf.Tie as tie
@@ -10,17 +11,31 @@ u32-at-requires c κs =
     let k = blob-stored (s .args .input .now) (s .args .code) (s .args .s .at) (c .if1 .taken) (s .pre .0) (s .pre .1 .is) in
     omega (arith, k .there)
 
-add-fill-bytes : tie.Need-add-fill-bytes
-add-fill-bytes c =
+add-copy : tie.Need-add-copy
+add-copy c =
     let s = c .before .before .before .before .before in
     let k = blob-stored (s .args .input .now) (s .args .code) (s .args .s .at) (c .before .if1 .taken) (s .pre .0) (s .pre .1 .is) in
     omega (arith, k .there, s .good)
 
-fill-bytes-requires : tie.Need-fill-bytes-requires
-fill-bytes-requires c κs =
-    let s = c .before .before .before .before .before .before .before in
-    let k = blob-stored (s .args .input .now) (s .args .code) (s .args .s .at) (c .before .before .before .if1 .taken) (s .pre .0) (s .pre .1 .is) in
-    rw (c .before .before .u32-at .ensures) (stored-room _ _ (s .args .s) _ _ _ k _ _ (s .pre .1))
+copy-requires : tie.Need-copy-requires
+copy-requires c κs =
+    let s = c .before .before .before .before .before .before in
+    let k = blob-stored (s .args .input .now) (s .args .code) (s .args .s .at) (c .before .before .if1 .taken) (s .pre .0) (s .pre .1 .is) in
+    let r = stored-room _ _ (s .args .s) _ _ _ k _ _ (s .pre .1) in
+    rw (c .before .u32-at .ensures) (r .0, r .2)
+
+add-fill-stored : tie.Need-add-fill-stored
+add-fill-stored c =
+    let s = c .before .before .before .before .before .before .before .before .before in
+    let k = blob-stored (s .args .input .now) (s .args .code) (s .args .s .at) (c .before .before .before .before .before .if1 .taken) (s .pre .0) (s .pre .1 .is) in
+    omega (arith, k .there, s .good)
+
+fill-stored-requires : tie.Need-fill-stored-requires
+fill-stored-requires c κs =
+    let s = c .before .before .before .before .before .before .before .before .before .before in
+    let k = blob-stored (s .args .input .now) (s .args .code) (s .args .s .at) (c .before .before .before .before .before .before .if1 .taken) (s .pre .0) (s .pre .1 .is) in
+    let r = stored-room _ _ (s .args .s) _ _ _ k _ _ (s .pre .1) in
+    rw (c .before .before .before .before .before .u32-at .ensures) (r .1, omega (arith, r .0, s .good), omega (arith, r .2, s .good))
 
 same-length : tie.Need-same-length
 same-length c = search needs
@@ -30,20 +45,30 @@ same-length-2 c = search needs
 
 returns : tie.Need-returns
 returns c =
-    let s = c .before .before .before .before .before .before .before .before .before .before .before .before in
-    let k = blob-stored (s .args .input .now) (s .args .code) (s .args .s .at) (c .before .before .before .before .before .before .before .before .if1 .taken) (s .pre .0) (s .pre .1 .is) in
-    let e = rw (c .before .before .before .before .before .before .before .u32-at .ensures) at (c .before .before .before .before .fill-bytes .ensures) in
-    stored-fills _ _ (s .args .s) _ _ _ k _ _ _ _ _ _ (e .0) (e .1 .0) (e .1 .1)
+    let s = c .before .before .before .before .before .before .before .before .before .before .before .before .before in
+    let k = blob-stored (s .args .input .now) (s .args .code) (s .args .s .at) (c .before .before .before .before .before .before .before .before .before .if1 .taken) (s .pre .0) (s .pre .1 .is) in
+    let n = c .before .before .before .before .before .before .before .before .u32-at .ensures in
+    let e = rw n at (c .before .before .fill-stored .ensures) in
+    stored-fills _ _ (s .args .s) _ _ _ k _ _ _ _ _ _ (e .0) (e .1) (rw n at (c .before .before .before .before .before .before .copy .ensures))
 
 code-width-requires : tie.Need-code-width-requires
 code-width-requires c κs = search needs
 
-fill-bytes-requires-2 : tie.Need-fill-bytes-requires-2
-fill-bytes-requires-2 c κs =
-    let s = c .before .before .before .before .before .before .before .before in
-    let w = c .before .before .before .code-width .ensures .0 in
-    let k = wide-stored (s .args .input .now) (s .args .code) (s .args .s .at) (c .before .before .before .before .if1 .left) (rw w at (c .before .before .if2 .taken)) (s .pre .1 .is) in
-    rw w (stored-room _ _ (s .args .s) _ _ _ k _ _ (s .pre .1))
+copy-wide-requires : tie.Need-copy-wide-requires
+copy-wide-requires c κs =
+    let s = c .before .before .before .before .before .before .before in
+    let w = c .before .before .code-width .ensures .0 in
+    let k = wide-stored (s .args .input .now) (s .args .code) (s .args .s .at) (c .before .before .before .if1 .left) (rw w at (c .before .if2 .taken)) (s .pre .1 .is) in
+    let r = stored-room _ _ (s .args .s) _ _ _ k _ _ (s .pre .1) in
+    (wide-width _ _ (c .before .before .before .if1 .left) w (c .before .if2 .taken), c .before .before .code-width .ensures .1, rw w (r .0), rw w (r .2))
+
+fill-stored-requires-2 : tie.Need-fill-stored-requires-2
+fill-stored-requires-2 c κs =
+    let s = c .before .before .before .before .before .before .before .before .before .before .before in
+    let w = c .before .before .before .before .before .before .code-width .ensures .0 in
+    let k = wide-stored (s .args .input .now) (s .args .code) (s .args .s .at) (c .before .before .before .before .before .before .before .if1 .left) (rw w at (c .before .before .before .before .before .if2 .taken)) (s .pre .1 .is) in
+    let r = stored-room _ _ (s .args .s) _ _ _ k _ _ (s .pre .1) in
+    rw w (r .1, omega (arith, r .0, s .good), omega (arith, r .2, s .good))
 
 same-length-3 : tie.Need-same-length-3
 same-length-3 c = search needs
@@ -53,11 +78,11 @@ same-length-4 c = search needs
 
 returns-2 : tie.Need-returns-2
 returns-2 c =
-    let s = c .before .before .before .before .before .before .before .before .before .before .before .before .before in
-    let w = c .before .before .before .before .before .before .before .before .code-width .ensures .0 in
-    let k = wide-stored (s .args .input .now) (s .args .code) (s .args .s .at) (c .before .before .before .before .before .before .before .before .before .if1 .left) (rw w at (c .before .before .before .before .before .before .before .if2 .taken)) (s .pre .1 .is) in
-    let e = rw w at (c .before .before .before .before .fill-bytes2 .ensures) in
-    stored-fills _ _ (s .args .s) _ _ _ k _ _ _ _ _ _ (e .0) (e .1 .0) (e .1 .1)
+    let s = c .before .before .before .before .before .before .before .before .before .before .before .before .before .before in
+    let w = c .before .before .before .before .before .before .before .before .before .code-width .ensures .0 in
+    let k = wide-stored (s .args .input .now) (s .args .code) (s .args .s .at) (c .before .before .before .before .before .before .before .before .before .before .if1 .left) (rw w at (c .before .before .before .before .before .before .before .before .if2 .taken)) (s .pre .1 .is) in
+    let e = rw w at (c .before .before .fill-stored2 .ensures) in
+    stored-fills _ _ (s .args .s) _ _ _ k _ _ _ _ _ _ (e .0) (e .1) (rw w at (c .before .before .before .before .before .before .copy-wide .ensures))
 
 scalar-at-requires : tie.Need-scalar-at-requires
 scalar-at-requires c κs =
@@ -73,15 +98,15 @@ put-record-requires c κs =
     let k = narrow (s .args .input .now) (s .args .code) (s .args .s .at) (c .before .before .before .before .if1 .left) (rw w at (c .before .before .if2 .left)) (s .pre .1 .is) in
     omega (arith, narrow-room _ _ (s .args .s) _ _ _ k (s .pre .1))
 
-add-t26 : tie.Need-add-t26
-add-t26 c =
+add-t29 : tie.Need-add-t29
+add-t29 c =
     let s = c .before .before .before .before .before .before .before .before .before .before .before in
     let w = c .before .before .before .before .before .before .code-width .ensures .0 in
     let k = narrow (s .args .input .now) (s .args .code) (s .args .s .at) (c .before .before .before .before .before .before .before .if1 .left) (rw w at (c .before .before .before .before .before .if2 .left)) (s .pre .1 .is) in
     omega (arith, k .there, w, s .good, s .fits)
 
-add-t27 : tie.Need-add-t27
-add-t27 c = search needs
+add-t30 : tie.Need-add-t30
+add-t30 c = search needs
 
 same-length-5 : tie.Need-same-length-5
 same-length-5 c = search needs
@@ -98,19 +123,22 @@ fill-leaf-spec =
     tie.close
     (tie.spec
     u32-at-requires
-    add-fill-bytes
-    fill-bytes-requires
+    add-copy
+    copy-requires
+    add-fill-stored
+    fill-stored-requires
     same-length
     same-length-2
     returns
     code-width-requires
-    fill-bytes-requires-2
+    copy-wide-requires
+    fill-stored-requires-2
     same-length-3
     same-length-4
     returns-2
     scalar-at-requires
     put-record-requires
-    add-t26
-    add-t27
+    add-t29
+    add-t30
     same-length-5
     returns-3)

@@ -1,7 +1,7 @@
 use borrow.Author.Needs.{needs}
 use native.Mathlib.Omega.{arith}
 use Prim.Native.Nat.{_<_}
-use Rattle.fill.proofs.Nexts.{tag-choice, tag-series, next-field, no-field, no-choice, next-choice, no-pair, next-pair}
+use Rattle.fill.proofs.Nexts.{tag-of-variant, tag-of-repeated, next-in-tuple, tuple-done, variant-done, next-of-variant, no-pair, next-pair}
 use Rattle.leaves.proofs.Codes.{tag-some}
 use Rattle.fill.proofs.next_child.Statement.{statement}
 use Rattle.fill.proofs.next_child.Tie as tie
@@ -10,19 +10,19 @@ add-t12 : tie.Need-add-t12
 add-t12 c = search needs
 
 returns : tie.Need-returns
-returns c = next-field _ _ _ _ _ _ (c .before .if1 .taken) (c .if2 .taken)
+returns c = next-in-tuple _ _ _ _ _ _ (c .before .if1 .taken) (c .if2 .taken)
 
 returns-2 : tie.Need-returns-2
-returns-2 c = no-field _ _ _ _ _ _ (c .before .if1 .taken) (c .if2 .left)
+returns-2 c = tuple-done _ _ _ _ _ _ (c .before .if1 .taken) (c .if2 .left)
 
 returns-3 : tie.Need-returns-3
-returns-3 c = no-choice _ _ _ _ _ _ (c .before .before .before .before .pre .0) (c .before .if3 .taken) (c .if4 .taken)
+returns-3 c = variant-done _ _ _ _ _ _ (c .before .before .before .before .pre .0) (c .before .if3 .taken) (c .if4 .taken)
 
 tag-at-requires : tie.Need-tag-at-requires
 tag-at-requires c κs =
     let s = c .before .before .before .before in
     let l = c .before .if3 .taken in
-    (s .pre .0, omega (arith, l), omega (arith, tag-choice _ _ (s .pre .0) l (c .if4 .left), s .pre .3, tag-some (s .args .code) (s .pre .0) (omega (arith, l))))
+    (s .pre .0, omega (arith, l), omega (arith, tag-of-variant _ _ (s .pre .0) l (c .if4 .left), s .pre .3, tag-some (s .args .code) (s .pre .0) (omega (arith, l))))
 
 add-t15 : tie.Need-add-t15
 add-t15 c = search needs
@@ -34,17 +34,17 @@ add-t17 : tie.Need-add-t17
 add-t17 c =
     let s = c .before .before .before .before .before .before in
     let l = c .before .before .before .if3 .taken in
-    let e = tag-choice _ _ (s .pre .0) l (c .before .before .if4 .left) in
+    let e = tag-of-variant _ _ (s .pre .0) l (c .before .before .if4 .left) in
     omega (arith, e, s .pre .3, c .tag-width .ensures, tag-some (s .args .code) (s .pre .0) (omega (arith, l)), s .good)
 
 returns-4 : tie.Need-returns-4
-returns-4 c = next-choice _ _ _ _ _ _ _ _ (c .before .tag-at .ensures .0) (c .tag-width .ensures) (c .before .before .before .before .before .before .pre .0) (c .before .before .before .if3 .taken) (c .before .before .if4 .left)
+returns-4 c = next-of-variant _ _ _ _ _ _ _ _ (c .before .tag-at .ensures .0) (c .tag-width .ensures) (c .before .before .before .before .before .before .pre .0) (c .before .before .before .if3 .taken) (c .before .before .if4 .left)
 
 tag-at-requires-2 : tie.Need-tag-at-requires-2
 tag-at-requires-2 c κs =
     let s = c .before .before .before in
     let l : s .args .code < 19 = omega (arith, s .pre .1, c .before .if1 .left) in
-    (s .pre .0, l, omega (arith, tag-series _ (s .args .i) (c .if3 .left) l, s .pre .3, tag-some _ (s .pre .0) l))
+    (s .pre .0, l, omega (arith, tag-of-repeated _ (s .args .i) (c .if3 .left) l, s .pre .3, tag-some _ (s .pre .0) l))
 
 tag-width-requires-2 : tie.Need-tag-width-requires-2
 tag-width-requires-2 c κs = search needs
@@ -53,7 +53,7 @@ add-next : tie.Need-add-next
 add-next c =
     let s = c .before .before .before .before .before in
     let l : s .args .code < 19 = omega (arith, s .pre .1, c .before .before .before .if1 .left) in
-    omega (arith, tag-series _ (s .args .i) (c .before .before .if3 .left) l, s .pre .3, c .tag-width2 .ensures, tag-some _ (s .pre .0) l, s .good)
+    omega (arith, tag-of-repeated _ (s .args .i) (c .before .before .if3 .left) l, s .pre .3, c .tag-width2 .ensures, tag-some _ (s .pre .0) l, s .good)
 
 ends-requires : tie.Need-ends-requires
 ends-requires c κs = search needs
