@@ -3,7 +3,7 @@
 ghost use mathlib.Core.Path.{_≡_};
 ghost use Prim.Native.Nat.{_+_, _≤_, min};
 ghost use lib.ListN.{length};
-ghost use Rattle.rules.specs.Bytes.{over};
+ghost use Rattle.rules.specs.Bytes.{over, longestSlice};
 ghost use Rattle.rules.specs.Block.{block};
 ghost use Rattle.rules.specs.ValueTable.{flat, payloadBytes};
 ghost use Rattle.rules.specs.Reading.{limits, rowAt, roomFor, filled};
@@ -26,7 +26,7 @@ use rules::room_in;
 
 // Room for a judged row's records, then for its payload bytes, in slices of these lengths; each refusal has the whole row's need.
 pub fn room_for(row: Extent, at: usize, records: usize, payload: usize) -> Read
-    ensures { λ r. ⌜ r ≡ roomFor at (min records 4294967295) (min payload 4294967295) row ⌝ }
+    ensures { λ r. ⌜ r ≡ roomFor at (min records longestSlice) (min payload longestSlice) row ⌝ }
 {
     if records_in(room_in(records)) < row.records {
         return Read::Refused(Refusal {

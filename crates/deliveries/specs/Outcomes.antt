@@ -5,7 +5,7 @@ use mathlib.Core.List.{List}
 use lib.IntN.{ℤ}
 use lib.ListN.{length}
 use lib.Dec.{eqb}
-use Rattle.rules.specs.Bytes.{Bytes}
+use Rattle.rules.specs.Bytes.{Bytes, longestSlice}
 use Rattle.rules.specs.Format.{Format}
 use Rattle.rules.specs.Reading.{runRule, ranOf}
 use Rattle.rules.specs.declared.answer.Ran.{Ran}
@@ -21,4 +21,4 @@ use Rattle.reads.specs.declared.Outcome.the-variants.{Told}
 -- too many were read, and the run over them is told.
 pub data Answers (f : Format) (s : Settings) (ends : Ends) (space : List ℕ) : Outcome → Type 0 where
   read : {end n : ℕ} {ran : Ran} → Stream f s ends space end ran n → (last : ℤ) → Answers f s ends space (outcomeOf last ran (eqb end (length space)))
-  long : (stream : List ℕ) → Bytes stream → 4294967295 < length stream → Answers f s ends space (Told (ranOf (runRule f s stream)))
+  long : (stream : List ℕ) → Bytes stream → longestSlice < length stream → Answers f s ends space (Told (ranOf (runRule f s stream)))

@@ -2,6 +2,7 @@
 ghost use mathlib.Core.Path.{_≡_};
 ghost use Prim.Native.Nat.{_≤_, min};
 ghost use lib.ListN.{length};
+ghost use Rattle.rules.specs.Bytes.{longestSlice};
 ghost use Rattle.rules.specs.ValueTable.{tableValue};
 ghost use Rattle.rules.specs.Reading.{limits};
 ghost use Rattle.rules.specs.Writing.{encodeValue, encodeOk, encodeRule};
@@ -62,7 +63,7 @@ fn encode_by(
     output: &mut [u8],
     at: usize,
 ) -> Written
-    requires { ⌜ RowFlat (now block) (now records) (now payload) × (at ≤ min (length (now output)) 4294967295) ⌝ }
+    requires { ⌜ RowFlat (now block) (now records) (now payload) × (at ≤ min (length (now output)) longestSlice) ⌝ }
     ensures { λ r. ⌜ record { answer = r; output = now (output .exit) } ≡ encodeValue (now (block .entry)) (limits settings)
         (tableValue (now (records .entry)) (now (payload .entry))) (now (output .entry)) at ⌝ }
 {

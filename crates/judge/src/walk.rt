@@ -247,6 +247,7 @@ fn judge_value(
             place: at as u64,
         });
     }
+    // Here and below an answer is taken apart and built anew: returned as it came, it would go through memory once more.
     if code < 15 {
         let j = judge_leaf(code, size, max_blob_bytes, p);
         let Judged::Fits(q) = j else {

@@ -118,6 +118,7 @@ pub fn skip_leaf(code: u8, input: &[u8], p: SkipPos) -> Skipped
     requires { ⌜ Readable (now input) p ⌝ }
     ensures { λ r. ⌜ r ≡ skimLeaf (now (input .entry)) code p ⌝ }
 {
+    // Here and below an answer is taken apart and built anew: returned as it came, it would go through memory once more.
     if code < 13 {
         let s = skip_fixed(code, input, p);
         let Skipped::At(q) = s else {

@@ -182,6 +182,7 @@ fn skip_value(
     let reached = leaf_at(block, node, code, depth, input, q, charge);
     match reached {
         ToSkip::Leaf(below, leaf) => {
+            // Here and below an answer is taken apart and built anew: returned as it came, it would go through memory once more.
             let s = skip_leaf(below, input, leaf);
             let Skipped::At(r) = s else {
                 return s;

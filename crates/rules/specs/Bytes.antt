@@ -10,6 +10,10 @@ use Rattle.rules.specs.Choice.{pick}
 use Rattle.rules.specs.declared.answer.Order.{Order}
 use Rattle.rules.specs.declared.answer.Order.the-variants.{Less, Equal, Greater}
 
+-- the most bytes that a slice may have which is read, and that count of one which is written
+abbrev pub longestSlice : ℕ
+longestSlice = 4294967295
+
 -- each is a byte
 abbrev pub Bytes : List ℕ → Type 0
 Bytes s = (i : ℕ) → getD s i 0 < 256

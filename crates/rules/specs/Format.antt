@@ -6,7 +6,7 @@ use mathlib.Core.List.{List}
 use lib.ListN.{length, getD}
 use lib.Dec.{ltb, leb, eqb}
 use Rattle.rules.specs.Choice.{pick, _and_, all}
-use Rattle.rules.specs.Bytes.{leAt, part, order, isLess, isEqual}
+use Rattle.rules.specs.Bytes.{leAt, part, order, isLess, isEqual, longestSlice}
 use Rattle.rules.specs.Refusals.{_then_, inOrder, Setting, BadSchemaTable, TooDeep, EmptyTableSchemas, UnknownRegistryReference}
 use Rattle.rules.specs.Block.{records, wholeNodes, block, spanOk, blockOk, depthOf}
 use Rattle.rules.specs.SchemaRules.{schemaRule, tableRule}
@@ -27,7 +27,7 @@ pub record Format : Type 0 where
 
 -- each slice that is read has at most 4,294,967,295 bytes
 abbrev pub shortOk : List ℕ → Bool
-shortOk s = leb (length s) 4294967295
+shortOk s = leb (length s) longestSlice
 
 -- ---- a block of the table, given by first record and record count
 

@@ -5,7 +5,7 @@ use mathlib.Core.Path.{_≡_}
 use mathlib.Core.List.{List}
 use mathlib.Core.Logic.{_⊎_}
 use lib.ListN.{length}
-use Rattle.rules.specs.Bytes.{part, order}
+use Rattle.rules.specs.Bytes.{part, order, longestSlice}
 use Rattle.rules.specs.Schema.{Schema, deep, Valid, TableRoot}
 use Rattle.rules.specs.Block.{nodeSize, records, block, Formed, blockTree, Denotes, Closed}
 use Rattle.rules.specs.Format.{referenceSize, entrySize, entryCount, Format, referenceAt, entryAt, entryName, tables, tableSchema}
@@ -25,8 +25,8 @@ pub record GoodBlock (table names : List ℕ) (first n : ℕ) : Type 0 where
 
 -- Slices that are not too long, a table of whole records, and a good block in it.
 pub record GoodSchema (table names : List ℕ) (first n : ℕ) : Type 0 where
-  pub table-size : length table ≤ 4294967295
-  pub names-size : length names ≤ 4294967295
+  pub table-size : length table ≤ longestSlice
+  pub names-size : length names ≤ longestSlice
   pub whole : length table % nodeSize ≡ 0
   pub good : GoodBlock table names first n
 
@@ -84,10 +84,10 @@ module _ (f : Format) where
 
   -- Besides, each of the four slices has at most 4,294,967,295 bytes.
   pub record GoodFormat : Type 0 where
-    pub table-size : length (f .table) ≤ 4294967295
-    pub names-size : length (f .names) ≤ 4294967295
-    pub references-size : length (f .references) ≤ 4294967295
-    pub registry-size : length (f .registry) ≤ 4294967295
+    pub table-size : length (f .table) ≤ longestSlice
+    pub names-size : length (f .names) ≤ longestSlice
+    pub references-size : length (f .references) ≤ longestSlice
+    pub registry-size : length (f .registry) ≤ longestSlice
     pub good : GoodTables
 
   -- ---- what a table of it has

@@ -7,7 +7,7 @@ use mathlib.Core.List.{List, [], _∷_}
 use lib.ListN.{length, take, drop}
 use lib.Dec.{leb, eqb}
 use Rattle.rules.specs.Choice.{pick, _and_}
-use Rattle.rules.specs.Bytes.{Stands, over}
+use Rattle.rules.specs.Bytes.{Stands, over, longestSlice}
 use Rattle.rules.specs.Schema.{Schema, noSchema}
 use Rattle.rules.specs.Block.{block, treeAt}
 use Rattle.rules.specs.Format.{Format, shortOk, sizesOk, tables, tableSchema, formatRules}
@@ -31,9 +31,13 @@ use Rattle.rules.specs.declared.answer.Read.the-variants.{Row, End}
 use Rattle.rules.specs.declared.answer.Stop.{Stop}
 use Rattle.rules.specs.declared.answer.Ran.{Ran}
 
+-- what each limit of the settings may be at most
+abbrev pub largestLimit : ℕ
+largestLimit = 4294967295
+
 -- node charge 1..4,096; both limits at most 4,294,967,295
 unfoldable pub settingsOk : Settings → Bool
-settingsOk s = leb 1 (s .«node_charge») and leb (s .«node_charge») 4096 and leb (s .«max_blob_bytes») 4294967295 and leb (s .«max_row_bytes») 4294967295
+settingsOk s = leb 1 (s .«node_charge») and leb (s .«node_charge») 4096 and leb (s .«max_blob_bytes») largestLimit and leb (s .«max_row_bytes») largestLimit
 
 unfoldable pub limits : Settings → Limits
 limits s = record { charge = s .«node_charge»; blob = s .«max_blob_bytes»; row = s .«max_row_bytes» }
@@ -180,7 +184,7 @@ pub record Decoded : Type 0 where
 
 -- of a slice to be written only the first 4,294,967,295 bytes count
 unfoldable pub room : List ℕ → ℕ
-room s = min (length s) 4294967295
+room s = min (length s) longestSlice
 
 -- and of these as many records as are whole
 abbrev pub recordRoom : List ℕ → ℕ

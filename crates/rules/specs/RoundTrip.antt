@@ -5,7 +5,7 @@ use mathlib.Core.Path.{_≡_}
 use mathlib.Core.Bool.{true, false}
 use mathlib.Core.List.{List, [], _∷_}
 use lib.ListN.{length}
-use Rattle.rules.specs.Bytes.{Stands, over}
+use Rattle.rules.specs.Bytes.{Stands, over, longestSlice}
 use Rattle.rules.specs.Answers.{Said, said}
 use Rattle.rules.specs.Wire.{Form}
 use Rattle.rules.specs.Schema.{Schema, Schemas}
@@ -33,8 +33,8 @@ pub record EncodeAsked (f : Format) (s : Settings) (first n : ℕ) (recs pay out
   pub format : formatRule f ≡ Checked.Accepted
   pub block : tableSchema f 0 ≡ Block first n
   pub settings : settingsOk s ≡ true
-  pub records : length recs ≤ 4294967295
-  pub payload : length pay ≤ 4294967295
+  pub records : length recs ≤ longestSlice
+  pub payload : length pay ≤ longestSlice
   pub position : at ≤ room out
 
 -- A value that is encoded: it conforms to the schema, each blob is within its limit, and the row fits the output.
@@ -79,7 +79,7 @@ module _ (s : Settings) (table names : List ℕ) (first n : ℕ) (recs pay out :
 -- lower than the writer's, and its row limit covers the row's charge.
 pub record SkipAsked (s s′ : Settings) (v : Value) (row inp : List ℕ) (position : ℕ) : Type 0 where
   pub stands : Stands inp position row
-  pub short : length inp ≤ 4294967295
+  pub short : length inp ≤ longestSlice
   pub settings : settingsOk s′ ≡ true
   pub blobs : (k : ℕ) → blobLimit (limits s) k ≤ blobLimit (limits s′) k
   pub charge : costs (limits s′ .charge) v ≤ limits s′ .row

@@ -6,6 +6,7 @@ use mathlib.Core.Bool.{Bool, true, false}
 use mathlib.Core.List.{List, [], _∷_, _++_, map}
 use lib.ListN.{length}
 use lib.Dec.{leb, eqb}
+use Rattle.rules.specs.Bytes.{longestSlice}
 use Rattle.rules.specs.Choice.{pick, _and_}
 use Rattle.rules.specs.Refusals.{Setting, lineOf, refusalNumber}
 use Rattle.rules.specs.Walk.{Answer, Got, onward}
@@ -60,6 +61,6 @@ added r rest = record { rows = r .rows + rest .rows; bytes = r .bytes + rest .by
 -- more than 4,294,967,295 bytes is refused by 1, and so are more rows than bytes, which no stream has.
 unfoldable pub runAfter : Format → Settings → ℕ → ℕ → List ℕ → Ran
 runAfter f s rows bytes window =
-    pick (leb rows bytes and leb (bytes + length window) 4294967295)
+    pick (leb rows bytes and leb (bytes + length window) longestSlice)
     (added (record { rows = rows; bytes = bytes; stop = End }) (ranOf (runRule f s window)))
     (ranOf (refusedRun Setting))

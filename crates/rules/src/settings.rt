@@ -1,6 +1,7 @@
 // How a call is to read, and how long a slice may be.
 ghost use Prim.Native.Nat.{min};
 ghost use mathlib.Core.Path.{_≡_};
+ghost use Rattle.rules.specs.Bytes.{longestSlice};
 ghost use Rattle.rules.specs.Reading.{settingsOk, defaults};
 
 // The most bytes of a slice that a call reads; of a slice to be written no more count.
@@ -8,7 +9,7 @@ pub const LONGEST: usize = 4294967295;
 
 // How many bytes count of a slice to be written that has this length: what `room` (Reading) says of the slice.
 pub fn room_in(len: usize) -> u64
-    ensures { λ r. ⌜ r ≡ min len 4294967295 ⌝ }
+    ensures { λ r. ⌜ r ≡ min len longestSlice ⌝ }
 {
     if LONGEST < len {
         return LONGEST as u64;

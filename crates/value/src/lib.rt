@@ -232,6 +232,7 @@ fn walk_value(records: &[u8], store: usize, depth: usize, tagged: bool, p: Table
     }
     // What a call lends has to lie in memory: copied here, so that a scalar is spared that.
     let table = records;
+    // The answer is taken apart and built anew: returned as it came, it would go through memory once more.
     let s = walk_children(table, store, depth, kind < 17, size, below);
     let Walked::At(q) = s else {
         return s;

@@ -3,6 +3,7 @@
 ghost use mathlib.Core.Path.{_≡_};
 ghost use Prim.Native.Nat.{_≤_, _<_};
 ghost use lib.ListN.{length};
+ghost use Rattle.rules.specs.Bytes.{longestSlice};
 ghost use Rattle.rules.specs.Query.{queryRule};
 ghost use Rattle.rules.specs.View.{childCount, kindRule, tagRule, childCountRule, pastTrees, recordsFrom, afterRule, fieldRule};
 use query::record_seen;
@@ -74,7 +75,7 @@ pub fn child_count_at(records: &[u8], i: usize) -> Viewed
 
 // Past so many trees from record i on. Each record is looked at once, and adds its children to the trees that are left.
 fn past_trees(records: &[u8], trees: u64, i: usize) -> Viewed
-    requires { ⌜ (length (now records) ≤ 4294967295) × (trees < 4294967296) ⌝ }
+    requires { ⌜ (length (now records) ≤ longestSlice) × (trees < 4294967296) ⌝ }
     ensures { λ r. ⌜ r ≡ pastTrees (now (records .entry)) (recordsFrom (now (records .entry)) i) trees i ⌝ }
 {
     let count = records_in(records.len() as u64);

@@ -1,6 +1,7 @@
 -- Where the tables and the window lie in the space, and how much may be counted.
 -- Assumes nothing: these are definitions.
 use Prim.Native.Nat.{ℕ, _+_, _-_, _≤_}
+use Rattle.rules.specs.Bytes.{longestSlice}
 use Rattle.rules.specs.declared.answer.Ran.{Ran}
 use Rattle.windows.specs.declared.space.Ends.{Ends}
 
@@ -15,7 +16,7 @@ pub record Laid (ends : Ends) (end n : ℕ) : Type 0 where
 -- the run so far and n bytes to come are of one stream that is short enough
 pub record Counted (ran : Ran) (n : ℕ) : Type 0 where
   pub few : ran .rows ≤ ran .bytes
-  pub short : ran .bytes + n ≤ 4294967295
+  pub short : ran .bytes + n ≤ longestSlice
 
 -- a run that went on over n bytes
 pub record Further (before ran : Ran) (n : ℕ) : Type 0 where
@@ -29,4 +30,4 @@ pub record Standing (ran : Ran) (w end n read : ℕ) : Type 0 where
   pub within : end ≤ n
   pub few : ran .rows ≤ ran .bytes
   pub held : ran .bytes + (end - w) ≤ read
-  pub short : read ≤ 4294967295
+  pub short : read ≤ longestSlice

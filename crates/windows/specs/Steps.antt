@@ -5,7 +5,7 @@ use mathlib.Core.Path.{_≡_}
 use mathlib.Core.Bool.{true}
 use mathlib.Core.List.{List, _++_}
 use lib.ListN.{length, take, drop}
-use Rattle.rules.specs.Bytes.{Bytes}
+use Rattle.rules.specs.Bytes.{Bytes, longestSlice}
 use Rattle.rules.specs.Format.{Format}
 use Rattle.rules.specs.Reading.{runRule, ranOf}
 use Rattle.rules.specs.Windows.{goesOn}
@@ -31,7 +31,7 @@ pub record RunsOver (f : Format) (s : Settings) (stream : List ℕ) (ran : Ran) 
 -- far is known to nobody: this holds for each that the run so far can be of.
 unfoldable pub GoesOver : Format → Settings → Ran → List ℕ → Ran → List ℕ → Type 0
 GoesOver f s ran window next left =
-    (stream more before : List ℕ) → RunsOver f s stream ran before → window ≡ before ++ more → Bytes (stream ++ more) → length (stream ++ more) ≤ 4294967295 →
+    (stream more before : List ℕ) → RunsOver f s stream ran before → window ≡ before ++ more → Bytes (stream ++ more) → length (stream ++ more) ≤ longestSlice →
     RunsOver f s (stream ++ more) next left
 
 -- Some n bytes have been read: over them the run so far is, and what it may go on over stands in the window, behind the tables of f.

@@ -2,6 +2,7 @@
 ghost use Prim.Native.Nat.{_≤_};
 ghost use mathlib.Core.Path.{_≡_};
 ghost use lib.ListN.{length};
+ghost use Rattle.rules.specs.Bytes.{longestSlice};
 ghost use Rattle.rules.specs.Reading.{runRule, ranOf};
 ghost use Rattle.rules.specs.Windows.{moved as Windows·moved, PlaceInside, goesOn, added, runAfter};
 ghost use Rattle.schema.specs.Slices.{slices};
@@ -31,7 +32,7 @@ pub fn goes_on(stop: Stop) -> bool
 
 // A refusal of a window, told of the stream in which the window starts at `by`.
 fn moved(refusal: Refusal, by: u64) -> Refusal
-    requires { ⌜ PlaceInside 4294967295 refusal × (by ≤ 4294967295) ⌝ }
+    requires { ⌜ PlaceInside longestSlice refusal × (by ≤ longestSlice) ⌝ }
     ensures { λ r. ⌜ r ≡ Windows·moved by refusal ⌝ }
 {
     let why = refusal.why;

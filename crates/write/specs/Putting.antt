@@ -10,6 +10,7 @@ use Rattle.rules.specs.Bytes.{le, part, over}
 use Rattle.rules.specs.Wire.{form, widthOf}
 use Rattle.rules.specs.Block.{nodeAt}
 use Rattle.rules.specs.Walk.{Limits}
+use Rattle.rules.specs.Reading.{largestLimit}
 use Rattle.rules.specs.ValueRecord.{valueRecordAt}
 use Rattle.rules.specs.ValueTable.{tableValue}
 use Rattle.rules.specs.Writing.{Wrote, Put, Refused, write, writeRow}
@@ -54,7 +55,7 @@ putOf (Refused r) = []
 
 -- limits that refuse no blob of a value table
 abbrev pub unlimited : Limits
-unlimited = only 4294967295
+unlimited = only largestLimit
 
 -- the writing of the value that stands at a record, at node i
 unfoldable pub written : List ℕ → ℕ → ℕ → List ℕ → List ℕ → ℕ → ℕ → Wrote

@@ -3,6 +3,7 @@
 ghost use mathlib.Core.Path.{_≡_};
 ghost use Prim.Native.Nat.{_≤_, _<_, min};
 ghost use lib.ListN.{length};
+ghost use Rattle.rules.specs.Bytes.{longestSlice};
 ghost use Rattle.rules.specs.Reading.{limits};
 ghost use Rattle.judge.specs.Judging.{RowJudgeable, judgedRow};
 ghost use Rattle.write.specs.Row.{roomFor, placedRow};
@@ -20,8 +21,8 @@ use rules::room_in;
 
 // Room for a judged row's bytes from position `at` on, in an output of this length.
 pub fn room_for(row: Extent, at: usize, len: usize) -> Written
-    requires { ⌜ at ≤ min len 4294967295 ⌝ }
-    ensures { λ r. ⌜ r ≡ roomFor at (min len 4294967295) row ⌝ }
+    requires { ⌜ at ≤ min len longestSlice ⌝ }
+    ensures { λ r. ⌜ r ≡ roomFor at (min len longestSlice) row ⌝ }
 {
     if room_in(len) - (at as u64) < row.bytes {
         return Written::Refused(Refusal {
@@ -54,7 +55,7 @@ pub fn place_row(
 ) -> Written
     requires { ⌜ RowJudgeable (now block) (now records) (now payload)
         × (Judged.Fits p ≡ judgedRow (now block) (limits settings) (now records) (now payload))
-        × (at ≤ min (length (now out)) 4294967295) ⌝ }
+        × (at ≤ min (length (now out)) longestSlice) ⌝ }
     ensures answer { λ r. ⌜ r ≡ placedRow (now (block .entry)) (limits settings) (now (records .entry)) (now (payload .entry))
         (now (out .entry)) at .answer ⌝ }
     ensures out { λ _. ⌜ now (out .exit) ≡ placedRow (now (block .entry)) (limits settings) (now (records .entry))
@@ -86,7 +87,7 @@ pub fn place_flat_row(
 ) -> Written
     requires { ⌜ RowJudgeable (now block) (now records) (now payload)
         × (Judged.Fits p ≡ judgedRow (now block) (limits settings) (now records) (now payload))
-        × (at ≤ min (length (now out)) 4294967295) ⌝ }
+        × (at ≤ min (length (now out)) longestSlice) ⌝ }
     ensures answer { λ r. ⌜ r ≡ placedRow (now (block .entry)) (limits settings) (now (records .entry)) (now (payload .entry))
         (now (out .entry)) at .answer ⌝ }
     ensures out { λ _. ⌜ now (out .exit) ≡ placedRow (now (block .entry)) (limits settings) (now (records .entry))
@@ -115,7 +116,7 @@ pub fn write_row(
     out: &mut [u8],
     at: usize,
 ) -> Written
-    requires { ⌜ RowJudgeable (now block) (now records) (now payload) × (at ≤ min (length (now out)) 4294967295) ⌝ }
+    requires { ⌜ RowJudgeable (now block) (now records) (now payload) × (at ≤ min (length (now out)) longestSlice) ⌝ }
     ensures answer { λ r. ⌜ r ≡ placedRow (now (block .entry)) (limits settings) (now (records .entry)) (now (payload .entry))
         (now (out .entry)) at .answer ⌝ }
     ensures out { λ _. ⌜ now (out .exit) ≡ placedRow (now (block .entry)) (limits settings) (now (records .entry))
