@@ -15,6 +15,7 @@ use Rattle.call_promises.proofs.OneAnswer.{OneAnswer}
 use Rattle.value.proofs.record_alone as record-alone
 use Rattle.query.proofs.record_seen as record-seen
 use Rattle.query.proofs.value_of as value-of
+use Rattle.view.proofs.children_of as children-of
 use Rattle.view.proofs.kind_at as kind-at
 use Rattle.view.proofs.tag_at as tag-at
 use Rattle.view.proofs.child_count_at as child-count-at
@@ -38,6 +39,9 @@ pub value-of-one-answer : OneAnswer value-of.Kinds.ps value-of.Kinds.r value-of.
 value-of-one-answer κs a x y s t p q = p ∙ sym q
 
 -- ---- what is seen from it
+pub children-of-one-answer : OneAnswer children-of.Kinds.ps children-of.Kinds.r children-of.Reads.Post
+children-of-one-answer κs a x y s t p q = p ∙ sym q
+
 pub kind-at-one-answer : OneAnswer kind-at.Kinds.ps kind-at.Kinds.r kind-at.Reads.Post
 kind-at-one-answer κs a x y s t p q = p ∙ sym q
 

@@ -25,7 +25,7 @@ use Rattle.value_laws.proofs.Children.{untagged, children, below-untagged, pays
 use Rattle.fill.specs.declared.Next.{Next}
 use Rattle.fill.specs.declared.Next.the-variants.{Child, End}
 use Rattle.fill.specs.Plain.{PlainRead, Got, Not, _>>=_, IsGot, plainNumberAt, Reader, childAt, pairsAt, fieldsAt, leafAt, byForm, readAt, valueRead, endRead}
-use Rattle.fill.specs.Filling.{tagBytes, nextOf}
+use Rattle.fill.specs.Filling.{tagLength, nextOf}
 use Rattle.leaves.proofs.Codes.{form-variant, form-repeated, form-tuple}
 use Rattle.fill.proofs.Got.{not-got, got-from, got-is, read-step, step, number-step, child-step}
 
@@ -145,8 +145,8 @@ module _ (inp : List ℕ) (rec : Reader) (n : Node) where
       by false false false p q r = let f = form-unknown (n .code) (ltb-false _ _ r) in absurd (not-got (Got v z) (sym (rw f at e)) (got-from (Got v z) v z refl))
 
   -- the tag of the next one is there
-  pub there : (f : Form) (i enough at z : ℕ) (is : Items) → left f i enough at ≡ Got is z → tagBytes f i ≤ length inp - at
-  unfolding left tagBytes pairsAt
+  pub there : (f : Form) (i enough at z : ℕ) (is : Items) → left f i enough at ≡ Got is z → tagLength f i ≤ length inp - at
+  unfolding left tagLength pairsAt
   there (variant-form w) zero enough at z is e = number-step is z inp w at _ e .0
   there (variant-form w) (suc i) enough at z is e = omega arith
   there (repeated-form w) i zero at z is e = absurd (not-got (Got is z) (sym e) (got-from (Got is z) is z refl))

@@ -12,21 +12,21 @@ use Rattle.rules.specs.Bytes.{leAt}
 use Rattle.rules.specs.Wire.{variant-form, repeated-form, form, widthOf, endTag}
 use Rattle.fill.specs.declared.Next.the-variants.{Child, End}
 use Rattle.leaves.specs.Shapes.{shapeOf, endsAt}
-use Rattle.fill.specs.Filling.{tagBytes, nextOf}
+use Rattle.fill.specs.Filling.{tagLength, nextOf}
 use Rattle.leaves.proofs.Codes.{form-variant, form-repeated, form-tuple, shape-repeated}
 
 -- ---- tags
 
 -- a variant's only child has a tag
-pub tag-of-variant : (code i : ℕ) → 14 < code → code < 17 → i ≤ 0 → tagBytes (form code) i ≡ widthOf (form code)
-unfolding tagBytes widthOf
+pub tag-of-variant : (code i : ℕ) → 14 < code → code < 17 → i ≤ 0 → tagLength (form code) i ≡ widthOf (form code)
+unfolding tagLength widthOf
 tag-of-variant code i h l z =
     let e : i ≡ 0 = omega arith in
     rw (form-variant code h l, e)
 
 -- of a repeated type each child has one, and the end
-pub tag-of-repeated : (code i : ℕ) → 17 ≤ code → code < 19 → tagBytes (form code) i ≡ widthOf (form code)
-unfolding tagBytes widthOf
+pub tag-of-repeated : (code i : ℕ) → 17 ≤ code → code < 19 → tagLength (form code) i ≡ widthOf (form code)
+unfolding tagLength widthOf
 tag-of-repeated code i h l = rw (form-repeated code h l)
 
 -- ---- children

@@ -57,17 +57,17 @@ unfoldable pub scalarOf : List ℕ → ℕ → ℕ → ℕ → ℕ
 scalarOf inp code w at = pick (eqb code 1) (bit (ltb 0 (leAt inp at w))) (leAt inp at w)
 
 -- how many bytes the tag of the child after i others has
-unfoldable pub tagBytes : Form → ℕ → ℕ
-tagBytes (variant-form w) zero = w
-tagBytes (variant-form w) (suc i) = 0
-tagBytes (repeated-form w) i = w
-tagBytes empty i = 0
-tagBytes truth i = 0
-tagBytes (fixed w) i = 0
-tagBytes (raw w) i = 0
-tagBytes sized i = 0
-tagBytes tuple-form i = 0
-tagBytes unknown i = 0
+unfoldable pub tagLength : Form → ℕ → ℕ
+tagLength (variant-form w) zero = w
+tagLength (variant-form w) (suc i) = 0
+tagLength (repeated-form w) i = w
+tagLength empty i = 0
+tagLength truth i = 0
+tagLength (fixed w) i = 0
+tagLength (raw w) i = 0
+tagLength sized i = 0
+tagLength tuple-form i = 0
+tagLength unknown i = 0
 
 module _ (inp : List ℕ) (first count : ℕ) where
   -- the child that the tag of w bytes names

@@ -12,7 +12,7 @@ ghost use Rattle.rules.specs.ValueRecord.{valueRecordStart, ValueRecordIn, valu
 ghost use Rattle.rules.specs.ValueTable.{bit, payloadBytes, flat};
 ghost use Rattle.rules.specs.Writing.{kindFor};
 ghost use Rattle.fill.specs.Plain.{leafAt, readAt};
-ghost use Rattle.fill.specs.Filling.{RoomToFill, Filled, Fillable, rowValue, scalarOf, tagBytes, nextOf};
+ghost use Rattle.fill.specs.Filling.{RoomToFill, Filled, Fillable, rowValue, scalarOf, tagLength, nextOf};
 ghost use Rattle.fill.specs.Leads.{Held, LeadsToFill};
 use leaves::fields::ends;
 use payload::copy;
@@ -132,7 +132,7 @@ fn tag_at(code: u8, input: &[u8], at: usize) -> u64
 
 // The child after i others. A variant has one child, a tuple `count`, and the repeated types have children up to the end tag.
 fn next_child(code: u8, first: usize, count: usize, input: &[u8], i: usize, at: usize) -> Next
-    requires { ⌜ (14 < code) × (code < 20) × (nodeStart (first + count) < 2 ^ 64) × (tagBytes (form code) i ≤ length (now input) - at) ⌝ }
+    requires { ⌜ (14 < code) × (code < 20) × (nodeStart (first + count) < 2 ^ 64) × (tagLength (form code) i ≤ length (now input) - at) ⌝ }
     ensures { λ r. ⌜ r ≡ nextOf (now (input .entry)) first count (form code) i at ⌝ }
 {
     if code == 19 {

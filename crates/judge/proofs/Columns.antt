@@ -29,7 +29,7 @@ use Rattle.leaves.specs.Fields.{payloadOfFixed}
 use Rattle.leaves.specs.Shapes.{as-tuple, shapeOf}
 use Rattle.read.specs.Ready.{HasNode, SoundNodes}
 use Rattle.leaves.proofs.Codes.{form-tuple, shape-variant, shape-tuple}
-use Rattle.value.specs.Records.{recordOk}
+use Rattle.value.specs.Records.{valueRecordOk}
 use Rattle.value.specs.Walk.{walkChildren, walkTable}
 use Rattle.value.specs.declared.TablePos.{TablePos}
 use Rattle.value.specs.declared.Walked.the-variants as walked
@@ -103,7 +103,7 @@ module _ (sch : List ℕ) (i : ℕ) (table store : List ℕ) (p : JudgePos) (k :
   }
 
   -- a variant whose tag names one
-  module _ (code : ℕ) (is : code ≡ nodeAt sch i .code) (l : 15 ≤ code) (h : code ≤ 16) (own : ValueRecord) (m : own ≡ valueRecordAt table (p .at)) (kind : own .kind ≡ 15) (b : Bool) (ok : b ≡ recordOk own false (p .from) (length store)) (yes : b ≡ true) where
+  module _ (code : ℕ) (is : code ≡ nodeAt sch i .code) (l : 15 ≤ code) (h : code ≤ 16) (own : ValueRecord) (m : own ≡ valueRecordAt table (p .at)) (kind : own .kind ≡ 15) (b : Bool) (ok : b ≡ valueRecordOk own false (p .from) (length store)) (yes : b ≡ true) where
     module _ (below-here : ValueRecordIn (p .at + 1) (length table)) (v : ValueRecord) (n : v ≡ valueRecordAt table (p .at + 1)) (first count : ℕ) (f : first ≡ nodeAt sch i .first) (c : count ≡ nodeAt sch i .children) where
       pub tag-asks : length sch < 2 ^ 64 → (14 < code) × (code ≤ 19) × (first + count < 2 ^ 64) × (first + 0 < 2 ^ 64)
       unfolding Closed
@@ -160,9 +160,9 @@ module _ (sch : List ℕ) (i : ℕ) (table store : List ℕ) (p : JudgePos) (a :
   reached-only = subst (λ (y : Column). LeadsToLeaf sch i table store p y) e l
 
   pub column-seen : (own : ValueRecord) → own ≡ valueRecordAt table (q .at) → (blob : ℕ) (r : JudgePos) →
-      (recordOk own tagged (q .from) (length store) ≡ true) × (own .kind ≡ code) × (Fits r ≡ leafOf blob code (own .size) q) × (r .from ≡ q .from + own .size) → Seen sch i table store blob p r
+      (valueRecordOk own tagged (q .from) (length store) ≡ true) × (own .kind ≡ code) × (Fits r ≡ leafOf blob code (own .size) q) × (r .from ≡ q .from + own .size) → Seen sch i table store blob p r
   column-seen own m blob r f =
-      let g = subst (λ (u : ValueRecord). (recordOk u tagged (q .from) (length store) ≡ true) × (u .kind ≡ code) × (Fits r ≡ leafOf blob code (u .size) q) × (r .from ≡ q .from + u .size)) m f in
+      let g = subst (λ (u : ValueRecord). (valueRecordOk u tagged (q .from) (length store) ≡ true) × (u .kind ≡ code) × (Fits r ≡ leafOf blob code (u .size) q) × (r .from ≡ q .from + u .size)) m f in
       reached-only .ends blob r (g .0) (g .1) (g .2) (g .3)
 
 -- ---- a row
@@ -239,7 +239,7 @@ module _ (sch table store : List ℕ) (k : RowFlat sch table store) (blob : ℕ)
           }
 
       -- all of them, and nothing after them
-      module _ (h : count ≤ j) (n : ℕ) (total : n ≡ valueRecordsIn (length table)) (some : 0 < n) (b : Bool) (ok : b ≡ recordOk v false 0 (length store)) (yes : b ≡ true) (at-end : q .at ≡ n) (from-end : q .from ≡ length store) where
+      module _ (h : count ≤ j) (n : ℕ) (total : n ≡ valueRecordsIn (length table)) (some : 0 < n) (b : Bool) (ok : b ≡ valueRecordOk v false 0 (length store)) (yes : b ≡ true) (at-end : q .at ≡ n) (from-end : q .from ≡ length store) where
         walked-whole : walked.At (tablePos q) ≡ walkTable table (length store) 64 false (record { at = 0; from = 0 })
         walked-whole = walk-parent table (length store) 64 false (record { at = 0; from = 0 }) (omega arith) (omega (arith, total)) v m b ok yes (omega (arith, kind)) (walked.At (tablePos q)) (rw (le-ltb (v .kind) 17 (omega (arith, kind)), as-many) (sym (children-none (walkTable table (length store) 63 false) (count - j) (tablePos q) (omega arith)) ∙ a .walks))
 

@@ -11,7 +11,7 @@ use Rattle.rules.specs.ValueRecord.{valueRecordAt, ValueRecordIn}
 use Rattle.rules.specs.ValueCheck.{tableForm}
 use Rattle.rules.specs.declared.answer.Checked.the-variants.{Accepted}
 use Rattle.read.specs.Ready.{HasNode, SoundNodes}
-use Rattle.value.specs.Records.{recordOk}
+use Rattle.value.specs.Records.{valueRecordOk}
 use Rattle.value.specs.Walk.{walkTable}
 use Rattle.value.specs.declared.TablePos.{TablePos}
 use Rattle.value.specs.declared.Walked.the-variants.{At}
@@ -49,7 +49,7 @@ module _ (sch : List ℕ) (i : ℕ) (table store : List ℕ) where
     pub there : ValueRecordIn (q .at) (length table)
     pub within : q .from ≤ length store
     pub few : q .bytes < 2 ^ 40
-    pub ends : (blob : ℕ) (r : JudgePos) → recordOk (valueRecordAt table (q .at)) tagged (q .from) (length store) ≡ true → valueRecordAt table (q .at) .kind ≡ code →
+    pub ends : (blob : ℕ) (r : JudgePos) → valueRecordOk (valueRecordAt table (q .at)) tagged (q .from) (length store) ≡ true → valueRecordAt table (q .at) .kind ≡ code →
         Fits r ≡ leafOf blob code (valueRecordAt table (q .at) .size) q → r .from ≡ q .from + valueRecordAt table (q .at) .size → Seen blob p r
 
   unfoldable pub LeadsToLeaf : JudgePos → Column → Type 0

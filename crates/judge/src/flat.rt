@@ -7,7 +7,7 @@ ghost use Prim.Native.Nat.{_+_, _^_, _≤_, _<_};
 ghost use lib.ListN.{length};
 ghost use Rattle.rules.specs.Reading.{limits};
 ghost use Rattle.rules.specs.ValueRecord.{ValueRecordIn};
-ghost use Rattle.value.specs.Records.{recordOk};
+ghost use Rattle.value.specs.Records.{valueRecordOk};
 ghost use Rattle.judge.specs.Judging.{leafOf};
 ghost use Rattle.judge.specs.Flat.{Flat, Seen, LeadsToLeaf, RowFlat, RowSeen};
 use super::walk::AtOnce;
@@ -36,7 +36,7 @@ fn leaf_fits(
     p: JudgePos,
 ) -> AtOnce
     requires { ⌜ (code < 15) × (store < 2 ^ 32) × (p .at < 2 ^ 32) × (p .from ≤ store) × (p .bytes < 2 ^ 40) ⌝ }
-    ensures { λ r. ⌜ ((q : JudgePos) → r ≡ AtOnce.Fits q → (recordOk own tagged (p .from) store ≡ true) × (own .kind ≡ code)
+    ensures { λ r. ⌜ ((q : JudgePos) → r ≡ AtOnce.Fits q → (valueRecordOk own tagged (p .from) store ≡ true) × (own .kind ≡ code)
         × (Judged.Fits q ≡ leafOf «max_blob_bytes» code (own .size) p) × (q .from ≡ p .from + own .size)) ⌝ }
 {
     if own.kind != code {

@@ -15,7 +15,7 @@ use Rattle.rules.specs.Choice.{pick}
 use Rattle.rules.specs.Bytes.{over}
 use Rattle.rules.specs.Names.{ascii}
 use Rattle.rules.proofs.Over.{over-at}
-use Rattle.rules.specs.Lines.{decimal, word, isNone, spaced, item, closing}
+use Rattle.rules.specs.Lines.{decimal, word, isNone, spaced, item, closingBracket}
 use Rattle.lines.specs.Puts.{TextPut}
 use Rattle.lines.proofs.Decimals.{decimal-small, decimal-more}
 
@@ -152,10 +152,10 @@ pub put-item-is : (s t : List ℕ) (at end : ℕ) (before label label′ : List 
 put-item-is s t at end before label label′ value w w′ e k p = rw (← e, ← k) p
 
 module _ (s : List ℕ) (at : ℕ) (label label′ : List ℕ) (is : label ≡ label′) where
-  pub put-no-closing : isNone label ≡ true → TextPut s at (closing label′) s at
-  unfolding closing pick
+  pub put-no-closing : isNone label ≡ true → TextPut s at (closingBracket label′) s at
+  unfolding closingBracket pick
   put-no-closing e = rw (← is, e) (put-none s at)
 
-  pub put-the-closing : (t : List ℕ) (end : ℕ) → isNone label ≡ false → TextPut s at (ascii ")") t end → TextPut s at (closing label′) t end
-  unfolding closing pick
+  pub put-the-closing : (t : List ℕ) (end : ℕ) → isNone label ≡ false → TextPut s at (ascii ")") t end → TextPut s at (closingBracket label′) t end
+  unfolding closingBracket pick
   put-the-closing t end e p = rw (← is, e) p

@@ -3,7 +3,7 @@ ghost use Prim.Native.Nat.{_+_, _≤_};
 ghost use mathlib.Core.List.{_++_};
 ghost use lib.ListN.{length};
 ghost use mathlib.Core.Path.{_≡_};
-ghost use Rattle.rules.specs.Lines.{decimal, word, isNone, spaced, item, labelled, wordOf, closing, carried, stoppedAt, endLine, refusedLine, runLine};
+ghost use Rattle.rules.specs.Lines.{decimal, word, isNone, spaced, item, labelled, wordOf, closingBracket, carried, stoppedAt, endLine, refusedLine, runLine};
 ghost use Rattle.lines.specs.Puts.{TextPut, head};
 use rules::Label;
 use rules::Labels;
@@ -130,7 +130,7 @@ fn put_labelled(buffer: &mut [u8], at: usize, before: &[u8], label: Label, value
 // The closing bracket, where the first value was put.
 fn put_closing(buffer: &mut [u8], at: usize, label: Label) -> usize
     requires { ⌜ at + 1 ≤ length (now buffer) ⌝ }
-    ensures { λ r. ⌜ TextPut (now (buffer .entry)) at (closing (labelled label)) (now (buffer .exit)) r ⌝ }
+    ensures { λ r. ⌜ TextPut (now (buffer .entry)) at (closingBracket (labelled label)) (now (buffer .exit)) r ⌝ }
     ensures { λ r. ⌜ r ≤ at + 1 ⌝ }
 {
     let name = label_word(label);

@@ -28,7 +28,7 @@ use Rattle.judge.proofs.Codes.{fixed-range, sized-range, widest}
 use Rattle.value_laws.proofs.Children.{children}
 use Rattle.judge.proofs.Standing.{spot, head, kind-told, size-small, from-in, from-end, count-told, parent}
 use Rattle.texts.specs.Records.{isStored, kept, IsNumber, Told, payloadText, contentText}
-use Rattle.listing_lines.specs.Rows.{childCount}
+use Rattle.rules.specs.View.{childCount}
 
 -- ---- kinds by their forms
 

@@ -24,7 +24,8 @@ use Rattle.judge.proofs.Standing.{spot, whole-is, head, stands, inside, kind-to
 use Rattle.lines.specs.Puts.{TextPut}
 use Rattle.lines.proofs.Putting.{put-both}
 use Rattle.texts.specs.Records.{kept, Told, recordLine}
-use Rattle.listing_lines.specs.Rows.{childCount, Listable, linesAt, Listed, rootValue, RowListable}
+use Rattle.rules.specs.View.{childCount}
+use Rattle.listing_lines.specs.Rows.{Listable, linesAt, Listed, rootValue, RowListable}
 use Rattle.listing_lines.specs.declared.rows.RowNode.{RowNode}
 use Rattle.listing_lines.proofs.Tells.{ownPayload, Tells, tells}
 

@@ -4,20 +4,13 @@ use Prim.Native.Nat.{ℕ, _+_, _-_, _*_, _^_, _≤_, _<_}
 use mathlib.Core.Path.{_≡_}
 use mathlib.Core.List.{List}
 use lib.ListN.{length}
-use lib.Dec.{ltb}
-use Rattle.rules.specs.Choice.{pick}
 use Rattle.rules.specs.Value.{Value}
 use Rattle.rules.specs.ValueTable.{Parsed, tagAt, valueAt}
 use Rattle.rules.specs.Listing.{linesOf}
-use Rattle.rules.specs.declared.table_record.ValueRecord.{ValueRecord}
 use Rattle.judge.specs.Table.{IsWhole, wholeValue, wholeEnd, valueStandingAt}
 use Rattle.write.specs.declared.put.WritePos.{WritePos}
 use Rattle.listing_lines.specs.declared.rows.RowNode.{RowNode}
 use Rattle.lines.specs.Puts.{TextPut}
-
--- from kind 15 on the size is a child count
-unfoldable pub childCount : ValueRecord → ℕ
-childCount r = pick (ltb (r .kind) 15) 0 (r .size)
 
 -- a value stands at a record, with `from` payload bytes before it, at most 64 deep, and there is room for its lines from position `to` on
 pub record Listable (table store : List ℕ) (depth at from to room : ℕ) : Type 0 where

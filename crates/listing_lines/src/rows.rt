@@ -5,22 +5,11 @@ ghost use lib.ListN.{length};
 ghost use Rattle.rules.specs.Listing.{rowLines};
 ghost use Rattle.judge.specs.Table.{wholeValue};
 ghost use Rattle.lines.specs.Puts.{TextPut};
-ghost use Rattle.listing_lines.specs.Rows.{childCount, Listable, Listed, rootValue, RowListable};
+ghost use Rattle.listing_lines.specs.Rows.{Listable, Listed, rootValue, RowListable};
 use record::value_record::value_record_at;
-use rules::ValueRecord;
 use texts::put_line;
+use view::children_of;
 use write::put::WritePos;
-
-// How many children a record's node has.
-fn child_count(r: ValueRecord) -> u64
-    ensures { λ n. ⌜ n ≡ childCount r ⌝ }
-{
-    let kind = r.kind;
-    if kind < 15 {
-        return 0;
-    }
-    r.size
-}
 
 // A node of a row: the row's number, the node's record, and the payload bytes before it.
 pub struct RowNode {
@@ -42,7 +31,7 @@ fn list_value(
     ensures { λ q. ⌜ Listed (now (records .entry)) (now (store .entry)) depth node to q (now (text .entry)) (now (text .exit)) ⌝ }
 {
     let own = value_record_at(records, node.at);
-    let count = child_count(own);
+    let count = children_of(own);
     let mut q = WritePos {
         at: node.at + 1,
         from: node.from + (own.size - count) as usize,

@@ -105,15 +105,15 @@ wordOf label.Children value = []
 wordOf label.Needed value = []
 
 -- a bracket is closed where one was opened
-unfoldable pub closing : List ℕ → List ℕ
-closing label = pick (isNone label) [] (ascii ")")
+unfoldable pub closingBracket : List ℕ → List ℕ
+closingBracket label = pick (isNone label) [] (ascii ")")
 
 -- what is carried: in brackets, with commas between
 unfoldable pub carried : Labels → ℕ → ℕ → ℕ → List ℕ
 carried l a b c =
     item (ascii " (") (labelled (l .first)) a (wordOf (l .first) a)
     ++ (item (ascii ", ") (labelled (l .second)) b (wordOf (l .second) b)
-    ++ (item (ascii ", ") (labelled (l .third)) c (wordOf (l .third) c) ++ closing (labelled (l .first))))
+    ++ (item (ascii ", ") (labelled (l .third)) c (wordOf (l .third) c) ++ closingBracket (labelled (l .first))))
 
 -- ` at PLACE after ROWS rows, BYTES bytes`
 unfoldable pub stoppedAt : ℕ → ℕ → ℕ → List ℕ

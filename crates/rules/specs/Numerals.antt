@@ -74,11 +74,11 @@ integerTextRule x s = pick (integerWidthOk x) (textInto (integerText x) s) (reco
 -- ---- examples: -1, 0, 255, the lowest int128 and the highest, the highest int256
 
 -- so many times one byte, and then another
-unfoldable pub filled : ℕ → ℕ → ℕ → List ℕ
-filled n b top = replicate n b ++ (top ∷ [])
+unfoldable pub repeatedByte : ℕ → ℕ → ℕ → List ℕ
+repeatedByte n b top = replicate n b ++ (top ∷ [])
 
 unfoldable pub exampleIntegers : List (List ℕ)
-exampleIntegers = filled 15 255 255 ∷ filled 31 0 0 ∷ (255 ∷ filled 14 0 0) ∷ filled 15 0 128 ∷ filled 15 255 127 ∷ filled 31 255 127 ∷ []
+exampleIntegers = repeatedByte 15 255 255 ∷ repeatedByte 31 0 0 ∷ (255 ∷ repeatedByte 14 0 0) ∷ repeatedByte 15 0 128 ∷ repeatedByte 15 255 127 ∷ repeatedByte 31 255 127 ∷ []
 
 unfoldable pub exampleTexts : List (List ℕ)
 exampleTexts =

@@ -15,7 +15,7 @@ use Rattle.rules.proofs.Tests.{all-each, and-both, and-all, false-not}
 use Rattle.rules.proofs.Codes.{every-form}
 use Rattle.wire.proofs.CodeTable.{two}
 use Rattle.rules.specs.Query.{scalarAlone}
-use Rattle.value.specs.Records.{storedOk, ownSize, mostContent, hasPayload, scalarOk, recordOk}
+use Rattle.value.specs.Records.{storedOk, ownSize, mostContent, hasPayload, scalarOk, valueRecordOk}
 
 -- ---- scalars
 
@@ -169,6 +169,6 @@ module _ (size content from store : ℕ) where
   scalar-in unknown l c = false-not (and-both _ _ c .0)
 
 -- so does that of a record of a scalar kind
-pub record-in : (r : ValueRecord) (tagged : Bool) (from store : ℕ) → from ≤ store → r .kind < 15 → recordOk r tagged from store ≡ true → from + r .size ≤ store
-unfolding recordOk pick
+pub record-in : (r : ValueRecord) (tagged : Bool) (from store : ℕ) → from ≤ store → r .kind < 15 → valueRecordOk r tagged from store ≡ true → from + r .size ≤ store
+unfolding valueRecordOk pick
 record-in r tagged from store l k c = scalar-in (r .size) (r .content) from store (form (r .kind)) l (rw (lt-ltb (r .kind) 15 k) at (and-both _ _ c .1))

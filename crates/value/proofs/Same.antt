@@ -22,7 +22,7 @@ use Rattle.rules.proofs.Stands.{leAt-lt, length-part}
 use Rattle.value_laws.proofs.Codes.{empty-code, truth-code}
 use Rattle.value_laws.proofs.Parse.{Holds, holds, fails, then, when}
 use Rattle.rules.specs.Query.{scalarAlone, parentAlone}
-use Rattle.value.specs.Records.{tagOk, storedOk, hasPayload, scalarOk, recordOk}
+use Rattle.value.specs.Records.{tagOk, storedOk, hasPayload, scalarOk, valueRecordOk}
 use Rattle.value.specs.Walk.{_>>=_, past, nextRecord, walkChildren, walkOn, walkTable}
 use Rattle.value.specs.declared.TablePos.{TablePos}
 use Rattle.value.specs.declared.Walked.{Walked}
@@ -284,10 +284,10 @@ module _ (table store : List ℕ) (bs : Bytes table) (short : length store < 2 ^
       -- the node, by its kind
       unfoldable Node : Type 0
       Node = forgot (ifRecordIs table store (tagFor b (p .at)) p (nodeValue table store (valueAt table store d) (kindOf (r .kind)) r p))
-          ≡ pick (ltb (p .at) (valueRecordsIn (length table)) and recordOk r b (p .from) (length store)) (walkOn (walkTable table (length store) d) r (spot p)) Broken
+          ≡ pick (ltb (p .at) (valueRecordsIn (length table)) and valueRecordOk r b (p .from) (length store)) (walkOn (walkTable table (length store) d) r (spot p)) Broken
 
       scalar-node : r .kind < 15 → Node
-      unfolding Node recordOk walkOn nodeValue kindOf pick
+      unfolding Node valueRecordOk walkOn nodeValue kindOf pick
       scalar-node h =
           let z = scalar-is l (form (r .kind)) refl in
           rw (lt-ltb (r .kind) 15 h) (heads (z .size) (z .content) (z .size-fits) (z .content-fits) _ (z .each) ∙ under _ _ _ _ _ (under _ _ _ _ _ (z .same)))
@@ -296,7 +296,7 @@ module _ (table store : List ℕ) (bs : Bytes table) (short : length store < 2 ^
       parent-node : {A : Type 0} (s : ℕ) (x : Parsed A) (f : A → Value) → s < 256 ^ 4 → 15 ≤ r .kind → nodeValue table store (valueAt table store d) (kindOf (r .kind)) r p ≡ rule._>>=_ x (λ z. Whole (f (z .0)) (z .1)) →
           Holds (λ a q. headOf (f a) (tagFor b (p .at)) (p .from) ≡ valueRecord (r .kind) (tagFor b (p .at)) s 0) x →
           pick (eqb (r .size) s and eqb (r .content) 0) (forgot x) Broken ≡ pick (parentAlone (r .kind) (r .size) (r .content)) (walkChildren (walkTable table (length store) d (ltb (r .kind) 17)) (r .size) (nextRecord (spot p))) Broken → Node
-      unfolding Node recordOk walkOn pick
+      unfolding Node valueRecordOk walkOn pick
       parent-node s x f l h e each same = rw (e, le-ltb (r .kind) 15 h)
           (heads s 0 l (omega arith) (rule._>>=_ x (λ z. Whole (f (z .0)) (z .1))) (then each (λ z g. holds {a = f (z .0)} g)) ∙ under _ _ _ _ _ (under _ _ _ _ _ (rw (wraps x f) same)))
 

@@ -13,7 +13,7 @@ use Rattle.rules.specs.ValueRecord.{valueRecordsIn, valueRecordAt}
 use Rattle.rules.specs.declared.table_record.ValueRecord.{ValueRecord}
 use Rattle.rules.proofs.Tests.{and-both, either}
 use Rattle.rules.specs.Query.{parentAlone}
-use Rattle.value.specs.Records.{recordOk}
+use Rattle.value.specs.Records.{valueRecordOk}
 use Rattle.value.specs.Walk.{_>>=_, past, nextRecord, walkChildren, walkOn, walkTable}
 use Rattle.value.specs.declared.TablePos.{TablePos}
 use Rattle.value.specs.declared.Walked.{Walked}
@@ -54,8 +54,8 @@ children-one child p = rw (children-more child 1 p (omega arith)) (by (child p))
 -- ---- the node step
 
 -- a variant has one child
-variant-size : (r : ValueRecord) (tagged : Bool) (from store : ℕ) → r .kind ≡ 15 → recordOk r tagged from store ≡ true → r .size ≡ 1
-unfolding recordOk parentAlone pick
+variant-size : (r : ValueRecord) (tagged : Bool) (from store : ℕ) → r .kind ≡ 15 → valueRecordOk r tagged from store ≡ true → r .size ≡ 1
+unfolding valueRecordOk parentAlone pick
 variant-size r tagged from store k e =
     let a = and-both _ _ e .1 in
     let f : parentAlone (r .kind) (r .size) (r .content) ≡ true = rw (le-ltb (r .kind) 15 (omega (arith, k))) at a in
@@ -75,10 +75,10 @@ module _ (table : List ℕ) (store d : ℕ) (tagged : Bool) (p : TablePos) where
 
   module _ (h : 0 < d) where
     -- what a node comes to
-    walk-is : walkTable table store d tagged p ≡ pick (ltb (p .at) (valueRecordsIn (length table)) and recordOk (valueRecordAt table (p .at)) tagged (p .from) store) (walkOn (walkTable table store (d - 1)) (valueRecordAt table (p .at)) p) Broken
+    walk-is : walkTable table store d tagged p ≡ pick (ltb (p .at) (valueRecordsIn (length table)) and valueRecordOk (valueRecordAt table (p .at)) tagged (p .from) store) (walkOn (walkTable table store (d - 1)) (valueRecordAt table (p .at)) p) Broken
     walk-is = by d h
       where
-        by : (n : ℕ) → 0 < n → walkTable table store n tagged p ≡ pick (ltb (p .at) (valueRecordsIn (length table)) and recordOk (valueRecordAt table (p .at)) tagged (p .from) store) (walkOn (walkTable table store (n - 1)) (valueRecordAt table (p .at)) p) Broken
+        by : (n : ℕ) → 0 < n → walkTable table store n tagged p ≡ pick (ltb (p .at) (valueRecordsIn (length table)) and valueRecordOk (valueRecordAt table (p .at)) tagged (p .from) store) (walkOn (walkTable table store (n - 1)) (valueRecordAt table (p .at)) p) Broken
         by zero l = absurd (omega arith)
         by (suc n) l = let e : suc n - 1 ≡ n = omega arith in rw e (unfold walkTable in refl)
 
@@ -87,7 +87,7 @@ module _ (table : List ℕ) (store d : ℕ) (tagged : Bool) (p : TablePos) where
     unfolding pick _and_
     walk-out l = rw (walk-is, le-ltb (p .at) (valueRecordsIn (length table)) l)
 
-    module _ (l : p .at < valueRecordsIn (length table)) (r : ValueRecord) (e : r ≡ valueRecordAt table (p .at)) (b : Bool) (c : b ≡ recordOk r tagged (p .from) store) where
+    module _ (l : p .at < valueRecordsIn (length table)) (r : ValueRecord) (e : r ≡ valueRecordAt table (p .at)) (b : Bool) (c : b ≡ valueRecordOk r tagged (p .from) store) where
       -- a record that is wrong where it stands
       pub walk-bad : b ≡ false → Broken ≡ walkTable table store d tagged p
       unfolding pick _and_

@@ -58,7 +58,7 @@ unfoldable pub scalarOk : Form → ℕ → ℕ → ℕ → ℕ → Bool
 scalarOk f size content from store = scalarAlone f size content and pick (hasPayload f) (storedOk size content from store) true
 
 -- a record
-unfoldable pub recordOk : ValueRecord → Bool → ℕ → ℕ → Bool
-recordOk r tagged from store =
+unfoldable pub valueRecordOk : ValueRecord → Bool → ℕ → ℕ → Bool
+valueRecordOk r tagged from store =
     (eqb (r .spare) 0 and tagOk tagged (r .tag))
     and pick (ltb (r .kind) 15) (scalarOk (form (r .kind)) (r .size) (r .content) from store) (parentAlone (r .kind) (r .size) (r .content))

@@ -8,7 +8,7 @@ use lib.Dec.{ltb}
 use Rattle.rules.specs.Choice.{pick, _and_}
 use Rattle.rules.specs.ValueRecord.{valueRecordsIn, valueRecordAt}
 use Rattle.rules.specs.declared.table_record.ValueRecord.{ValueRecord}
-use Rattle.value.specs.Records.{recordOk}
+use Rattle.value.specs.Records.{valueRecordOk}
 use Rattle.value.specs.declared.TablePos.{TablePos}
 use Rattle.value.specs.declared.Walked.{Walked}
 use Rattle.value.specs.declared.Walked.the-variants.{At, Broken}
@@ -41,4 +41,4 @@ unfoldable pub walkTable : List ℕ → ℕ → ℕ → Bool → TablePos → Wa
 walkTable table store zero tagged p = Broken
 walkTable table store (suc d) tagged p =
     let r = valueRecordAt table (p .at) in
-    pick (ltb (p .at) (valueRecordsIn (length table)) and recordOk r tagged (p .from) store) (walkOn (walkTable table store d) r p) Broken
+    pick (ltb (p .at) (valueRecordsIn (length table)) and valueRecordOk r tagged (p .from) store) (walkOn (walkTable table store d) r p) Broken

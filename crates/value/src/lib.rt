@@ -6,7 +6,7 @@ ghost use Rattle.rules.specs.Wire.{form};
 ghost use Rattle.rules.specs.Refusals.{BadValueTable};
 ghost use Rattle.rules.specs.ValueCheck.{tableForm, valueTableRule};
 ghost use Rattle.rules.specs.Query.{scalarAlone, parentAlone, recordAlone};
-ghost use Rattle.value.specs.Records.{tagOk, storedOk, ownSize, mostContent, scalarOk, recordOk};
+ghost use Rattle.value.specs.Records.{tagOk, storedOk, ownSize, mostContent, scalarOk, valueRecordOk};
 ghost use Rattle.value.specs.Walk.{walkChildren, walkTable};
 use record::value_record::records_in;
 use record::value_record::value_record_at;
@@ -153,7 +153,7 @@ pub fn record_alone(r: ValueRecord) -> bool
 // What a record says is right where it stands, but for its children.
 pub fn record_ok(r: ValueRecord, tagged: bool, from: usize, store: usize) -> bool
     requires { ⌜ from ≤ store ⌝ }
-    ensures { λ b. ⌜ b ≡ recordOk r tagged from store ⌝ }
+    ensures { λ b. ⌜ b ≡ valueRecordOk r tagged from store ⌝ }
 {
     let spare = r.spare;
     if spare != 0 {

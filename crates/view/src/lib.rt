@@ -49,8 +49,8 @@ pub fn tag_at(records: &[u8], i: usize) -> Viewed
     }
 }
 
-// What is no variant, repeated value or tuple has no children.
-fn children_of(r: ValueRecord) -> u64
+// How many children a record has: what is no variant, repeated value or tuple has none.
+pub fn children_of(r: ValueRecord) -> u64
     ensures { λ n. ⌜ n ≡ childCount r ⌝ }
 {
     let kind = r.kind;

@@ -19,7 +19,7 @@ use Rattle.rules.specs.declared.wire_type.WireType.the-variants.{Nothing}
 use Rattle.rules.specs.declared.wire_type.Known.{Known}
 use Rattle.rules.specs.declared.wire_type.Known.the-variants.{Wire, Unknown}
 use Rattle.wire.specs.declared.names.Span.{Span}
-use Rattle.wire.specs.Table.{joined, names, Spells}
+use Rattle.wire.specs.Table.{joinedNames, names, Spells}
 use Rattle.rules.proofs.Tests.{and-both, all-each}
 use Rattle.rules.proofs.Stands.{part-whole}
 use Rattle.rules.proofs.Orders.{is-equal, order-equal}
@@ -38,7 +38,7 @@ entryOk k =
 
 -- the whole table, by one computed test
 entries : all entryOk 20 ≡ true
-unfolding all _and_ entryOk pick part order isEqual wireTypes spelling ascii nameOf joined names
+unfolding all _and_ entryOk pick part order isEqual wireTypes spelling ascii nameOf joinedNames names
 entries = refl
 
 module _ (t : WireType) (k : ℕ) (e : k ≡ codeOf t) where

@@ -10,12 +10,12 @@ use Rattle.rules.specs.Names.{nameOf}
 use Rattle.rules.specs.declared.wire_type.WireType.{WireType}
 use Rattle.wire.specs.declared.names.Span.{Span}
 
-unfoldable pub joined : List WireType → List ℕ
-joined [] = []
-joined (t ∷ ts) = nameOf t ++ joined ts
+unfoldable pub joinedNames : List WireType → List ℕ
+joinedNames [] = []
+joinedNames (t ∷ ts) = nameOf t ++ joinedNames ts
 
 unfoldable pub names : List ℕ
-names = joined wireTypes
+names = joinedNames wireTypes
 
 -- the bytes of a span in the table are a name
 pub record Spells (s : Span) (name : List ℕ) : Type 0 where

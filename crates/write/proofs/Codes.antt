@@ -13,14 +13,14 @@ use Rattle.rules.specs.Bytes.{le}
 use Rattle.leaves.specs.Shapes.{as-variant, as-repeated, shapeOf}
 use Rattle.leaves.proofs.Codes.{shape-variant, shape-repeated, shape-tuple}
 use Rattle.judge.specs.Tags.{tagBytes, closing}
-use Rattle.write.specs.Putting.{childOf}
+use Rattle.write.specs.Putting.{childNode}
 
 -- a tag names the child, but for a tuple's
-pub tagged-child : (code first i tag : ℕ) → code < 19 → first + tag ≡ childOf (shapeOf code) first i tag
-unfolding shapeOf pick childOf
+pub tagged-child : (code first i tag : ℕ) → code < 19 → first + tag ≡ childNode (shapeOf code) first i tag
+unfolding shapeOf pick childNode
 tagged-child code first i tag h = rw (lt-ltb code 19 h) (either (ltb code 17))
   where
-    either : (b : Bool) → first + tag ≡ childOf (pick b (as-variant (widthOf (form code))) (as-repeated (widthOf (form code)))) first i tag
+    either : (b : Bool) → first + tag ≡ childNode (pick b (as-variant (widthOf (form code))) (as-repeated (widthOf (form code)))) first i tag
     either true = refl
     either false = refl
 

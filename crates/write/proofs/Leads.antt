@@ -17,7 +17,7 @@ use Rattle.leaves.specs.Shapes.{shapeOf}
 use Rattle.read.specs.Ready.{HasNode}
 use Rattle.judge.specs.Table.{wholeValue, wholeEnd, valueStandingAt}
 use Rattle.judge.specs.Tags.{tagBytes}
-use Rattle.write.specs.Putting.{childOf, leafKept, leafSize, leafBytes, putOf, written, Writable, Parted, Placed}
+use Rattle.write.specs.Putting.{childNode, leafKept, leafSize, leafBytes, putOf, writtenAt, Writable, Parted, Placed}
 use Rattle.write.specs.Leads.{Left, LeadsToPut}
 use Rattle.write.specs.declared.put.WritePos.{WritePos}
 use Rattle.write.specs.declared.put.ToPut.{ToPut}
@@ -51,7 +51,7 @@ module _ (sch : List ℕ) (i depth : ℕ) (table store : List ℕ) (p : WritePos
     parts : Parted sch i code table p (own .size)
     parts = parted-node sch i depth table store p (length out) k own m code is l
 
-    first-turn : Filling sch i table store (shapeOf code) (depth - 1) (own .size) (wholeEnd (valueStandingAt table store depth (p .at) (p .from))) (p .to) (putOf (written sch i depth table store (p .at) (p .from))) out out (record { at = p .at + 1; from = p .from; to = p .to }) 0
+    first-turn : Filling sch i table store (shapeOf code) (depth - 1) (own .size) (wholeEnd (valueStandingAt table store depth (p .at) (p .from))) (p .to) (putOf (writtenAt sch i depth table store (p .at) (p .from))) out out (record { at = p .at + 1; from = p .from; to = p .to }) 0
     first-turn = fill-first sch i depth table store p (length out) k code (own .size) parts out
 
     one : own .size ≡ 1
@@ -70,7 +70,7 @@ module _ (sch : List ℕ) (i depth : ℕ) (table store : List ℕ) (p : WritePos
       pub tag-in : p .to + length (tagBytes (shapeOf code) (v .tag)) ≤ length out
       tag-in = tag-room sch i depth table store p (length out) k code (own .size) parts first f refl first-turn some v n
 
-      module _ (c : ℕ) (x : c ≡ childOf (shapeOf code) first 0 (v .tag)) where
+      module _ (c : ℕ) (x : c ≡ childNode (shapeOf code) first 0 (v .tag)) where
         pub child-in : HasNode sch c
         child-in = may-write sch i depth table store p (length out) k code (own .size) parts first f refl first-turn some v n c _ x refl (length out) refl .inside
 

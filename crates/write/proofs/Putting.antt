@@ -1,4 +1,4 @@
--- The loop of the walk that writes: what is left to write, over what is written, is the whole.
+-- The loop of the walk that writes: what is left to write, over what is writtenAt, is the whole.
 -- Assumes nothing.
 use Prim.Native.Nat.{ℕ, _+_, _-_, _^_, _≤_, _<_}
 use mathlib.Core.Path.{_≡_, refl, sym, ap, _∙_}
@@ -30,7 +30,7 @@ use Rattle.read.specs.Ready.{SoundNodes}
 use Rattle.judge.specs.Table.{IsWhole, wholeValue, wholeEnd, valueStandingAt}
 use Rattle.judge.specs.Judging.{taggedOf, chosenOf, countOk}
 use Rattle.judge.specs.Tags.{tagBytes, closing}
-use Rattle.write.specs.Putting.{childOf, IsPut, putOf, unlimited, written, Writable, Parted, Placed}
+use Rattle.write.specs.Putting.{childNode, IsPut, putOf, unlimited, writtenAt, Writable, Parted, Placed}
 use Rattle.write.specs.declared.put.WritePos.{WritePos}
 use Rattle.judge.specs.declared.walk.Chosen.{Chosen}
 use Rattle.judge.specs.declared.walk.Chosen.the-variants as chosen-is
@@ -87,13 +87,13 @@ tagged-node code first count w t r c u e = by (ltb t count) e
     by true f = unfold pick in cc
     by false f = absurd (let z : _≡_ {A = ℕ} 0 1 = unfold pick in cc in omega arith)
 
-picked-node : (code first count : ℕ) (s : Shape) (j t r c w : ℕ) → chosenOf code first count s j t r ≡ chosen-is.Child c w → c ≡ childOf s first j t
-unfolding chosenOf childOf
+picked-node : (code first count : ℕ) (s : Shape) (j t r c w : ℕ) → chosenOf code first count s j t r ≡ chosen-is.Child c w → c ≡ childNode s first j t
+unfolding chosenOf childNode
 picked-node code first count (as-variant u) j t r c w e = tagged-node code first count u t r c w e
 picked-node code first count (as-repeated u) j t r c w e = tagged-node code first count u t r c w e
 picked-node code first count as-tuple j t r c w e = (cc)
 
--- a value that was written is of the right kind
+-- a value that was writtenAt is of the right kind
 pub fitted : (sch : List ℕ) (lim : Limits) (v : Value) (i r : ℕ) (b : List ℕ) → write sch lim v i r ≡ Put b → valueKind v ≡ kindFor (nodeAt sch i .code) (form (nodeAt sch i .code))
 fitted sch lim v i r b e = by (eqb (valueKind v) (kindFor (nodeAt sch i .code) (form (nodeAt sch i .code)))) refl
   where
@@ -141,11 +141,11 @@ module _ (sch : List ℕ) (i : ℕ) (table store : List ℕ) where
       unfolding kids
       the-part = parted _ _ _ _ _ (rw (the-turn .first) at (g .puts))
 
-      tag-is : the-part .node ≡ childOf s (nodeAt sch i .first) j (valueRecordAt table (q .at) .tag)
-      tag-is = picked-node (nodeAt sch i .code) (nodeAt sch i .first) (nodeAt sch i .children) s j (the-turn .tag) (q .at) (the-part .node) (the-part .width) (the-part .picks) ∙ ap (childOf s (nodeAt sch i .first) j) (sym (the-turn .bears))
+      tag-is : the-part .node ≡ childNode s (nodeAt sch i .first) j (valueRecordAt table (q .at) .tag)
+      tag-is = picked-node (nodeAt sch i .code) (nodeAt sch i .first) (nodeAt sch i .children) s j (the-turn .tag) (q .at) (the-part .node) (the-part .width) (the-part .picks) ∙ ap (childNode s (nodeAt sch i .first) j) (sym (the-turn .bears))
 
       -- in the block
-      pub child-low : (s ≡ as-tuple → j < nodeAt sch i .children) → childOf s (nodeAt sch i .first) j (valueRecordAt table (q .at) .tag) < nodeAt sch i .first + nodeAt sch i .children
+      pub child-low : (s ≡ as-tuple → j < nodeAt sch i .children) → childNode s (nodeAt sch i .first) j (valueRecordAt table (q .at) .tag) < nodeAt sch i .first + nodeAt sch i .children
       child-low c = rw tag-is at (choice (nodeAt sch i .code) (nodeAt sch i .first) (nodeAt sch i .children) s j (the-turn .tag) (q .at) (the-part .node) (the-part .width) c (the-part .picks) .low)
 
       -- the sizes of the three parts
@@ -155,11 +155,11 @@ module _ (sch : List ℕ) (i : ℕ) (table store : List ℕ) where
       abbrev start : WritePos
       start = record { at = q .at; from = q .from; to = q .to + length (tagBytes s (valueRecordAt table (q .at) .tag)) }
 
-      child-written : written sch (childOf s (nodeAt sch i .first) j (valueRecordAt table (q .at) .tag)) d table store (q .at) (q .from) ≡ Put (the-part .child)
-      unfolding written wholeValue
+      child-written : writtenAt sch (childNode s (nodeAt sch i .first) j (valueRecordAt table (q .at) .tag)) d table store (q .at) (q .from) ≡ Put (the-part .child)
+      unfolding writtenAt wholeValue
       child-written = rw (turn-stands table store short d (q .at) (q .from) z (g .rest) the-turn, ← tag-is) (the-part .puts)
 
-      pub child-writable : SoundNodes sch → nodeStart (nodeAt sch i .first + nodeAt sch i .children) ≤ length sch → (s ≡ as-tuple → j < nodeAt sch i .children) → to₀ + length all ≤ length out₀ → Writable sch (childOf s (nodeAt sch i .first) j (valueRecordAt table (q .at) .tag)) d table store start (length out)
+      pub child-writable : SoundNodes sch → nodeStart (nodeAt sch i .first + nodeAt sch i .children) ≤ length sch → (s ≡ as-tuple → j < nodeAt sch i .children) → to₀ + length all ≤ length out₀ → Writable sch (childNode s (nodeAt sch i .first) j (valueRecordAt table (q .at) .tag)) d table store start (length out)
       unfolding IsWhole IsPut putOf Closed
       child-writable k m c l = record {
         sound = k;
@@ -171,7 +171,7 @@ module _ (sch : List ℕ) (i : ℕ) (table store : List ℕ) where
         fits = rw child-written (omega (arith, l, g .room, g .same, sizes));
       }
 
-      module _ (out′ out″ : List ℕ) (r : WritePos) (a : out′ ≡ over out (q .to) (tagBytes s (valueRecordAt table (q .at) .tag))) (p : Placed sch (childOf s (nodeAt sch i .first) j (valueRecordAt table (q .at) .tag)) d table store start r out′ out″) where
+      module _ (out′ out″ : List ℕ) (r : WritePos) (a : out′ ≡ over out (q .to) (tagBytes s (valueRecordAt table (q .at) .tag))) (p : Placed sch (childNode s (nodeAt sch i .first) j (valueRecordAt table (q .at) .tag)) d table store start r out′ out″) where
         pub filling-next : Filling s d size z to₀ all out₀ out″ r (j + 1)
         unfolding items putOf wholeEnd
         filling-next =
@@ -206,8 +206,8 @@ module _ (sch : List ℕ) (i depth : ℕ) (table store : List ℕ) (p : WritePos
   pub has-depth : 0 < depth
   has-depth = deep table store short reads-whole
 
-  pub all-put : write sch unlimited (wholeValue (valueStandingAt table store depth (p .at) (p .from))) i (p .at) ≡ Put (putOf (written sch i depth table store (p .at) (p .from)))
-  unfolding written
+  pub all-put : write sch unlimited (wholeValue (valueStandingAt table store depth (p .at) (p .from))) i (p .at) ≡ Put (putOf (writtenAt sch i depth table store (p .at) (p .from)))
+  unfolding writtenAt
   all-put = put-is _ (k .accepted)
 
   pub right-kind : valueKind (wholeValue (valueStandingAt table store depth (p .at) (p .from))) ≡ kindFor (nodeAt sch i .code) (form (nodeAt sch i .code))
@@ -223,16 +223,16 @@ module _ (sch : List ℕ) (i depth : ℕ) (table store : List ℕ) (p : WritePos
     pub is-size : size ≡ sizeOf (wholeValue (valueStandingAt table store depth (p .at) (p .from)))
     is-size = o .count ∙ count-told table store short reads-whole is-compound
 
-    tested : (countOk (shapeOf code) size (nodeAt sch i .children) ≡ true) × (kids sch unlimited i (shapeOf code) (children (wholeValue (valueStandingAt table store depth (p .at) (p .from)))) 0 (p .at + 1) ≡ Put (putOf (written sch i depth table store (p .at) (p .from))))
+    tested : (countOk (shapeOf code) size (nodeAt sch i .children) ≡ true) × (kids sch unlimited i (shapeOf code) (children (wholeValue (valueStandingAt table store depth (p .at) (p .from)))) 0 (p .at + 1) ≡ Put (putOf (writtenAt sch i depth table store (p .at) (p .from))))
     tested = rw (o .is, is-size) (passed-test _ _ _ _ (sym (opens sch unlimited i _ (p .at) is-compound right-kind (reads-whole .fits)) ∙ all-put))
 
     pub size-fits : size < 2 ^ 32
     size-fits = omega (arith, o .count, size-small table store short reads-whole)
 
-    pub fill-first : (out : List ℕ) → Filling sch i table store (shapeOf code) (depth - 1) size (wholeEnd (valueStandingAt table store depth (p .at) (p .from))) (p .to) (putOf (written sch i depth table store (p .at) (p .from))) out out (record { at = p .at + 1; from = p .from; to = p .to }) 0
+    pub fill-first : (out : List ℕ) → Filling sch i table store (shapeOf code) (depth - 1) size (wholeEnd (valueStandingAt table store depth (p .at) (p .from))) (p .to) (putOf (writtenAt sch i depth table store (p .at) (p .from))) out out (record { at = p .at + 1; from = p .from; to = p .to }) 0
     fill-first out = record {
       rest = children (wholeValue (valueStandingAt table store depth (p .at) (p .from)));
-      bytes = putOf (written sch i depth table store (p .at) (p .from));
+      bytes = putOf (writtenAt sch i depth table store (p .at) (p .from));
       reads = below-reads table store short reads-whole is-compound;
       counted = omega (arith, is-size, parent _ is-compound (reads-whole .fits) .count);
       puts = tested .1;
@@ -241,12 +241,12 @@ module _ (sch : List ℕ) (i depth : ℕ) (table store : List ℕ) (p : WritePos
       same = refl;
     }
 
-    module _ (first : ℕ) (the-first : first ≡ nodeAt sch i .first) {out₀ out : List ℕ} (same₀ : length out₀ ≡ room) {q : WritePos} {j : ℕ} (g : Filling sch i table store (shapeOf code) (depth - 1) size (wholeEnd (valueStandingAt table store depth (p .at) (p .from))) (p .to) (putOf (written sch i depth table store (p .at) (p .from))) out₀ out q j) where
+    module _ (first : ℕ) (the-first : first ≡ nodeAt sch i .first) {out₀ out : List ℕ} (same₀ : length out₀ ≡ room) {q : WritePos} {j : ℕ} (g : Filling sch i table store (shapeOf code) (depth - 1) size (wholeEnd (valueStandingAt table store depth (p .at) (p .from))) (p .to) (putOf (writtenAt sch i depth table store (p .at) (p .from))) out₀ out q j) where
       in-block : nodeStart (nodeAt sch i .first + nodeAt sch i .children) ≤ length sch
       unfolding Closed
       in-block = k .sound .closed i (k .inside)
 
-      -- the last child is written
+      -- the last child is writtenAt
       pub last-room : size ≤ j → q .to + length (closing (shapeOf code)) ≤ length out
       last-room h = omega (arith, ap length (all-written sch i table store short g h .1 .1), g .room, g .same, same₀, k .fits)
 
@@ -272,8 +272,8 @@ module _ (sch : List ℕ) (i depth : ℕ) (table store : List ℕ) (p : WritePos
           chooses : shapeOf code ≡ as-tuple → j < nodeAt sch i .children
           chooses e = counted-tuple code size (nodeAt sch i .children) j (tested .0) h e
 
-          module _ (c to : ℕ) (x : c ≡ childOf (shapeOf code) first j (v .tag)) (y : to ≡ q .to + length (tagBytes (shapeOf code) (v .tag))) where
-            pub child-is : c ≡ childOf (shapeOf code) (nodeAt sch i .first) j (valueRecordAt table (q .at) .tag)
+          module _ (c to : ℕ) (x : c ≡ childNode (shapeOf code) first j (v .tag)) (y : to ≡ q .to + length (tagBytes (shapeOf code) (v .tag))) where
+            pub child-is : c ≡ childNode (shapeOf code) (nodeAt sch i .first) j (valueRecordAt table (q .at) .tag)
             child-is = x ∙ rw (the-first, told)
 
             pub to-is : to ≡ q .to + length (tagBytes (shapeOf code) (valueRecordAt table (q .at) .tag))
@@ -283,5 +283,5 @@ module _ (sch : List ℕ) (i depth : ℕ) (table store : List ℕ) (p : WritePos
             may-write n e = rw (child-is, to-is, e) (child-writable sch i table store short g h (k .sound) in-block chooses (omega (arith, same₀, k .fits)))
 
             pub fill-next : (out′ out″ : List ℕ) (r : WritePos) → out′ ≡ over out (q .to) (tagBytes (shapeOf code) (v .tag)) → Placed sch c (depth - 1) table store (record { at = q .at; from = q .from; to = to }) r out′ out″ →
-                Filling sch i table store (shapeOf code) (depth - 1) size (wholeEnd (valueStandingAt table store depth (p .at) (p .from))) (p .to) (putOf (written sch i depth table store (p .at) (p .from))) out₀ out″ r (j + 1)
+                Filling sch i table store (shapeOf code) (depth - 1) size (wholeEnd (valueStandingAt table store depth (p .at) (p .from))) (p .to) (putOf (writtenAt sch i depth table store (p .at) (p .from))) out₀ out″ r (j + 1)
             fill-next out′ out″ r a w = filling-next sch i table store short g h out′ out″ r (rw told at a) (rw (child-is, to-is) at w)

@@ -1,4 +1,4 @@
--- The row that is written: the table's tag, and the value of the whole table at the block's root.
+-- The row that is writtenAt: the table's tag, and the value of the whole table at the block's root.
 -- Assumes nothing.
 use Prim.Native.Nat.{ℕ, _+_, _≤_}
 use mathlib.Core.Path.{_≡_, refl, ap, _∙_}
@@ -17,7 +17,7 @@ use Rattle.rules.proofs.Stands.{length-le}
 use Rattle.judge.specs.Table.{valueStandingAt}
 use Rattle.judge.proofs.Standing.{stands, inside}
 use Rattle.judge.proofs.Root.{table-stands}
-use Rattle.write.specs.Putting.{IsPut, putOf, written, Writable, Parted, Placed, RowWritable, rowBytes}
+use Rattle.write.specs.Putting.{IsPut, putOf, writtenAt, Writable, Parted, Placed, RowWritable, rowBytes}
 use Rattle.write.specs.declared.put.WritePos.{WritePos}
 
 -- the table's tag, and then the value
@@ -30,11 +30,11 @@ module _ (sch table store : List ℕ) (to room : ℕ) (k : RowWritable sch table
   whole-stands : valueStandingAt table store 64 0 0 ≡ tableValue table store
   whole-stands = table-stands table store (omega (arith, k .short)) (k .whole)
 
-  parts : IsPut (written sch 0 64 table store 0 0) × (rowBytes sch table store ≡ le 2 0 ++ putOf (written sch 0 64 table store 0 0))
-  unfolding written rowBytes writeRow
+  parts : IsPut (writtenAt sch 0 64 table store 0 0) × (rowBytes sch table store ≡ le 2 0 ++ putOf (writtenAt sch 0 64 table store 0 0))
+  unfolding writtenAt rowBytes writeRow
   parts = rw whole-stands (row-put _ (k .accepted))
 
-  size : length (rowBytes sch table store) ≡ 2 + length (putOf (written sch 0 64 table store 0 0))
+  size : length (rowBytes sch table store) ≡ 2 + length (putOf (writtenAt sch 0 64 table store 0 0))
   size = ap length (parts .1) ∙ simp (length-append, length-le)
 
   pub tag-fits : to + 2 ≤ room
@@ -50,4 +50,4 @@ module _ (sch table store : List ℕ) (to room : ℕ) (k : RowWritable sch table
   root-parted v m code e = record { is = e; compound = omega (arith, e, k .tuple); count = ap (λ (u : ValueRecord). u .size) m }
 
   pub row-placed : (q : WritePos) (out out′ out″ : List ℕ) → out′ ≡ over out to (le 2 0) → Placed sch 0 64 table store (record { at = 0; from = 0; to = to + 2 }) q out′ out″ → (q .to ≡ to + length (rowBytes sch table store)) × (out″ ≡ over out to (rowBytes sch table store))
-  row-placed q out out′ out″ a p = (omega (arith, p .to-end, size), p .bytes ∙ rw (a, parts .1) (over-at (le 2 0) (putOf (written sch 0 64 table store 0 0)) out to (to + 2) (rw length-le)))
+  row-placed q out out′ out″ a p = (omega (arith, p .to-end, size), p .bytes ∙ rw (a, parts .1) (over-at (le 2 0) (putOf (writtenAt sch 0 64 table store 0 0)) out to (to + 2) (rw length-le)))

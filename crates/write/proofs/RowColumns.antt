@@ -12,7 +12,7 @@ use Rattle.rules.specs.ValueRecord.{valueRecordAt}
 use Rattle.leaves.specs.Shapes.{shapeOf, as-tuple}
 use Rattle.judge.specs.Table.{wholeEnd, valueStandingAt}
 use Rattle.judge.specs.Tags.{tagBytes, closing}
-use Rattle.write.specs.Putting.{childOf, putOf, written, Writable, Parted, Placed, RowWritable}
+use Rattle.write.specs.Putting.{childNode, putOf, writtenAt, Writable, Parted, Placed, RowWritable}
 use Rattle.write.specs.declared.put.WritePos.{WritePos}
 use Rattle.write.proofs.Putting.{Filling, fill-first, placed, sums, may-write, fill-next}
 use Rattle.write.proofs.Root.{root-writable}
@@ -20,7 +20,7 @@ use Rattle.write.proofs.Root.{root-writable}
 -- what is left of the columns, put over what stands, makes the row
 abbrev pub Columns : (sch table store : List ℕ) (to size : ℕ) → List ℕ → List ℕ → WritePos → ℕ → Type 0
 Columns sch table store to size out₀ out q j =
-    Filling sch 0 table store as-tuple 63 size (wholeEnd (valueStandingAt table store 64 0 0)) (to + 2) (putOf (written sch 0 64 table store 0 0)) out₀ out q j
+    Filling sch 0 table store as-tuple 63 size (wholeEnd (valueStandingAt table store 64 0 0)) (to + 2) (putOf (writtenAt sch 0 64 table store 0 0)) out₀ out q j
 
 module _ (sch table store : List ℕ) (to room : ℕ) (k : RowWritable sch table store to room) (size : ℕ) (e : size ≡ valueRecordAt table 0 .size) where
   parted : Parted sch 0 19 table (record { at = 0; from = 0; to = to + 2 }) size
@@ -38,11 +38,11 @@ module _ (sch table store : List ℕ) (to room : ℕ) (k : RowWritable sch table
       column-sum l = sums sch 0 64 table store _ room (root-writable sch table store to room k room refl) 19 size parted first f same g h (valueRecordAt table (q .at)) refl l .0
 
       pub column-writable : (n : ℕ) → n ≡ length out → Writable sch (first + j) 63 table store q n
-      unfolding shapeOf pick childOf tagBytes
+      unfolding shapeOf pick childNode tagBytes
       column-writable n l = may-write sch 0 64 table store _ room (root-writable sch table store to room k room refl) 19 size parted first f same g h (valueRecordAt table (q .at)) refl (first + j) (q .to) refl (omega arith) n l
 
       pub columns-next : (out″ : List ℕ) (r : WritePos) → Placed sch (first + j) 63 table store q r out out″ → Columns sch table store to size out₀ out″ r (j + 1)
-      unfolding shapeOf pick childOf tagBytes over
+      unfolding shapeOf pick childNode tagBytes over
       columns-next out″ r w = fill-next sch 0 64 table store _ room (root-writable sch table store to room k room refl) 19 size parted first f same g h (valueRecordAt table (q .at)) refl (first + j) (q .to) refl (omega arith) out out″ r refl w
 
     pub columns-end : size ≤ j → Placed sch 0 64 table store (record { at = 0; from = 0; to = to + 2 }) q out₀ out

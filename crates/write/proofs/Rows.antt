@@ -25,7 +25,7 @@ use Rattle.value_laws.proofs.Parse.{Reads}
 use Rattle.judge.specs.Table.{wholeValue, wholeEnd, valueStandingAt}
 use Rattle.judge.specs.Judging.{RowJudgeable, judgedRow}
 use Rattle.write.specs.Putting.{IsPut, putOf, unlimited, RowWritable, rowBytes}
-use Rattle.write.specs.Row.{roomFor, placedRow}
+use Rattle.write.specs.Row.{outputRoomFor, placedRow}
 use Rattle.judge.specs.declared.walk.JudgePos.{JudgePos}
 use Rattle.judge.specs.declared.walk.Judged.{Judged}
 use Rattle.judge.specs.declared.walk.Judged.the-variants as judged-is
@@ -37,12 +37,12 @@ use Rattle.write.proofs.Unlimited.{row-free}
 -- ---- the test of the room
 
 module _ (at room r : ℕ) (e : Extent) (is : r ≡ room) (in-room : at ≤ room) where
-  pub no-room : r - at < e .bytes → Refused (NoOutputRoom (e .bytes) at) ≡ roomFor at room e
-  unfolding roomFor pick
+  pub no-room : r - at < e .bytes → Refused (NoOutputRoom (e .bytes) at) ≡ outputRoomFor at room e
+  unfolding outputRoomFor pick
   no-room h = rw (lt-leb (at + e .bytes) room (omega (arith, is, in-room, h)))
 
-  pub has-room : e .bytes ≤ r - at → Row e ≡ roomFor at room e
-  unfolding roomFor pick
+  pub has-room : e .bytes ≤ r - at → Row e ≡ outputRoomFor at room e
+  unfolding outputRoomFor pick
   has-room h = rw (le-leb (at + e .bytes) room (omega (arith, is, in-room, h)))
 
 module _ (e : Extent) (o out : List ℕ) (r : Refusal) where
@@ -93,18 +93,18 @@ module _ (sch table store : List ℕ) (s : Settings) (k : RowJudgeable sch table
       unfolding placedRow placed reading.room
       written-row = rw (put .is) (sym (ap (λ (u : Extent). pick (leb (at + u .bytes) (min (length out) 4294967295)) (record { answer = Row u; output = over out at (put .bytes) }) (unwritten out (NoOutputRoom (u .bytes) at))) is-extent))
 
-      module _ (w : Written) (g : w ≡ roomFor at (min (length out) 4294967295) extent) where
+      module _ (w : Written) (g : w ≡ outputRoomFor at (min (length out) 4294967295) extent) where
         pub row-answer : w ≡ placedRow sch (limits s) table store out at .answer
-        unfolding roomFor
+        unfolding outputRoomFor
         row-answer = g ∙ sym (ap (λ (u : Encoded). u .answer) written-row ∙ same-answer extent _ out _ (leb (at + p .bytes) (min (length out) 4294967295)))
 
         pub row-unplaced : (x : Refusal) → w ≡ Refused x → out ≡ placedRow sch (limits s) table store out at .output
-        unfolding roomFor
+        unfolding outputRoomFor
         row-unplaced x h = sym (ap (λ (u : Encoded). u .output) written-row ∙ none-put extent _ out _ _ x (sym g ∙ h))
 
         module _ (y : Extent) (h : w ≡ Row y) where
           there : (leb (at + p .bytes) (min (length out) 4294967295) ≡ true) × (placedRow sch (limits s) table store out at .output ≡ over out at (put .bytes))
-          unfolding roomFor
+          unfolding outputRoomFor
           there = let t = some-put extent (over out at (put .bytes)) out _ _ y (sym g ∙ h) in (t .0, ap (λ (u : Encoded). u .output) written-row ∙ t .1)
 
           free : writeRow sch unlimited (wholeValue (tableValue table store)) ≡ Put (put .bytes)

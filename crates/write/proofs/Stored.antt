@@ -1,4 +1,4 @@
--- Values without children: what is written of each is what its record and the payload store hold.
+-- Values without children: what is writtenAt of each is what its record and the payload store hold.
 -- Assumes nothing.
 use Prim.Native.Nat.{ℕ, _+_, _^_, _≤_, _<_}
 use mathlib.Core.Path.{_≡_, refl, sym, ap, _∙_}
@@ -24,7 +24,7 @@ use Rattle.value_laws.proofs.Records.{content-is}
 use Rattle.value_laws.proofs.Parse.{Reads}
 use Rattle.value_laws.proofs.Codes.{nothing-taken, boolean-taken}
 use Rattle.judge.specs.Table.{wholeValue, valueStandingAt}
-use Rattle.write.specs.Putting.{leafKept, leafSize, leafBytes, putOf, unlimited, written, Writable, Parted, Placed}
+use Rattle.write.specs.Putting.{leafKept, leafSize, leafBytes, putOf, unlimited, writtenAt, Writable, Parted, Placed}
 use Rattle.write.specs.declared.put.WritePos.{WritePos}
 use Rattle.judge.proofs.Codes.{leaf-kind, fixed-range, raw-range, sized-range}
 use Rattle.write.proofs.Numbers.{LeafIs, blob-is, wide-is, narrow-is}
@@ -102,13 +102,13 @@ module _ (sch : List ℕ) (i depth : ℕ) (table store : List ℕ) (p : WritePos
   parted-node l = record { is = is; compound = l; count = ap (λ (u : ValueRecord). u .size) m }
 
   module _ (l : code < 15) where
-    the-leaf : Leaf table store code (p .at) (p .from) (wholeValue (valueStandingAt table store depth (p .at) (p .from))) (putOf (written sch i depth table store (p .at) (p .from)))
+    the-leaf : Leaf table store code (p .at) (p .from) (wholeValue (valueStandingAt table store depth (p .at) (p .from))) (putOf (writtenAt sch i depth table store (p .at) (p .from)))
     the-leaf = leaf-stored sch i table store short code is (p .at) (p .from) _ _ (reads-whole sch i depth table store p room k) l (rw is (right-kind sch i depth table store p room k)) (all-put sch i depth table store p room k)
 
     kept-is : leafKept code (v .size) ≡ payloadOf (wholeValue (valueStandingAt table store depth (p .at) (p .from)))
     kept-is = ap (λ (u : ValueRecord). leafKept code (u .size)) m ∙ the-leaf .kept
 
-    size-is : leafSize code (v .size) ≡ length (putOf (written sch i depth table store (p .at) (p .from)))
+    size-is : leafSize code (v .size) ≡ length (putOf (writtenAt sch i depth table store (p .at) (p .from)))
     size-is = ap (λ (u : ValueRecord). leafSize code (u .size)) m ∙ the-leaf .long
 
     pub leaf-room : (code < 15) × (p .at + 1 < 2 ^ 64) × (p .from + leafKept code (v .size) ≤ length store) × (p .to + leafSize code (v .size) ≤ room)

@@ -24,10 +24,10 @@ use Rattle.write.specs.declared.put.WritePos.{WritePos}
 -- ---- steps
 
 -- the child after i others, whose record bears a tag
-unfoldable pub childOf : Shape → ℕ → ℕ → ℕ → ℕ
-childOf (as-variant w) first i tag = first + tag
-childOf (as-repeated w) first i tag = first + tag
-childOf as-tuple first i tag = first + i
+unfoldable pub childNode : Shape → ℕ → ℕ → ℕ → ℕ
+childNode (as-variant w) first i tag = first + tag
+childNode (as-repeated w) first i tag = first + tag
+childNode as-tuple first i tag = first + i
 
 -- a value without children: its payload bytes, the row's bytes for it, and these
 unfoldable pub leafKept : ℕ → ℕ → ℕ
@@ -58,8 +58,8 @@ abbrev pub unlimited : Limits
 unlimited = only largestLimit
 
 -- the writing of the value that stands at a record, at node i
-unfoldable pub written : List ℕ → ℕ → ℕ → List ℕ → List ℕ → ℕ → ℕ → Wrote
-written sch i depth table store at from = write sch unlimited (wholeValue (valueStandingAt table store depth at from)) i at
+unfoldable pub writtenAt : List ℕ → ℕ → ℕ → List ℕ → List ℕ → ℕ → ℕ → Wrote
+writtenAt sch i depth table store at from = write sch unlimited (wholeValue (valueStandingAt table store depth at from)) i at
 
 -- node i of a sound block, a value that stands in the table and was accepted, and room for its bytes
 pub record Writable (sch : List ℕ) (i depth : ℕ) (table store : List ℕ) (p : WritePos) (room : ℕ) : Type 0 where
@@ -68,8 +68,8 @@ pub record Writable (sch : List ℕ) (i depth : ℕ) (table store : List ℕ) (p
   pub whole : IsWhole (valueStandingAt table store depth (p .at) (p .from))
   pub short : length table < 2 ^ 32
   pub within : p .from ≤ length store
-  pub accepted : IsPut (written sch i depth table store (p .at) (p .from))
-  pub fits : p .to + length (putOf (written sch i depth table store (p .at) (p .from))) ≤ room
+  pub accepted : IsPut (writtenAt sch i depth table store (p .at) (p .from))
+  pub fits : p .to + length (putOf (writtenAt sch i depth table store (p .at) (p .from))) ≤ room
 
 -- a node with children, and how many the value has
 pub record Parted (sch : List ℕ) (i code : ℕ) (table : List ℕ) (p : WritePos) (size : ℕ) : Type 0 where
@@ -81,8 +81,8 @@ pub record Parted (sch : List ℕ) (i code : ℕ) (table : List ℕ) (p : WriteP
 pub record Placed (sch : List ℕ) (i depth : ℕ) (table store : List ℕ) (p q : WritePos) (out out′ : List ℕ) : Type 0 where
   pub at-end : q .at ≡ wholeEnd (valueStandingAt table store depth (p .at) (p .from)) .at
   pub from-end : q .from ≡ wholeEnd (valueStandingAt table store depth (p .at) (p .from)) .from
-  pub to-end : q .to ≡ p .to + length (putOf (written sch i depth table store (p .at) (p .from)))
-  pub bytes : out′ ≡ over out (p .to) (putOf (written sch i depth table store (p .at) (p .from)))
+  pub to-end : q .to ≡ p .to + length (putOf (writtenAt sch i depth table store (p .at) (p .from)))
+  pub bytes : out′ ≡ over out (p .to) (putOf (writtenAt sch i depth table store (p .at) (p .from)))
 
 -- ---- a row
 

@@ -14,8 +14,8 @@ use Rattle.rules.specs.declared.answer.Written.the-variants.{Row, Refused}
 use Rattle.judge.specs.Table.{wholeValue}
 
 -- the row, where so much room holds it, or 21 with its bytes and the output position
-unfoldable pub roomFor : ℕ → ℕ → Extent → Written
-roomFor at room row = pick (leb (at + row .bytes) room) (Row row) (Refused (NoOutputRoom (row .bytes) at))
+unfoldable pub outputRoomFor : ℕ → ℕ → Extent → Written
+outputRoomFor at room row = pick (leb (at + row .bytes) room) (Row row) (Refused (NoOutputRoom (row .bytes) at))
 
 -- the table's value, written as a row from a position of the output on
 unfoldable pub placedRow : List ℕ → Limits → List ℕ → List ℕ → List ℕ → ℕ → Encoded

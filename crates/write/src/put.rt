@@ -9,7 +9,7 @@ ghost use Rattle.rules.specs.ValueRecord.{valueRecordAt};
 ghost use Rattle.leaves.specs.Shapes.{shapeOf};
 ghost use Rattle.write.specs.Leads.{LeadsToPut};
 ghost use Rattle.judge.specs.Tags.{tagBytes, closing};
-ghost use Rattle.write.specs.Putting.{childOf, leafKept, leafSize, leafBytes, Writable, Parted, Placed, RowWritable, rowBytes};
+ghost use Rattle.write.specs.Putting.{childNode, leafKept, leafSize, leafBytes, Writable, Parted, Placed, RowWritable, rowBytes};
 use payload::copy;
 use payload::copy_wide;
 use record::node::node_code;
@@ -113,7 +113,7 @@ fn put_leaf(
 // The child after i others, whose record bears `tag`.
 fn child_of(code: u8, first: u64, i: u64, tag: u64) -> usize
     requires { ⌜ (first + i < 2 ^ 64) × (first + tag < 2 ^ 64) ⌝ }
-    ensures { λ r. ⌜ r ≡ childOf (shapeOf code) first i tag ⌝ }
+    ensures { λ r. ⌜ r ≡ childNode (shapeOf code) first i tag ⌝ }
 {
     if code < 19 {
         return (first + tag) as usize;

@@ -6,7 +6,7 @@ ghost use lib.ListN.{length};
 ghost use Rattle.rules.specs.Bytes.{longestSlice};
 ghost use Rattle.rules.specs.Reading.{limits};
 ghost use Rattle.judge.specs.Judging.{RowJudgeable, judgedRow};
-ghost use Rattle.write.specs.Row.{roomFor, placedRow};
+ghost use Rattle.write.specs.Row.{outputRoomFor, placedRow};
 use super::put::put_flat_row;
 use super::put::put_row;
 use judge::walk::JudgePos;
@@ -22,7 +22,7 @@ use rules::room_in;
 // Room for a judged row's bytes from position `at` on, in an output of this length.
 pub fn room_for(row: Extent, at: usize, len: usize) -> Written
     requires { ⌜ at ≤ min len longestSlice ⌝ }
-    ensures { λ r. ⌜ r ≡ roomFor at (min len longestSlice) row ⌝ }
+    ensures { λ r. ⌜ r ≡ outputRoomFor at (min len longestSlice) row ⌝ }
 {
     if room_in(len) - (at as u64) < row.bytes {
         return Written::Refused(Refusal {

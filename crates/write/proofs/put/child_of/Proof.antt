@@ -1,5 +1,5 @@
 use Rattle.leaves.proofs.Codes.{shape-tuple}
-use Rattle.write.specs.Putting.{childOf}
+use Rattle.write.specs.Putting.{childNode}
 use Rattle.write.proofs.Codes.{tagged-child}
 use borrow.Author.Needs.{needs}
 use Rattle.write.proofs.put.child_of.Statement.{statement}
@@ -15,7 +15,7 @@ add-result-2 : tie.Need-add-result-2
 add-result-2 c = search needs
 
 returns-2 : tie.Need-returns-2
-unfolding childOf
+unfolding childNode
 returns-2 c = rw (shape-tuple _ (c .if1 .left))
 
 pub child-of-spec : {M : Type 1} → statement M

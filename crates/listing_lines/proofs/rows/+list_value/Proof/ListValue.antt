@@ -21,17 +21,17 @@ module _ (t : ℕ) where
   pub value-record-at-requires : lts.Need-value-record-at-requires (list-value-calls t) (list-value-at t) list-value.Post Inv-loop μ-loop
   value-record-at-requires c κs = record-in _ _ _ _ _ _ _ (c .before .before .before .pre .1)
 
-  pub child-count-requires : lts.Need-child-count-requires (list-value-calls t) (list-value-at t) list-value.Post Inv-loop μ-loop
-  child-count-requires c κs = search needs
+  pub children-of-requires : lts.Need-children-of-requires (list-value-calls t) (list-value-at t) list-value.Post Inv-loop μ-loop
+  children-of-requires c κs = search needs
 
   pub add-t12 : lts.Need-add-t12 (list-value-calls t) (list-value-at t) list-value.Post Inv-loop μ-loop
   add-t12 c = omega (arith, record-in _ _ _ _ _ _ _ (c .before .before .before .before .before .before .pre .1), c .before .before .before .before .before .before .pre .1 .short)
 
   pub sub-t13 : lts.Need-sub-t13 (list-value-calls t) (list-value-at t) list-value.Post Inv-loop μ-loop
-  sub-t13 c = count-low _ _ _ _ _ _ _ (c .before .before .before .before .before .before .before .pre .1) _ (c .before .before .before .value-record-at .ensures) _ (c .before .before .child-count .ensures)
+  sub-t13 c = count-low _ _ _ _ _ _ _ (c .before .before .before .before .before .before .before .pre .1) _ (c .before .before .before .value-record-at .ensures) _ (c .before .before .children-of .ensures)
 
   pub add-t15 : lts.Need-add-t15 (list-value-calls t) (list-value-at t) list-value.Post Inv-loop μ-loop
-  add-t15 c = omega (arith, from-low _ _ _ _ _ _ _ (c .before .before .before .before .before .before .before .before .pre .1) _ (c .before .before .before .before .value-record-at .ensures) _ (c .before .before .before .child-count .ensures), c .before .before .before .before .before .before .before .before .pre .1 .small)
+  add-t15 c = omega (arith, from-low _ _ _ _ _ _ _ (c .before .before .before .before .before .before .before .before .pre .1) _ (c .before .before .before .before .value-record-at .ensures) _ (c .before .before .before .children-of .ensures), c .before .before .before .before .before .before .before .before .pre .1 .small)
 
   pub sub-put-line : lts.Need-sub-put-line (list-value-calls t) (list-value-at t) list-value.Post Inv-loop μ-loop
   sub-put-line c = omega (arith, c .before .before .before .before .before .before .before .before .before .pre .1 .shallow)
@@ -40,7 +40,7 @@ module _ (t : ℕ) where
   put-line-requires c κs = line-asked _ _ _ _ _ _ _ (c .before .before .before .before .before .before .before .before .before .pre .1) _ (c .before .before .before .before .before .value-record-at .ensures)
 
   pub loop-holds : lts.Need-loop-holds (list-value-calls t) (list-value-at t) list-value.Post Inv-loop μ-loop
-  loop-holds c = going-first _ _ _ _ _ _ _ (c .before .before .before .before .before .before .before .before .before .before .before .before .pre .1) _ (c .before .before .before .before .before .before .before .before .value-record-at .ensures) _ (c .before .before .before .before .before .before .before .child-count .ensures) _ _ _ refl _ (c .before .before .put-line .ensures .0) (c .before .before .put-line .ensures .1)
+  loop-holds c = going-first _ _ _ _ _ _ _ (c .before .before .before .before .before .before .before .before .before .before .before .before .pre .1) _ (c .before .before .before .before .before .before .before .before .value-record-at .ensures) _ (c .before .before .before .before .before .before .before .children-of .ensures) _ _ _ refl _ (c .before .before .put-line .ensures .0) (c .before .before .put-line .ensures .1)
 
   pub sub-list-value : lts.Need-sub-list-value (list-value-calls t) (list-value-at t) list-value.Post Inv-loop μ-loop
   sub-list-value c = omega (arith, has-depth _ _ _ _ _ _ _ (c .before .before .before .before .before .before .before .before .before .before .before .before .before .before .pre .1))
@@ -61,4 +61,4 @@ module _ (t : ℕ) where
   same-length c = c .before .loop .inv .same ∙ c .before .before .before .before .put-line .kept .0
 
   pub returns : lts.Need-returns (list-value-calls t) (list-value-at t) list-value.Post Inv-loop μ-loop
-  returns c = listed _ _ _ _ _ _ _ (c .before .before .before .before .before .before .before .before .before .before .before .before .before .before .pre .1) _ (c .before .before .before .before .before .before .before .before .before .before .value-record-at .ensures) _ (c .before .before .before .before .before .before .before .before .before .child-count .ensures) _ _ _ refl _ (c .before .before .before .before .put-line .ensures .0) (c .before .before .before .before .put-line .ensures .1) _ refl _ _ (none-left _ _ (c .loop-test .left) (c .before .loop .inv))
+  returns c = listed _ _ _ _ _ _ _ (c .before .before .before .before .before .before .before .before .before .before .before .before .before .before .pre .1) _ (c .before .before .before .before .before .before .before .before .before .before .value-record-at .ensures) _ (c .before .before .before .before .before .before .before .before .before .children-of .ensures) _ _ _ refl _ (c .before .before .before .before .put-line .ensures .0) (c .before .before .before .before .put-line .ensures .1) _ refl _ _ (none-left _ _ (c .loop-test .left) (c .before .loop .inv))

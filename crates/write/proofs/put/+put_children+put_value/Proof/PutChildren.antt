@@ -1,6 +1,6 @@
 use Rattle.leaves.specs.Shapes.{shapeOf}
 use Rattle.judge.specs.Table.{wholeEnd, valueStandingAt}
-use Rattle.write.specs.Putting.{putOf, written}
+use Rattle.write.specs.Putting.{putOf, writtenAt}
 use Rattle.write.proofs.Putting.{Filling, record-in, has-depth, code-in, fill-first, last-room, placed, record-there, sums, tag-room, may-write, fill-next}
 use native.Mathlib.Omega.{arith}
 use Prim.Native.Nat.{ℕ, _-_}
@@ -11,7 +11,7 @@ use Rattle.write.proofs.put.+put_children+put_value.Proof.Setup.{put-ch
 
 abbrev pub Inv-loop : lts.InvT-loop
 Inv-loop block node code depth records payload size out₀ first own q₀ i₀ out q i =
-    Filling block node records payload (shapeOf code) (depth - 1) size (wholeEnd (valueStandingAt records payload depth own (q₀ .from))) (q₀ .to) (putOf (written block node depth records payload own (q₀ .from))) out₀ out q i
+    Filling block node records payload (shapeOf code) (depth - 1) size (wholeEnd (valueStandingAt records payload depth own (q₀ .from))) (q₀ .to) (putOf (writtenAt block node depth records payload own (q₀ .from))) out₀ out q i
 
 abbrev pub μ-loop : lts.MeasureT-loop
 μ-loop block node code depth records payload size out₀ first own q₀ i₀ out q i = size - i
