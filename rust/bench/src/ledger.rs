@@ -21,9 +21,9 @@ const ROW: usize = TABLE_TAG + PAYLOAD;
 pub type Copying = fn(&[u8], &mut [u8]);
 
 pub fn each_column(mut from: &[u8], mut to: &mut [u8]) {
-    for length in black_box(COLUMNS) {
-        let (column, next) = from.split_at(length);
-        let (place, rest) = to.split_at_mut(length);
+    for length in black_box(&COLUMNS) {
+        let (column, next) = from.split_at(*length);
+        let (place, rest) = to.split_at_mut(*length);
         place.copy_from_slice(column);
         (from, to) = (next, rest);
     }
