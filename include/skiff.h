@@ -27,9 +27,13 @@ extern "C" {
 #define SKIFF_VERSION "0.1.0"
 
 /* The version of all layouts below: records, answers, parameters. */
-#define SKIFF_LAYOUT 1
+#define SKIFF_LAYOUT 2
 
-/* Settings. The node charge is 1 to 4,096 and each limit at most 4,294,967,295, else SKIFF_SETTING. */
+/*
+ * Settings. The node charge is 1 to 4,096 and each limit at most 4,294,967,295, else SKIFF_SETTING. A string32 and
+ * a yson32 each have a limit of their own, by default the same; each is tested by every call that takes settings,
+ * also where no such blob occurs. To read what skiff_encode wrote, neither may be lower than it was there.
+ */
 #define SKIFF_DEFAULT_NODE_CHARGE UINT64_C(48)
 #define SKIFF_DEFAULT_MAX_BLOB_BYTES UINT64_C(134217728)
 #define SKIFF_DEFAULT_MAX_ROW_BYTES UINT64_C(268435456)
@@ -50,7 +54,7 @@ enum skiff_refusal {
     SKIFF_MISSING_TABLE_SCHEMA = 11,           /* carries index: the table that a row names */
     SKIFF_TRUNCATED = 12,                      /* carries context: what was cut, enum skiff_context */
     SKIFF_ROW_TOO_LARGE = 13,                  /* carries limit */
-    SKIFF_BLOB_TOO_LARGE = 14,                 /* carries type, length, limit */
+    SKIFF_BLOB_TOO_LARGE = 14,                 /* carries type, length, limit: its own type's */
     SKIFF_VALUE_DOES_NOT_MATCH_SCHEMA = 15,    /* carries type, kind */
     SKIFF_TUPLE_LENGTH = 16,                   /* carries expected, actual */
     SKIFF_INVALID_VARIANT_TAG = 17,            /* carries type, tag, children */
@@ -124,7 +128,8 @@ enum skiff_what {
  * skiff_decode answer stands whatever bytes come after the window, but for an end and SKIFF_TRUNCATED;
  * and it is the stream's own answer, with the window's start added to a place that is an offset.
  */
-static inline uint32_t skiff_skip(uint64_t node_charge, uint64_t max_blob_bytes, uint64_t max_row_bytes,
+static inline uint32_t skiff_skip(uint64_t node_charge, uint64_t max_string32_bytes,
+                                  uint64_t max_yson32_bytes, uint64_t max_row_bytes,
                                   const uint8_t *records, size_t records_len,
                                   const uint8_t *names, size_t names_len,
                                   const uint8_t *references, size_t references_len,
@@ -200,7 +205,8 @@ enum skiff_kind {
  * too little room, SKIFF_NO_NODE_ROOM or else SKIFF_NO_PAYLOAD_ROOM carries what all of it needs, with
  * the row's offset for a place. Of each of the two slices only the first 4,294,967,295 bytes count.
  */
-static inline uint32_t skiff_decode(uint64_t node_charge, uint64_t max_blob_bytes, uint64_t max_row_bytes,
+static inline uint32_t skiff_decode(uint64_t node_charge, uint64_t max_string32_bytes,
+                                    uint64_t max_yson32_bytes, uint64_t max_row_bytes,
                                     const uint8_t *records, size_t records_len,
                                     const uint8_t *names, size_t names_len,
                                     const uint8_t *references, size_t references_len,
@@ -212,7 +218,8 @@ static inline uint32_t skiff_decode(uint64_t node_charge, uint64_t max_blob_byte
                                     uint8_t *answer, size_t answer_len);
 
 /* All rows from the start of `input`, until its end or the first refusal, which is then returned. */
-static inline uint32_t skiff_run(uint64_t node_charge, uint64_t max_blob_bytes, uint64_t max_row_bytes,
+static inline uint32_t skiff_run(uint64_t node_charge, uint64_t max_string32_bytes,
+                                 uint64_t max_yson32_bytes, uint64_t max_row_bytes,
                                  const uint8_t *records, size_t records_len,
                                  const uint8_t *names, size_t names_len,
                                  const uint8_t *references, size_t references_len,
@@ -232,7 +239,8 @@ static inline uint32_t skiff_run(uint64_t node_charge, uint64_t max_blob_bytes, 
  * as the stream has at most 4,294,967,295. Where `bytes` and the window's length pass that number, and where
  * there are more rows than bytes, SKIFF_SETTING is answered with 0 rows and 0 bytes.
  */
-static inline uint32_t skiff_run_window(uint64_t node_charge, uint64_t max_blob_bytes, uint64_t max_row_bytes,
+static inline uint32_t skiff_run_window(uint64_t node_charge, uint64_t max_string32_bytes,
+                                        uint64_t max_yson32_bytes, uint64_t max_row_bytes,
                                         const uint8_t *records, size_t records_len,
                                         const uint8_t *names, size_t names_len,
                                         const uint8_t *references, size_t references_len,
@@ -280,7 +288,8 @@ static inline struct skiff_index_record skiff_index_record_at(const uint8_t *ind
  * Refused, it has written nothing to the slice, of which only the first 4,294,967,295 bytes count, and of
  * these whole records.
  */
-static inline uint32_t skiff_build_index(uint64_t node_charge, uint64_t max_blob_bytes, uint64_t max_row_bytes,
+static inline uint32_t skiff_build_index(uint64_t node_charge, uint64_t max_string32_bytes,
+                                         uint64_t max_yson32_bytes, uint64_t max_row_bytes,
                                          const uint8_t *records, size_t records_len,
                                          const uint8_t *names, size_t names_len,
                                          const uint8_t *references, size_t references_len,
@@ -294,7 +303,8 @@ static inline uint32_t skiff_build_index(uint64_t node_charge, uint64_t max_blob
  * that of skiff_run; but where the run comes to the end and the index has fewer or more records, a wrong one,
  * or bytes that are no whole record, it is SKIFF_INDEX_MISMATCH, with all rows and bytes.
  */
-static inline uint32_t skiff_check_index(uint64_t node_charge, uint64_t max_blob_bytes, uint64_t max_row_bytes,
+static inline uint32_t skiff_check_index(uint64_t node_charge, uint64_t max_string32_bytes,
+                                         uint64_t max_yson32_bytes, uint64_t max_row_bytes,
                                          const uint8_t *records, size_t records_len,
                                          const uint8_t *names, size_t names_len,
                                          const uint8_t *references, size_t references_len,
@@ -311,7 +321,8 @@ static inline uint32_t skiff_check_index(uint64_t node_charge, uint64_t max_blob
  * SKIFF_INDEX_MISMATCH, where the old records are not those of the stream's first rows or are more than it
  * has rows; then SKIFF_NO_INDEX_ROOM, as in skiff_build_index.
  */
-static inline uint32_t skiff_extend_index(uint64_t node_charge, uint64_t max_blob_bytes, uint64_t max_row_bytes,
+static inline uint32_t skiff_extend_index(uint64_t node_charge, uint64_t max_string32_bytes,
+                                          uint64_t max_yson32_bytes, uint64_t max_row_bytes,
                                           const uint8_t *records, size_t records_len,
                                           const uint8_t *names, size_t names_len,
                                           const uint8_t *references, size_t references_len,
@@ -329,7 +340,8 @@ static inline uint32_t skiff_extend_index(uint64_t node_charge, uint64_t max_blo
  * below the stream's length; the row; SKIFF_INDEX_MISMATCH where the row is of another table or length than
  * the record says; and last SKIFF_NO_NODE_ROOM and SKIFF_NO_PAYLOAD_ROOM.
  */
-static inline uint32_t skiff_decode_indexed(uint64_t node_charge, uint64_t max_blob_bytes, uint64_t max_row_bytes,
+static inline uint32_t skiff_decode_indexed(uint64_t node_charge, uint64_t max_string32_bytes,
+                                            uint64_t max_yson32_bytes, uint64_t max_row_bytes,
                                             const uint8_t *records, size_t records_len,
                                             const uint8_t *names, size_t names_len,
                                             const uint8_t *references, size_t references_len,
@@ -349,7 +361,8 @@ static inline uint32_t skiff_decode_indexed(uint64_t node_charge, uint64_t max_b
  * value; and last SKIFF_NO_OUTPUT_ROOM, which carries the row's bytes. Of the output only the first
  * 4,294,967,295 bytes count. Nothing is charged, so node_charge and max_row_bytes need only be in bounds.
  */
-static inline uint32_t skiff_encode(uint64_t node_charge, uint64_t max_blob_bytes, uint64_t max_row_bytes,
+static inline uint32_t skiff_encode(uint64_t node_charge, uint64_t max_string32_bytes,
+                                    uint64_t max_yson32_bytes, uint64_t max_row_bytes,
                                     const uint8_t *records, size_t records_len,
                                     const uint8_t *names, size_t names_len,
                                     uint64_t first, uint64_t count,

@@ -28,26 +28,28 @@ static inline uint8_t *skiff_write_to(uint8_t *bytes, size_t len)
 #define SKIFF_READ(slice) skiff_read_from(slice, slice##_len), slice##_len
 #define SKIFF_WRITTEN(slice) skiff_write_to(slice, slice##_len), slice##_len
 
-uint32_t skiff1_skip(uint64_t, uint64_t, uint64_t, const uint8_t *, size_t, const uint8_t *, size_t,
-                     const uint8_t *, size_t, const uint8_t *, size_t, const uint8_t *, size_t, uint64_t,
-                     uint8_t *, size_t);
+uint32_t skiff2_skip(uint64_t, uint64_t, uint64_t, uint64_t, const uint8_t *, size_t, const uint8_t *,
+                     size_t, const uint8_t *, size_t, const uint8_t *, size_t, const uint8_t *, size_t,
+                     uint64_t, uint8_t *, size_t);
 
-static inline uint32_t skiff_skip(uint64_t node_charge, uint64_t max_blob_bytes, uint64_t max_row_bytes,
+static inline uint32_t skiff_skip(uint64_t node_charge, uint64_t max_string32_bytes,
+                                  uint64_t max_yson32_bytes, uint64_t max_row_bytes,
                                   const uint8_t *records, size_t records_len, const uint8_t *names,
                                   size_t names_len, const uint8_t *references, size_t references_len,
                                   const uint8_t *registry, size_t registry_len, const uint8_t *input,
                                   size_t input_len, uint64_t position, uint8_t *answer, size_t answer_len)
 {
-    return skiff1_skip(node_charge, max_blob_bytes, max_row_bytes, SKIFF_READ(records), SKIFF_READ(names),
-                       SKIFF_READ(references), SKIFF_READ(registry), SKIFF_READ(input), position,
-                       SKIFF_WRITTEN(answer));
+    return skiff2_skip(node_charge, max_string32_bytes, max_yson32_bytes, max_row_bytes,
+                       SKIFF_READ(records), SKIFF_READ(names), SKIFF_READ(references),
+                       SKIFF_READ(registry), SKIFF_READ(input), position, SKIFF_WRITTEN(answer));
 }
 
-uint32_t skiff1_decode(uint64_t, uint64_t, uint64_t, const uint8_t *, size_t, const uint8_t *, size_t,
-                       const uint8_t *, size_t, const uint8_t *, size_t, const uint8_t *, size_t,
+uint32_t skiff2_decode(uint64_t, uint64_t, uint64_t, uint64_t, const uint8_t *, size_t, const uint8_t *,
+                       size_t, const uint8_t *, size_t, const uint8_t *, size_t, const uint8_t *, size_t,
                        uint64_t, uint8_t *, size_t, uint8_t *, size_t, uint8_t *, size_t);
 
-static inline uint32_t skiff_decode(uint64_t node_charge, uint64_t max_blob_bytes, uint64_t max_row_bytes,
+static inline uint32_t skiff_decode(uint64_t node_charge, uint64_t max_string32_bytes,
+                                    uint64_t max_yson32_bytes, uint64_t max_row_bytes,
                                     const uint8_t *records, size_t records_len, const uint8_t *names,
                                     size_t names_len, const uint8_t *references, size_t references_len,
                                     const uint8_t *registry, size_t registry_len, const uint8_t *input,
@@ -55,104 +57,113 @@ static inline uint32_t skiff_decode(uint64_t node_charge, uint64_t max_blob_byte
                                     size_t value_records_len, uint8_t *payload, size_t payload_len,
                                     uint8_t *answer, size_t answer_len)
 {
-    return skiff1_decode(node_charge, max_blob_bytes, max_row_bytes, SKIFF_READ(records),
-                         SKIFF_READ(names), SKIFF_READ(references), SKIFF_READ(registry),
-                         SKIFF_READ(input), position, SKIFF_WRITTEN(value_records),
+    return skiff2_decode(node_charge, max_string32_bytes, max_yson32_bytes, max_row_bytes,
+                         SKIFF_READ(records), SKIFF_READ(names), SKIFF_READ(references),
+                         SKIFF_READ(registry), SKIFF_READ(input), position, SKIFF_WRITTEN(value_records),
                          SKIFF_WRITTEN(payload), SKIFF_WRITTEN(answer));
 }
 
-uint32_t skiff1_run(uint64_t, uint64_t, uint64_t, const uint8_t *, size_t, const uint8_t *, size_t,
-                    const uint8_t *, size_t, const uint8_t *, size_t, const uint8_t *, size_t, uint8_t *,
-                    size_t);
+uint32_t skiff2_run(uint64_t, uint64_t, uint64_t, uint64_t, const uint8_t *, size_t, const uint8_t *,
+                    size_t, const uint8_t *, size_t, const uint8_t *, size_t, const uint8_t *, size_t,
+                    uint8_t *, size_t);
 
-static inline uint32_t skiff_run(uint64_t node_charge, uint64_t max_blob_bytes, uint64_t max_row_bytes,
+static inline uint32_t skiff_run(uint64_t node_charge, uint64_t max_string32_bytes,
+                                 uint64_t max_yson32_bytes, uint64_t max_row_bytes,
                                  const uint8_t *records, size_t records_len, const uint8_t *names,
                                  size_t names_len, const uint8_t *references, size_t references_len,
                                  const uint8_t *registry, size_t registry_len, const uint8_t *input,
                                  size_t input_len, uint8_t *answer, size_t answer_len)
 {
-    return skiff1_run(node_charge, max_blob_bytes, max_row_bytes, SKIFF_READ(records), SKIFF_READ(names),
-                      SKIFF_READ(references), SKIFF_READ(registry), SKIFF_READ(input),
-                      SKIFF_WRITTEN(answer));
+    return skiff2_run(node_charge, max_string32_bytes, max_yson32_bytes, max_row_bytes,
+                      SKIFF_READ(records), SKIFF_READ(names), SKIFF_READ(references),
+                      SKIFF_READ(registry), SKIFF_READ(input), SKIFF_WRITTEN(answer));
 }
 
-uint32_t skiff1_run_window(uint64_t, uint64_t, uint64_t, const uint8_t *, size_t, const uint8_t *, size_t,
+uint32_t skiff2_run_window(uint64_t, uint64_t, uint64_t, uint64_t, const uint8_t *, size_t,
                            const uint8_t *, size_t, const uint8_t *, size_t, const uint8_t *, size_t,
-                           uint64_t, uint64_t, uint8_t *, size_t);
+                           const uint8_t *, size_t, uint64_t, uint64_t, uint8_t *, size_t);
 
-static inline uint32_t skiff_run_window(uint64_t node_charge, uint64_t max_blob_bytes,
-                                        uint64_t max_row_bytes, const uint8_t *records,
-                                        size_t records_len, const uint8_t *names, size_t names_len,
-                                        const uint8_t *references, size_t references_len,
-                                        const uint8_t *registry, size_t registry_len,
-                                        const uint8_t *window, size_t window_len, uint64_t rows,
-                                        uint64_t bytes, uint8_t *answer, size_t answer_len)
+static inline uint32_t skiff_run_window(uint64_t node_charge, uint64_t max_string32_bytes,
+                                        uint64_t max_yson32_bytes, uint64_t max_row_bytes,
+                                        const uint8_t *records, size_t records_len, const uint8_t *names,
+                                        size_t names_len, const uint8_t *references,
+                                        size_t references_len, const uint8_t *registry,
+                                        size_t registry_len, const uint8_t *window, size_t window_len,
+                                        uint64_t rows, uint64_t bytes, uint8_t *answer, size_t answer_len)
 {
-    return skiff1_run_window(node_charge, max_blob_bytes, max_row_bytes, SKIFF_READ(records),
-                             SKIFF_READ(names), SKIFF_READ(references), SKIFF_READ(registry),
-                             SKIFF_READ(window), rows, bytes, SKIFF_WRITTEN(answer));
+    return skiff2_run_window(node_charge, max_string32_bytes, max_yson32_bytes, max_row_bytes,
+                             SKIFF_READ(records), SKIFF_READ(names), SKIFF_READ(references),
+                             SKIFF_READ(registry), SKIFF_READ(window), rows, bytes,
+                             SKIFF_WRITTEN(answer));
 }
 
-uint32_t skiff1_build_index(uint64_t, uint64_t, uint64_t, const uint8_t *, size_t, const uint8_t *,
-                            size_t, const uint8_t *, size_t, const uint8_t *, size_t, const uint8_t *,
-                            size_t, uint8_t *, size_t, uint8_t *, size_t);
+uint32_t skiff2_build_index(uint64_t, uint64_t, uint64_t, uint64_t, const uint8_t *, size_t,
+                            const uint8_t *, size_t, const uint8_t *, size_t, const uint8_t *, size_t,
+                            const uint8_t *, size_t, uint8_t *, size_t, uint8_t *, size_t);
 
-static inline uint32_t skiff_build_index(uint64_t node_charge, uint64_t max_blob_bytes,
-                                         uint64_t max_row_bytes, const uint8_t *records,
-                                         size_t records_len, const uint8_t *names, size_t names_len,
-                                         const uint8_t *references, size_t references_len,
-                                         const uint8_t *registry, size_t registry_len,
-                                         const uint8_t *input, size_t input_len, uint8_t *index,
-                                         size_t index_len, uint8_t *answer, size_t answer_len)
+static inline uint32_t skiff_build_index(uint64_t node_charge, uint64_t max_string32_bytes,
+                                         uint64_t max_yson32_bytes, uint64_t max_row_bytes,
+                                         const uint8_t *records, size_t records_len, const uint8_t *names,
+                                         size_t names_len, const uint8_t *references,
+                                         size_t references_len, const uint8_t *registry,
+                                         size_t registry_len, const uint8_t *input, size_t input_len,
+                                         uint8_t *index, size_t index_len, uint8_t *answer,
+                                         size_t answer_len)
 {
-    return skiff1_build_index(node_charge, max_blob_bytes, max_row_bytes, SKIFF_READ(records),
-                              SKIFF_READ(names), SKIFF_READ(references), SKIFF_READ(registry),
-                              SKIFF_READ(input), SKIFF_WRITTEN(index), SKIFF_WRITTEN(answer));
+    return skiff2_build_index(node_charge, max_string32_bytes, max_yson32_bytes, max_row_bytes,
+                              SKIFF_READ(records), SKIFF_READ(names), SKIFF_READ(references),
+                              SKIFF_READ(registry), SKIFF_READ(input), SKIFF_WRITTEN(index),
+                              SKIFF_WRITTEN(answer));
 }
 
-uint32_t skiff1_check_index(uint64_t, uint64_t, uint64_t, const uint8_t *, size_t, const uint8_t *,
-                            size_t, const uint8_t *, size_t, const uint8_t *, size_t, const uint8_t *,
-                            size_t, const uint8_t *, size_t, uint8_t *, size_t);
+uint32_t skiff2_check_index(uint64_t, uint64_t, uint64_t, uint64_t, const uint8_t *, size_t,
+                            const uint8_t *, size_t, const uint8_t *, size_t, const uint8_t *, size_t,
+                            const uint8_t *, size_t, const uint8_t *, size_t, uint8_t *, size_t);
 
-static inline uint32_t skiff_check_index(uint64_t node_charge, uint64_t max_blob_bytes,
-                                         uint64_t max_row_bytes, const uint8_t *records,
-                                         size_t records_len, const uint8_t *names, size_t names_len,
-                                         const uint8_t *references, size_t references_len,
-                                         const uint8_t *registry, size_t registry_len,
-                                         const uint8_t *input, size_t input_len, const uint8_t *index,
-                                         size_t index_len, uint8_t *answer, size_t answer_len)
+static inline uint32_t skiff_check_index(uint64_t node_charge, uint64_t max_string32_bytes,
+                                         uint64_t max_yson32_bytes, uint64_t max_row_bytes,
+                                         const uint8_t *records, size_t records_len, const uint8_t *names,
+                                         size_t names_len, const uint8_t *references,
+                                         size_t references_len, const uint8_t *registry,
+                                         size_t registry_len, const uint8_t *input, size_t input_len,
+                                         const uint8_t *index, size_t index_len, uint8_t *answer,
+                                         size_t answer_len)
 {
-    return skiff1_check_index(node_charge, max_blob_bytes, max_row_bytes, SKIFF_READ(records),
-                              SKIFF_READ(names), SKIFF_READ(references), SKIFF_READ(registry),
-                              SKIFF_READ(input), SKIFF_READ(index), SKIFF_WRITTEN(answer));
+    return skiff2_check_index(node_charge, max_string32_bytes, max_yson32_bytes, max_row_bytes,
+                              SKIFF_READ(records), SKIFF_READ(names), SKIFF_READ(references),
+                              SKIFF_READ(registry), SKIFF_READ(input), SKIFF_READ(index),
+                              SKIFF_WRITTEN(answer));
 }
 
-uint32_t skiff1_extend_index(uint64_t, uint64_t, uint64_t, const uint8_t *, size_t, const uint8_t *,
-                             size_t, const uint8_t *, size_t, const uint8_t *, size_t, const uint8_t *,
-                             size_t, uint64_t, uint8_t *, size_t, uint8_t *, size_t);
+uint32_t skiff2_extend_index(uint64_t, uint64_t, uint64_t, uint64_t, const uint8_t *, size_t,
+                             const uint8_t *, size_t, const uint8_t *, size_t, const uint8_t *, size_t,
+                             const uint8_t *, size_t, uint64_t, uint8_t *, size_t, uint8_t *, size_t);
 
-static inline uint32_t skiff_extend_index(uint64_t node_charge, uint64_t max_blob_bytes,
-                                          uint64_t max_row_bytes, const uint8_t *records,
-                                          size_t records_len, const uint8_t *names, size_t names_len,
+static inline uint32_t skiff_extend_index(uint64_t node_charge, uint64_t max_string32_bytes,
+                                          uint64_t max_yson32_bytes, uint64_t max_row_bytes,
+                                          const uint8_t *records, size_t records_len,
+                                          const uint8_t *names, size_t names_len,
                                           const uint8_t *references, size_t references_len,
                                           const uint8_t *registry, size_t registry_len,
                                           const uint8_t *input, size_t input_len, uint64_t old,
                                           uint8_t *index, size_t index_len, uint8_t *answer,
                                           size_t answer_len)
 {
-    return skiff1_extend_index(node_charge, max_blob_bytes, max_row_bytes, SKIFF_READ(records),
-                               SKIFF_READ(names), SKIFF_READ(references), SKIFF_READ(registry),
-                               SKIFF_READ(input), old, SKIFF_WRITTEN(index), SKIFF_WRITTEN(answer));
+    return skiff2_extend_index(node_charge, max_string32_bytes, max_yson32_bytes, max_row_bytes,
+                               SKIFF_READ(records), SKIFF_READ(names), SKIFF_READ(references),
+                               SKIFF_READ(registry), SKIFF_READ(input), old, SKIFF_WRITTEN(index),
+                               SKIFF_WRITTEN(answer));
 }
 
-uint32_t skiff1_decode_indexed(uint64_t, uint64_t, uint64_t, const uint8_t *, size_t, const uint8_t *,
-                               size_t, const uint8_t *, size_t, const uint8_t *, size_t, const uint8_t *,
-                               size_t, const uint8_t *, size_t, uint64_t, uint8_t *, size_t, uint8_t *,
-                               size_t, uint8_t *, size_t);
+uint32_t skiff2_decode_indexed(uint64_t, uint64_t, uint64_t, uint64_t, const uint8_t *, size_t,
+                               const uint8_t *, size_t, const uint8_t *, size_t, const uint8_t *, size_t,
+                               const uint8_t *, size_t, const uint8_t *, size_t, uint64_t, uint8_t *,
+                               size_t, uint8_t *, size_t, uint8_t *, size_t);
 
-static inline uint32_t skiff_decode_indexed(uint64_t node_charge, uint64_t max_blob_bytes,
-                                            uint64_t max_row_bytes, const uint8_t *records,
-                                            size_t records_len, const uint8_t *names, size_t names_len,
+static inline uint32_t skiff_decode_indexed(uint64_t node_charge, uint64_t max_string32_bytes,
+                                            uint64_t max_yson32_bytes, uint64_t max_row_bytes,
+                                            const uint8_t *records, size_t records_len,
+                                            const uint8_t *names, size_t names_len,
                                             const uint8_t *references, size_t references_len,
                                             const uint8_t *registry, size_t registry_len,
                                             const uint8_t *input, size_t input_len, const uint8_t *index,
@@ -160,17 +171,19 @@ static inline uint32_t skiff_decode_indexed(uint64_t node_charge, uint64_t max_b
                                             size_t value_records_len, uint8_t *payload,
                                             size_t payload_len, uint8_t *answer, size_t answer_len)
 {
-    return skiff1_decode_indexed(node_charge, max_blob_bytes, max_row_bytes, SKIFF_READ(records),
-                                 SKIFF_READ(names), SKIFF_READ(references), SKIFF_READ(registry),
-                                 SKIFF_READ(input), SKIFF_READ(index), row, SKIFF_WRITTEN(value_records),
-                                 SKIFF_WRITTEN(payload), SKIFF_WRITTEN(answer));
+    return skiff2_decode_indexed(node_charge, max_string32_bytes, max_yson32_bytes, max_row_bytes,
+                                 SKIFF_READ(records), SKIFF_READ(names), SKIFF_READ(references),
+                                 SKIFF_READ(registry), SKIFF_READ(input), SKIFF_READ(index), row,
+                                 SKIFF_WRITTEN(value_records), SKIFF_WRITTEN(payload),
+                                 SKIFF_WRITTEN(answer));
 }
 
-uint32_t skiff1_encode(uint64_t, uint64_t, uint64_t, const uint8_t *, size_t, const uint8_t *, size_t,
-                       uint64_t, uint64_t, const uint8_t *, size_t, const uint8_t *, size_t, uint8_t *,
-                       size_t, uint64_t, uint8_t *, size_t);
+uint32_t skiff2_encode(uint64_t, uint64_t, uint64_t, uint64_t, const uint8_t *, size_t, const uint8_t *,
+                       size_t, uint64_t, uint64_t, const uint8_t *, size_t, const uint8_t *, size_t,
+                       uint8_t *, size_t, uint64_t, uint8_t *, size_t);
 
-static inline uint32_t skiff_encode(uint64_t node_charge, uint64_t max_blob_bytes, uint64_t max_row_bytes,
+static inline uint32_t skiff_encode(uint64_t node_charge, uint64_t max_string32_bytes,
+                                    uint64_t max_yson32_bytes, uint64_t max_row_bytes,
                                     const uint8_t *records, size_t records_len, const uint8_t *names,
                                     size_t names_len, uint64_t first, uint64_t count,
                                     const uint8_t *value_records, size_t value_records_len,
@@ -178,29 +191,29 @@ static inline uint32_t skiff_encode(uint64_t node_charge, uint64_t max_blob_byte
                                     size_t output_len, uint64_t position, uint8_t *answer,
                                     size_t answer_len)
 {
-    return skiff1_encode(node_charge, max_blob_bytes, max_row_bytes, SKIFF_READ(records),
-                         SKIFF_READ(names), first, count, SKIFF_READ(value_records), SKIFF_READ(payload),
-                         SKIFF_WRITTEN(output), position, SKIFF_WRITTEN(answer));
+    return skiff2_encode(node_charge, max_string32_bytes, max_yson32_bytes, max_row_bytes,
+                         SKIFF_READ(records), SKIFF_READ(names), first, count, SKIFF_READ(value_records),
+                         SKIFF_READ(payload), SKIFF_WRITTEN(output), position, SKIFF_WRITTEN(answer));
 }
 
-uint32_t skiff1_check_value_table(const uint8_t *, size_t, const uint8_t *, size_t, uint8_t *, size_t);
+uint32_t skiff2_check_value_table(const uint8_t *, size_t, const uint8_t *, size_t, uint8_t *, size_t);
 
 static inline uint32_t skiff_check_value_table(const uint8_t *value_records, size_t value_records_len,
                                                const uint8_t *payload, size_t payload_len,
                                                uint8_t *answer, size_t answer_len)
 {
-    return skiff1_check_value_table(SKIFF_READ(value_records), SKIFF_READ(payload), SKIFF_WRITTEN(answer));
+    return skiff2_check_value_table(SKIFF_READ(value_records), SKIFF_READ(payload), SKIFF_WRITTEN(answer));
 }
 
-uint32_t skiff1_integer_text(const uint8_t *, size_t, uint8_t *, size_t, uint8_t *, size_t);
+uint32_t skiff2_integer_text(const uint8_t *, size_t, uint8_t *, size_t, uint8_t *, size_t);
 
 static inline uint32_t skiff_integer_text(const uint8_t *bytes, size_t bytes_len, uint8_t *text,
                                           size_t text_len, uint8_t *answer, size_t answer_len)
 {
-    return skiff1_integer_text(SKIFF_READ(bytes), SKIFF_WRITTEN(text), SKIFF_WRITTEN(answer));
+    return skiff2_integer_text(SKIFF_READ(bytes), SKIFF_WRITTEN(text), SKIFF_WRITTEN(answer));
 }
 
-uint32_t skiff1_check_format(const uint8_t *, size_t, const uint8_t *, size_t, const uint8_t *, size_t,
+uint32_t skiff2_check_format(const uint8_t *, size_t, const uint8_t *, size_t, const uint8_t *, size_t,
                              const uint8_t *, size_t, uint8_t *, size_t);
 
 static inline uint32_t skiff_check_format(const uint8_t *records, size_t records_len,
@@ -209,75 +222,75 @@ static inline uint32_t skiff_check_format(const uint8_t *records, size_t records
                                           const uint8_t *registry, size_t registry_len, uint8_t *answer,
                                           size_t answer_len)
 {
-    return skiff1_check_format(SKIFF_READ(records), SKIFF_READ(names), SKIFF_READ(references),
+    return skiff2_check_format(SKIFF_READ(records), SKIFF_READ(names), SKIFF_READ(references),
                                SKIFF_READ(registry), SKIFF_WRITTEN(answer));
 }
 
-uint32_t skiff1_check_encoder_schema(const uint8_t *, size_t, const uint8_t *, size_t, uint64_t, uint64_t,
+uint32_t skiff2_check_encoder_schema(const uint8_t *, size_t, const uint8_t *, size_t, uint64_t, uint64_t,
                                      uint8_t *, size_t);
 
 static inline uint32_t skiff_check_encoder_schema(const uint8_t *records, size_t records_len,
                                                   const uint8_t *names, size_t names_len, uint64_t first,
                                                   uint64_t count, uint8_t *answer, size_t answer_len)
 {
-    return skiff1_check_encoder_schema(SKIFF_READ(records), SKIFF_READ(names), first, count,
+    return skiff2_check_encoder_schema(SKIFF_READ(records), SKIFF_READ(names), first, count,
                                        SKIFF_WRITTEN(answer));
 }
 
-uint32_t skiff1_parse(const uint8_t *, size_t, uint8_t *, size_t);
+uint32_t skiff2_parse(const uint8_t *, size_t, uint8_t *, size_t);
 
 static inline uint32_t skiff_parse(const uint8_t *name, size_t name_len, uint8_t *answer,
                                    size_t answer_len)
 {
-    return skiff1_parse(SKIFF_READ(name), SKIFF_WRITTEN(answer));
+    return skiff2_parse(SKIFF_READ(name), SKIFF_WRITTEN(answer));
 }
 
-uint32_t skiff1_value(const uint8_t *, size_t, uint64_t, uint8_t *, size_t);
+uint32_t skiff2_value(const uint8_t *, size_t, uint64_t, uint8_t *, size_t);
 
 static inline uint32_t skiff_value(const uint8_t *value_records, size_t value_records_len, uint64_t index,
                                    uint8_t *answer, size_t answer_len)
 {
-    return skiff1_value(SKIFF_READ(value_records), index, SKIFF_WRITTEN(answer));
+    return skiff2_value(SKIFF_READ(value_records), index, SKIFF_WRITTEN(answer));
 }
 
-uint32_t skiff1_kind(const uint8_t *, size_t, uint64_t, uint8_t *, size_t);
+uint32_t skiff2_kind(const uint8_t *, size_t, uint64_t, uint8_t *, size_t);
 
 static inline uint32_t skiff_kind(const uint8_t *value_records, size_t value_records_len, uint64_t record,
                                   uint8_t *answer, size_t answer_len)
 {
-    return skiff1_kind(SKIFF_READ(value_records), record, SKIFF_WRITTEN(answer));
+    return skiff2_kind(SKIFF_READ(value_records), record, SKIFF_WRITTEN(answer));
 }
 
-uint32_t skiff1_tag(const uint8_t *, size_t, uint64_t, uint8_t *, size_t);
+uint32_t skiff2_tag(const uint8_t *, size_t, uint64_t, uint8_t *, size_t);
 
 static inline uint32_t skiff_tag(const uint8_t *value_records, size_t value_records_len, uint64_t record,
                                  uint8_t *answer, size_t answer_len)
 {
-    return skiff1_tag(SKIFF_READ(value_records), record, SKIFF_WRITTEN(answer));
+    return skiff2_tag(SKIFF_READ(value_records), record, SKIFF_WRITTEN(answer));
 }
 
-uint32_t skiff1_child_count(const uint8_t *, size_t, uint64_t, uint8_t *, size_t);
+uint32_t skiff2_child_count(const uint8_t *, size_t, uint64_t, uint8_t *, size_t);
 
 static inline uint32_t skiff_child_count(const uint8_t *value_records, size_t value_records_len,
                                          uint64_t record, uint8_t *answer, size_t answer_len)
 {
-    return skiff1_child_count(SKIFF_READ(value_records), record, SKIFF_WRITTEN(answer));
+    return skiff2_child_count(SKIFF_READ(value_records), record, SKIFF_WRITTEN(answer));
 }
 
-uint32_t skiff1_after(const uint8_t *, size_t, uint64_t, uint8_t *, size_t);
+uint32_t skiff2_after(const uint8_t *, size_t, uint64_t, uint8_t *, size_t);
 
 static inline uint32_t skiff_after(const uint8_t *value_records, size_t value_records_len, uint64_t record,
                                    uint8_t *answer, size_t answer_len)
 {
-    return skiff1_after(SKIFF_READ(value_records), record, SKIFF_WRITTEN(answer));
+    return skiff2_after(SKIFF_READ(value_records), record, SKIFF_WRITTEN(answer));
 }
 
-uint32_t skiff1_field(const uint8_t *, size_t, uint64_t, uint64_t, uint8_t *, size_t);
+uint32_t skiff2_field(const uint8_t *, size_t, uint64_t, uint64_t, uint8_t *, size_t);
 
 static inline uint32_t skiff_field(const uint8_t *value_records, size_t value_records_len, uint64_t record,
                                    uint64_t field, uint8_t *answer, size_t answer_len)
 {
-    return skiff1_field(SKIFF_READ(value_records), record, field, SKIFF_WRITTEN(answer));
+    return skiff2_field(SKIFF_READ(value_records), record, field, SKIFF_WRITTEN(answer));
 }
 
 #undef SKIFF_READ

@@ -60,6 +60,8 @@ static struct delivery read_delivery(const char *folder)
         (delivery).references.bytes, (delivery).references.length, (delivery).registry.bytes, \
         (delivery).registry.length
 
-#define DEFAULT_SETTINGS SKIFF_DEFAULT_NODE_CHARGE, SKIFF_DEFAULT_MAX_BLOB_BYTES, SKIFF_DEFAULT_MAX_ROW_BYTES
+/* And under which settings: both limits of blobs have the same default. */
+#define DEFAULT_SETTINGS \
+    SKIFF_DEFAULT_NODE_CHARGE, SKIFF_DEFAULT_MAX_BLOB_BYTES, SKIFF_DEFAULT_MAX_BLOB_BYTES, SKIFF_DEFAULT_MAX_ROW_BYTES
 
 #endif

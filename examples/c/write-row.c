@@ -29,7 +29,8 @@ static const uint8_t value[] = {
 };
 static const uint8_t payload[] = {'h', 'i'};
 
-#define SETTINGS SKIFF_DEFAULT_NODE_CHARGE, SKIFF_DEFAULT_MAX_BLOB_BYTES, SKIFF_DEFAULT_MAX_ROW_BYTES
+#define SETTINGS \
+    SKIFF_DEFAULT_NODE_CHARGE, SKIFF_DEFAULT_MAX_BLOB_BYTES, SKIFF_DEFAULT_MAX_BLOB_BYTES, SKIFF_DEFAULT_MAX_ROW_BYTES
 #define ANSWER (uint8_t *)answer, sizeof answer
 
 static int refused(const uint64_t *answer)

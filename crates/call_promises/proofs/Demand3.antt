@@ -65,7 +65,7 @@ module _ (κs : Lfts 5) (settings : Settings) (table names : RefT (List ℕ)) (f
   module _ (references registry : RefT (List ℕ)) (v : Value)
       (asked : EncodeAsked (format table names references registry) settings first count (records .now) (payload .now) (output .now) position)
       (is : TableOf v (records .now) (payload .now)) where
-    -- it answers a row exactly when v conforms, each blob is within its limit, and the row fits the output,
+    -- it answers a row exactly when v conforms, each blob is within its type's limit, and the row fits the output,
     pub encoded-exactly-when : (writtenSaid answer .number ≡ 0) ↔ Encodable (schemaOf (format table names references registry) 0) (limits settings) v (output .now) position
     encoded-exactly-when =
         rw (ap (λ (d : Encoded). d .answer) met) (rules.encoded-exactly-when (format table names references registry) settings first count (records .now) (payload .now) (output .now) position asked v is)

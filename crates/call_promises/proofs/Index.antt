@@ -13,10 +13,10 @@ use Rattle.index.proofs.check_index as check-index
 use Rattle.index.proofs.extend_index as extend-index
 use Rattle.indexed_row.proofs.decode_record as decode-record
 use Rattle.indexed_row.proofs.decode_indexed as decode-indexed
-use Rattle.skiff.proofs.indexing.skiff1_build_index as skiff1-build-index
-use Rattle.skiff.proofs.indexing.skiff1_check_index as skiff1-check-index
-use Rattle.skiff.proofs.indexing.skiff1_extend_index as skiff1-extend-index
-use Rattle.skiff.proofs.indexing.skiff1_decode_indexed as skiff1-decode-indexed
+use Rattle.skiff.proofs.indexing.skiff2_build_index as skiff2-build-index
+use Rattle.skiff.proofs.indexing.skiff2_check_index as skiff2-check-index
+use Rattle.skiff.proofs.indexing.skiff2_extend_index as skiff2-extend-index
+use Rattle.skiff.proofs.indexing.skiff2_decode_indexed as skiff2-decode-indexed
 use Rattle.call_promises.proofs.OneAnswer.{OneAnswer, OneOutcome}
 
 -- ---- the calls
@@ -33,17 +33,17 @@ pub decode-indexed-one-answer : OneOutcome decode-indexed.Kinds.ps decode-indexe
 decode-indexed-one-answer κs a x y s t p q = (ap (λ d. d .answer) (p ∙ sym q), ap (λ d. d .records ∷ d .payload ∷ []) (p ∙ sym q))
 
 -- ---- the C functions
-pub skiff1-build-index-one-answer : OneOutcome skiff1-build-index.Kinds.ps skiff1-build-index.Kinds.r (λ κs (charge, (blob, (row, (table, (names, (references, (registry, (input, (index, (answer, _)))))))))). answer .now ∷ index .now ∷ []) skiff1-build-index.Reads.Post
-skiff1-build-index-one-answer κs a x y s t p q = (ap (λ d. d .number) (p ∙ sym q), ap (λ d. d .answer ∷ d .lent ∷ []) (p ∙ sym q))
+pub skiff2-build-index-one-answer : OneOutcome skiff2-build-index.Kinds.ps skiff2-build-index.Kinds.r (λ κs (charge, (string32, (yson32, (row, (table, (names, (references, (registry, (input, (index, (answer, _))))))))))). answer .now ∷ index .now ∷ []) skiff2-build-index.Reads.Post
+skiff2-build-index-one-answer κs a x y s t p q = (ap (λ d. d .number) (p ∙ sym q), ap (λ d. d .answer ∷ d .lent ∷ []) (p ∙ sym q))
 
-pub skiff1-check-index-one-answer : OneOutcome skiff1-check-index.Kinds.ps skiff1-check-index.Kinds.r (λ κs (charge, (blob, (row, (table, (names, (references, (registry, (input, (index, (answer, _)))))))))). answer .now ∷ []) skiff1-check-index.Reads.Post
-skiff1-check-index-one-answer κs a x y s t p q = (ap (λ d. d .number) (p ∙ sym q), ap (λ d. d .answer ∷ []) (p ∙ sym q))
+pub skiff2-check-index-one-answer : OneOutcome skiff2-check-index.Kinds.ps skiff2-check-index.Kinds.r (λ κs (charge, (string32, (yson32, (row, (table, (names, (references, (registry, (input, (index, (answer, _))))))))))). answer .now ∷ []) skiff2-check-index.Reads.Post
+skiff2-check-index-one-answer κs a x y s t p q = (ap (λ d. d .number) (p ∙ sym q), ap (λ d. d .answer ∷ []) (p ∙ sym q))
 
-pub skiff1-extend-index-one-answer : OneOutcome skiff1-extend-index.Kinds.ps skiff1-extend-index.Kinds.r (λ κs (charge, (blob, (row, (table, (names, (references, (registry, (input, (old, (index, (answer, _))))))))))). answer .now ∷ index .now ∷ []) skiff1-extend-index.Reads.Post
-skiff1-extend-index-one-answer κs a x y s t p q = (ap (λ d. d .number) (p ∙ sym q), ap (λ d. d .answer ∷ d .lent ∷ []) (p ∙ sym q))
+pub skiff2-extend-index-one-answer : OneOutcome skiff2-extend-index.Kinds.ps skiff2-extend-index.Kinds.r (λ κs (charge, (string32, (yson32, (row, (table, (names, (references, (registry, (input, (old, (index, (answer, _)))))))))))). answer .now ∷ index .now ∷ []) skiff2-extend-index.Reads.Post
+skiff2-extend-index-one-answer κs a x y s t p q = (ap (λ d. d .number) (p ∙ sym q), ap (λ d. d .answer ∷ d .lent ∷ []) (p ∙ sym q))
 
-pub skiff1-decode-indexed-one-answer : OneOutcome skiff1-decode-indexed.Kinds.ps skiff1-decode-indexed.Kinds.r (λ κs (charge, (blob, (row, (table, (names, (references, (registry, (input, (index, (n, (records, (payload, (answer, _))))))))))))). answer .now ∷ records .now ∷ payload .now ∷ []) skiff1-decode-indexed.Reads.Post
-skiff1-decode-indexed-one-answer κs a x y s t p q = (ap (λ d. d .number) (p ∙ sym q), ap (λ d. d .answer ∷ d .records ∷ d .payload ∷ []) (p ∙ sym q))
+pub skiff2-decode-indexed-one-answer : OneOutcome skiff2-decode-indexed.Kinds.ps skiff2-decode-indexed.Kinds.r (λ κs (charge, (string32, (yson32, (row, (table, (names, (references, (registry, (input, (index, (n, (records, (payload, (answer, _)))))))))))))). answer .now ∷ records .now ∷ payload .now ∷ []) skiff2-decode-indexed.Reads.Post
+skiff2-decode-indexed-one-answer κs a x y s t p q = (ap (λ d. d .number) (p ∙ sym q), ap (λ d. d .answer ∷ d .records ∷ d .payload ∷ []) (p ∙ sym q))
 
 -- ---- the steps
 pub index-records-in-one-answer : OneAnswer index-records-in.Kinds.ps index-records-in.Kinds.r index-records-in.Reads.Post

@@ -7,15 +7,15 @@ use Rattle.hex.proofs.put_hex_bytes as put-hex-bytes
 use Rattle.hex.proofs.put_hex_number as put-hex-number
 use Rattle.hex.proofs.integers.put_signed as put-signed
 use Rattle.hex.proofs.integers.integer_text as integer-text
-use Rattle.skiff.proofs.printing.skiff1_integer_text as skiff1-integer-text
+use Rattle.skiff.proofs.printing.skiff2_integer_text as skiff2-integer-text
 use Rattle.answers.proofs.answer_of_text as answer-of-text
 use Rattle.call_promises.proofs.OneAnswer.{OneAnswer, OneOutcome}
 
 pub integer-text-one-answer : OneOutcome integer-text.Kinds.ps integer-text.Kinds.r (λ κs (bytes, (text, _)). text .now ∷ []) integer-text.Reads.Post
 integer-text-one-answer κs a x y s t p q = (ap (λ d. d .answer) (p ∙ sym q), ap (λ d. d .text ∷ []) (p ∙ sym q))
 
-pub skiff1-integer-text-one-answer : OneOutcome skiff1-integer-text.Kinds.ps skiff1-integer-text.Kinds.r (λ κs (bytes, (text, (answer, _))). answer .now ∷ text .now ∷ []) skiff1-integer-text.Reads.Post
-skiff1-integer-text-one-answer κs a x y s t p q = (ap (λ d. d .number) (p ∙ sym q), ap (λ d. d .answer ∷ d .lent ∷ []) (p ∙ sym q))
+pub skiff2-integer-text-one-answer : OneOutcome skiff2-integer-text.Kinds.ps skiff2-integer-text.Kinds.r (λ κs (bytes, (text, (answer, _))). answer .now ∷ text .now ∷ []) skiff2-integer-text.Reads.Post
+skiff2-integer-text-one-answer κs a x y s t p q = (ap (λ d. d .number) (p ∙ sym q), ap (λ d. d .answer ∷ d .lent ∷ []) (p ∙ sym q))
 
 -- ---- the steps below them
 

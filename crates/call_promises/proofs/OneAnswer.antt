@@ -10,6 +10,8 @@ use borrow.Fn.Kinds.{PK, RK, Dens, Out, resT, endedOf}
 use denote.Triple.Clauses.{AtExit}
 use Rattle.rules.proofs.settings.Settings.new as settings-new
 use Rattle.rules.proofs.settings.Settings.within_bounds as settings-within-bounds
+use Rattle.rules.proofs.settings.Settings.blob_limit as settings-blob-limit
+use Rattle.rules.proofs.settings.limit_of_type as limit-of-type
 use Rattle.rules.proofs.refusal.Why.line as why-line
 use Rattle.rules.proofs.refusal.Refusal.in_numbers as in-numbers
 use Rattle.wire.proofs.names.parse as parse
@@ -28,21 +30,21 @@ use Rattle.windows.proofs.run_after as run-after
 use Rattle.windows.proofs.goes_on as goes-on
 use Rattle.decode.proofs.next_row as next-row
 use Rattle.encode.proofs.encode as encode
-use Rattle.skiff.proofs.reading.skiff1_skip as skiff1-skip
-use Rattle.skiff.proofs.reading.skiff1_run as skiff1-run
-use Rattle.skiff.proofs.reading.skiff1_decode as skiff1-decode
-use Rattle.skiff.proofs.window.skiff1_run_window as skiff1-run-window
-use Rattle.skiff.proofs.writing.skiff1_encode as skiff1-encode
-use Rattle.skiff.proofs.writing.skiff1_check_value_table as skiff1-check-value-table
-use Rattle.skiff.proofs.checking.skiff1_check_format as skiff1-check-format
-use Rattle.skiff.proofs.checking.skiff1_check_encoder_schema as skiff1-check-encoder-schema
-use Rattle.skiff.proofs.checking.skiff1_parse as skiff1-parse
-use Rattle.skiff.proofs.querying.skiff1_value as skiff1-value
-use Rattle.skiff.proofs.viewing.skiff1_kind as skiff1-kind
-use Rattle.skiff.proofs.viewing.skiff1_tag as skiff1-tag
-use Rattle.skiff.proofs.viewing.skiff1_child_count as skiff1-child-count
-use Rattle.skiff.proofs.viewing.skiff1_after as skiff1-after
-use Rattle.skiff.proofs.viewing.skiff1_field as skiff1-field
+use Rattle.skiff.proofs.reading.skiff2_skip as skiff2-skip
+use Rattle.skiff.proofs.reading.skiff2_run as skiff2-run
+use Rattle.skiff.proofs.reading.skiff2_decode as skiff2-decode
+use Rattle.skiff.proofs.window.skiff2_run_window as skiff2-run-window
+use Rattle.skiff.proofs.writing.skiff2_encode as skiff2-encode
+use Rattle.skiff.proofs.writing.skiff2_check_value_table as skiff2-check-value-table
+use Rattle.skiff.proofs.checking.skiff2_check_format as skiff2-check-format
+use Rattle.skiff.proofs.checking.skiff2_check_encoder_schema as skiff2-check-encoder-schema
+use Rattle.skiff.proofs.checking.skiff2_parse as skiff2-parse
+use Rattle.skiff.proofs.querying.skiff2_value as skiff2-value
+use Rattle.skiff.proofs.viewing.skiff2_kind as skiff2-kind
+use Rattle.skiff.proofs.viewing.skiff2_tag as skiff2-tag
+use Rattle.skiff.proofs.viewing.skiff2_child_count as skiff2-child-count
+use Rattle.skiff.proofs.viewing.skiff2_after as skiff2-after
+use Rattle.skiff.proofs.viewing.skiff2_field as skiff2-field
 
 -- one result
 abbrev pub OneAnswer : {n : ℕ} (ps : List (PK n)) (r : RK n) → Out n ps r → Type 0
@@ -58,6 +60,12 @@ settings-new-one-answer κs a x y s t p q = p ∙ sym q
 
 pub settings-within-bounds-one-answer : OneAnswer settings-within-bounds.Kinds.ps settings-within-bounds.Kinds.r settings-within-bounds.Reads.Post
 settings-within-bounds-one-answer κs a x y s t p q = p ∙ sym q
+
+pub settings-blob-limit-one-answer : OneAnswer settings-blob-limit.Kinds.ps settings-blob-limit.Kinds.r settings-blob-limit.Reads.Post
+settings-blob-limit-one-answer κs a x y s t p q = p ∙ sym q
+
+pub limit-of-type-one-answer : OneAnswer limit-of-type.Kinds.ps limit-of-type.Kinds.r limit-of-type.Reads.Post
+limit-of-type-one-answer κs a x y s t p q = p ∙ sym q
 
 pub why-line-one-answer : OneAnswer why-line.Kinds.ps why-line.Kinds.r why-line.Reads.Post
 why-line-one-answer κs a x y s t p q = p ∙ sym q
@@ -118,47 +126,47 @@ next-row-one-answer κs a x y s t p q = (ap (λ d. d .answer) (p ∙ sym q), ap 
 pub encode-one-answer : OneOutcome encode.Kinds.ps encode.Kinds.r (λ κs (settings, (table, (names, (first, (count, (records, (payload, (output, (position, _))))))))). output .now ∷ []) encode.Reads.Post
 encode-one-answer κs a x y s t p q = (ap (λ d. d .answer) (p ∙ sym q), ap (λ d. d .output ∷ []) (p ∙ sym q))
 
-pub skiff1-skip-one-answer : OneOutcome skiff1-skip.Kinds.ps skiff1-skip.Kinds.r (λ κs (charge, (blob, (row, (table, (names, (references, (registry, (input, (position, (answer, _)))))))))). answer .now ∷ []) skiff1-skip.Reads.Post
-skiff1-skip-one-answer κs a x y s t p q = (ap (λ g. g .number) (p ∙ sym q), ap (λ g. g .answer ∷ []) (p ∙ sym q))
+pub skiff2-skip-one-answer : OneOutcome skiff2-skip.Kinds.ps skiff2-skip.Kinds.r (λ κs (charge, (string32, (yson32, (row, (table, (names, (references, (registry, (input, (position, (answer, _))))))))))). answer .now ∷ []) skiff2-skip.Reads.Post
+skiff2-skip-one-answer κs a x y s t p q = (ap (λ g. g .number) (p ∙ sym q), ap (λ g. g .answer ∷ []) (p ∙ sym q))
 
-pub skiff1-run-one-answer : OneOutcome skiff1-run.Kinds.ps skiff1-run.Kinds.r (λ κs (charge, (blob, (row, (table, (names, (references, (registry, (input, (answer, _))))))))). answer .now ∷ []) skiff1-run.Reads.Post
-skiff1-run-one-answer κs a x y s t p q = (ap (λ g. g .number) (p ∙ sym q), ap (λ g. g .answer ∷ []) (p ∙ sym q))
+pub skiff2-run-one-answer : OneOutcome skiff2-run.Kinds.ps skiff2-run.Kinds.r (λ κs (charge, (string32, (yson32, (row, (table, (names, (references, (registry, (input, (answer, _)))))))))). answer .now ∷ []) skiff2-run.Reads.Post
+skiff2-run-one-answer κs a x y s t p q = (ap (λ g. g .number) (p ∙ sym q), ap (λ g. g .answer ∷ []) (p ∙ sym q))
 
-pub skiff1-run-window-one-answer : OneOutcome skiff1-run-window.Kinds.ps skiff1-run-window.Kinds.r (λ κs (charge, (blob, (row, (table, (names, (references, (registry, (window, (rows, (bytes, (answer, _))))))))))). answer .now ∷ []) skiff1-run-window.Reads.Post
-skiff1-run-window-one-answer κs a x y s t p q = (ap (λ g. g .number) (p ∙ sym q), ap (λ g. g .answer ∷ []) (p ∙ sym q))
+pub skiff2-run-window-one-answer : OneOutcome skiff2-run-window.Kinds.ps skiff2-run-window.Kinds.r (λ κs (charge, (string32, (yson32, (row, (table, (names, (references, (registry, (window, (rows, (bytes, (answer, _)))))))))))). answer .now ∷ []) skiff2-run-window.Reads.Post
+skiff2-run-window-one-answer κs a x y s t p q = (ap (λ g. g .number) (p ∙ sym q), ap (λ g. g .answer ∷ []) (p ∙ sym q))
 
-pub skiff1-decode-one-answer : OneOutcome skiff1-decode.Kinds.ps skiff1-decode.Kinds.r (λ κs (charge, (blob, (row, (table, (names, (references, (registry, (input, (position, (records, (payload, (answer, _)))))))))))). answer .now ∷ records .now ∷ payload .now ∷ []) skiff1-decode.Reads.Post
-skiff1-decode-one-answer κs a x y s t p q = (ap (λ g. g .number) (p ∙ sym q), ap (λ g. g .answer ∷ g .records ∷ g .payload ∷ []) (p ∙ sym q))
+pub skiff2-decode-one-answer : OneOutcome skiff2-decode.Kinds.ps skiff2-decode.Kinds.r (λ κs (charge, (string32, (yson32, (row, (table, (names, (references, (registry, (input, (position, (records, (payload, (answer, _))))))))))))). answer .now ∷ records .now ∷ payload .now ∷ []) skiff2-decode.Reads.Post
+skiff2-decode-one-answer κs a x y s t p q = (ap (λ g. g .number) (p ∙ sym q), ap (λ g. g .answer ∷ g .records ∷ g .payload ∷ []) (p ∙ sym q))
 
-pub skiff1-encode-one-answer : OneOutcome skiff1-encode.Kinds.ps skiff1-encode.Kinds.r (λ κs (charge, (blob, (row, (table, (names, (first, (count, (records, (payload, (output, (position, (answer, _)))))))))))). answer .now ∷ output .now ∷ []) skiff1-encode.Reads.Post
-skiff1-encode-one-answer κs a x y s t p q = (ap (λ g. g .number) (p ∙ sym q), ap (λ g. g .answer ∷ g .lent ∷ []) (p ∙ sym q))
+pub skiff2-encode-one-answer : OneOutcome skiff2-encode.Kinds.ps skiff2-encode.Kinds.r (λ κs (charge, (string32, (yson32, (row, (table, (names, (first, (count, (records, (payload, (output, (position, (answer, _))))))))))))). answer .now ∷ output .now ∷ []) skiff2-encode.Reads.Post
+skiff2-encode-one-answer κs a x y s t p q = (ap (λ g. g .number) (p ∙ sym q), ap (λ g. g .answer ∷ g .lent ∷ []) (p ∙ sym q))
 
-pub skiff1-check-value-table-one-answer : OneOutcome skiff1-check-value-table.Kinds.ps skiff1-check-value-table.Kinds.r (λ κs (records, (payload, (answer, _))). answer .now ∷ []) skiff1-check-value-table.Reads.Post
-skiff1-check-value-table-one-answer κs a x y s t p q = (ap (λ g. g .number) (p ∙ sym q), ap (λ g. g .answer ∷ []) (p ∙ sym q))
+pub skiff2-check-value-table-one-answer : OneOutcome skiff2-check-value-table.Kinds.ps skiff2-check-value-table.Kinds.r (λ κs (records, (payload, (answer, _))). answer .now ∷ []) skiff2-check-value-table.Reads.Post
+skiff2-check-value-table-one-answer κs a x y s t p q = (ap (λ g. g .number) (p ∙ sym q), ap (λ g. g .answer ∷ []) (p ∙ sym q))
 
-pub skiff1-check-format-one-answer : OneOutcome skiff1-check-format.Kinds.ps skiff1-check-format.Kinds.r (λ κs (table, (names, (references, (registry, (answer, _))))). answer .now ∷ []) skiff1-check-format.Reads.Post
-skiff1-check-format-one-answer κs a x y s t p q = (ap (λ g. g .number) (p ∙ sym q), ap (λ g. g .answer ∷ []) (p ∙ sym q))
+pub skiff2-check-format-one-answer : OneOutcome skiff2-check-format.Kinds.ps skiff2-check-format.Kinds.r (λ κs (table, (names, (references, (registry, (answer, _))))). answer .now ∷ []) skiff2-check-format.Reads.Post
+skiff2-check-format-one-answer κs a x y s t p q = (ap (λ g. g .number) (p ∙ sym q), ap (λ g. g .answer ∷ []) (p ∙ sym q))
 
-pub skiff1-check-encoder-schema-one-answer : OneOutcome skiff1-check-encoder-schema.Kinds.ps skiff1-check-encoder-schema.Kinds.r (λ κs (table, (names, (first, (count, (answer, _))))). answer .now ∷ []) skiff1-check-encoder-schema.Reads.Post
-skiff1-check-encoder-schema-one-answer κs a x y s t p q = (ap (λ g. g .number) (p ∙ sym q), ap (λ g. g .answer ∷ []) (p ∙ sym q))
+pub skiff2-check-encoder-schema-one-answer : OneOutcome skiff2-check-encoder-schema.Kinds.ps skiff2-check-encoder-schema.Kinds.r (λ κs (table, (names, (first, (count, (answer, _))))). answer .now ∷ []) skiff2-check-encoder-schema.Reads.Post
+skiff2-check-encoder-schema-one-answer κs a x y s t p q = (ap (λ g. g .number) (p ∙ sym q), ap (λ g. g .answer ∷ []) (p ∙ sym q))
 
-pub skiff1-parse-one-answer : OneOutcome skiff1-parse.Kinds.ps skiff1-parse.Kinds.r (λ κs (name, (answer, _)). answer .now ∷ []) skiff1-parse.Reads.Post
-skiff1-parse-one-answer κs a x y s t p q = (ap (λ g. g .number) (p ∙ sym q), ap (λ g. g .answer ∷ []) (p ∙ sym q))
+pub skiff2-parse-one-answer : OneOutcome skiff2-parse.Kinds.ps skiff2-parse.Kinds.r (λ κs (name, (answer, _)). answer .now ∷ []) skiff2-parse.Reads.Post
+skiff2-parse-one-answer κs a x y s t p q = (ap (λ g. g .number) (p ∙ sym q), ap (λ g. g .answer ∷ []) (p ∙ sym q))
 
-pub skiff1-value-one-answer : OneOutcome skiff1-value.Kinds.ps skiff1-value.Kinds.r (λ κs (records, (index, (answer, _))). answer .now ∷ []) skiff1-value.Reads.Post
-skiff1-value-one-answer κs a x y s t p q = (ap (λ g. g .number) (p ∙ sym q), ap (λ g. g .answer ∷ []) (p ∙ sym q))
+pub skiff2-value-one-answer : OneOutcome skiff2-value.Kinds.ps skiff2-value.Kinds.r (λ κs (records, (index, (answer, _))). answer .now ∷ []) skiff2-value.Reads.Post
+skiff2-value-one-answer κs a x y s t p q = (ap (λ g. g .number) (p ∙ sym q), ap (λ g. g .answer ∷ []) (p ∙ sym q))
 
-pub skiff1-kind-one-answer : OneOutcome skiff1-kind.Kinds.ps skiff1-kind.Kinds.r (λ κs (records, (at, (answer, _))). answer .now ∷ []) skiff1-kind.Reads.Post
-skiff1-kind-one-answer κs a x y s t p q = (ap (λ g. g .number) (p ∙ sym q), ap (λ g. g .answer ∷ []) (p ∙ sym q))
+pub skiff2-kind-one-answer : OneOutcome skiff2-kind.Kinds.ps skiff2-kind.Kinds.r (λ κs (records, (at, (answer, _))). answer .now ∷ []) skiff2-kind.Reads.Post
+skiff2-kind-one-answer κs a x y s t p q = (ap (λ g. g .number) (p ∙ sym q), ap (λ g. g .answer ∷ []) (p ∙ sym q))
 
-pub skiff1-tag-one-answer : OneOutcome skiff1-tag.Kinds.ps skiff1-tag.Kinds.r (λ κs (records, (at, (answer, _))). answer .now ∷ []) skiff1-tag.Reads.Post
-skiff1-tag-one-answer κs a x y s t p q = (ap (λ g. g .number) (p ∙ sym q), ap (λ g. g .answer ∷ []) (p ∙ sym q))
+pub skiff2-tag-one-answer : OneOutcome skiff2-tag.Kinds.ps skiff2-tag.Kinds.r (λ κs (records, (at, (answer, _))). answer .now ∷ []) skiff2-tag.Reads.Post
+skiff2-tag-one-answer κs a x y s t p q = (ap (λ g. g .number) (p ∙ sym q), ap (λ g. g .answer ∷ []) (p ∙ sym q))
 
-pub skiff1-child-count-one-answer : OneOutcome skiff1-child-count.Kinds.ps skiff1-child-count.Kinds.r (λ κs (records, (at, (answer, _))). answer .now ∷ []) skiff1-child-count.Reads.Post
-skiff1-child-count-one-answer κs a x y s t p q = (ap (λ g. g .number) (p ∙ sym q), ap (λ g. g .answer ∷ []) (p ∙ sym q))
+pub skiff2-child-count-one-answer : OneOutcome skiff2-child-count.Kinds.ps skiff2-child-count.Kinds.r (λ κs (records, (at, (answer, _))). answer .now ∷ []) skiff2-child-count.Reads.Post
+skiff2-child-count-one-answer κs a x y s t p q = (ap (λ g. g .number) (p ∙ sym q), ap (λ g. g .answer ∷ []) (p ∙ sym q))
 
-pub skiff1-after-one-answer : OneOutcome skiff1-after.Kinds.ps skiff1-after.Kinds.r (λ κs (records, (at, (answer, _))). answer .now ∷ []) skiff1-after.Reads.Post
-skiff1-after-one-answer κs a x y s t p q = (ap (λ g. g .number) (p ∙ sym q), ap (λ g. g .answer ∷ []) (p ∙ sym q))
+pub skiff2-after-one-answer : OneOutcome skiff2-after.Kinds.ps skiff2-after.Kinds.r (λ κs (records, (at, (answer, _))). answer .now ∷ []) skiff2-after.Reads.Post
+skiff2-after-one-answer κs a x y s t p q = (ap (λ g. g .number) (p ∙ sym q), ap (λ g. g .answer ∷ []) (p ∙ sym q))
 
-pub skiff1-field-one-answer : OneOutcome skiff1-field.Kinds.ps skiff1-field.Kinds.r (λ κs (records, (at, (field, (answer, _)))). answer .now ∷ []) skiff1-field.Reads.Post
-skiff1-field-one-answer κs a x y s t p q = (ap (λ g. g .number) (p ∙ sym q), ap (λ g. g .answer ∷ []) (p ∙ sym q))
+pub skiff2-field-one-answer : OneOutcome skiff2-field.Kinds.ps skiff2-field.Kinds.r (λ κs (records, (at, (field, (answer, _)))). answer .now ∷ []) skiff2-field.Reads.Post
+skiff2-field-one-answer κs a x y s t p q = (ap (λ g. g .number) (p ∙ sym q), ap (λ g. g .answer ∷ []) (p ∙ sym q))

@@ -1,9 +1,9 @@
 // Cases, read one after another from standard input, and the lines that answer them. The gate runs programs over it on recorded cases
 // and compares the lines.
 //
-// A case is a header of 64 bytes and five byte strings. The header, little-endian: u32 op; u32 lengths of records, names, references,
-// registry and input; u64 a; u64 b; u64 node charge; u64 largest blob; u64 largest row. A line: refusal number (0 if none), place, and
-// three values, and what a program writes after them.
+// A case is a header of 72 bytes and five byte strings. The header, little-endian: u32 op; u32 lengths of records, names, references,
+// registry and input; u64 a; u64 b; u64 node charge; u64 largest string32; u64 largest yson32; u64 largest row. A line: refusal number (0
+// if none), place, and three values, and what a program writes after them.
 pub mod answer_lines;
 pub mod reports;
 
@@ -38,8 +38,8 @@ fn fill(s: &mut [u8]) -> bool {
 }
 
 // A length of the header.
-fn size_at(head: &[u8; 64], at: usize) -> usize
-    requires { ⌜ at + 4 ≤ 64 ⌝ }
+fn size_at(head: &[u8; 72], at: usize) -> usize
+    requires { ⌜ at + 4 ≤ 72 ⌝ }
     ensures { λ r. ⌜ r ≤ 4194305 ⌝ }
 {
     let size = u32_at(head, at);
@@ -49,11 +49,12 @@ fn size_at(head: &[u8; 64], at: usize) -> usize
     size as usize
 }
 
-fn settings_of(head: &[u8; 64]) -> Settings {
+fn settings_of(head: &[u8; 72]) -> Settings {
     Settings {
         node_charge: u64_at(head, 40),
-        max_blob_bytes: u64_at(head, 48),
-        max_row_bytes: u64_at(head, 56),
+        max_string32_bytes: u64_at(head, 48),
+        max_yson32_bytes: u64_at(head, 56),
+        max_row_bytes: u64_at(head, 64),
     }
 }
 
@@ -79,7 +80,7 @@ pub fn next_case(space: &mut [u8], input: &mut [u8]) -> Case
     ensures { λ r. ⌜ (r .records ≤ r .names) × (r .names ≤ r .references) × (r .references ≤ r .registry) ⌝ }
     ensures { λ r. ⌜ (r .registry ≤ length (now (space .exit))) × (r .input ≤ length (now (input .exit))) ⌝ }
 {
-    let mut head = [0u8; 64];
+    let mut head = [0u8; 72];
     if !fill(&mut head) {
         return no_case();
     }

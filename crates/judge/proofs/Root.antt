@@ -9,21 +9,18 @@ use lib.Dec.{eqb}
 use lib.ListN.{length, length-append}
 use Rattle.rules.specs.Choice.{pick, _and_}
 use Rattle.rules.specs.Bytes.{le}
-use Rattle.rules.specs.Block.{nodeAt}
-use Rattle.rules.specs.Value.{Value, nothing, boolean, number, wide, blob, variant, repeated, tuple, Items, done, item, Values, none, more, recordsOf}
+use Rattle.rules.specs.Value.{Value}
 use Rattle.rules.specs.ValueRecord.{valueRecordsIn, wholeValueRecords}
 use Rattle.rules.specs.ValueTable as table-of
 use Rattle.rules.specs.ValueTable.{headOf, Parsed, Whole, Broken, tagAt, valueAt, ifWholeTable, tableValue}
-use Rattle.rules.specs.Walk.{Limits, blobLimit}
-use Rattle.rules.specs.Reading.{limits}
-use Rattle.rules.specs.declared.settings.Settings.{Settings}
+use Rattle.rules.specs.Walk.{Limits}
 use Rattle.rules.specs.Writing as rule
-use Rattle.rules.specs.Writing.{Wrote, Put, _>>=_, fitting, tagged, write, writeI, writeV, writeRow}
+use Rattle.rules.specs.Writing.{Wrote, Put, _>>=_, write, writeRow}
 use Rattle.rules.proofs.Stands.{length-le}
 use Rattle.value_laws.proofs.Records.{tag-is}
 use Rattle.value_laws.proofs.Parse.{Holds, holds, Reads, reads}
 use Rattle.judge.specs.Table.{IsWhole, wholeValue, wholeEnd, valueStandingAt}
-use Rattle.judge.specs.Judging.{only, judgePos, judged, Judgeable, judgedAt, RowJudgeable, judgedRow}
+use Rattle.judge.specs.Judging.{judgePos, judged, Judgeable, judgedAt, RowJudgeable, judgedRow}
 use Rattle.judge.proofs.Standing.{spot, whole-is, head}
 
 module _ (table store : List ℕ) (short : length table ≤ 4294967295) where
@@ -53,29 +50,6 @@ module _ (table store : List ℕ) (short : length table ≤ 4294967295) where
       let t : tagAt table store 0 ≡ 0 = first-tag _ _ (rw (sym e ∙ whole-is (tableValue table store) h) at (reads table store 64 0 (spot 0 0) (omega arith))) in
       rw t (sym e)
 
--- of the limits, only the longest blob is asked
-module _ (sch : List ℕ) (a b : Limits) (e : a .blob ≡ b .blob) where
-  mutual
-    unfolding write fitting tagged blobLimit
-
-    pub same-limit : (v : Value) (i r : ℕ) → write sch a v i r ≡ write sch b v i r
-    same-limit nothing i r = refl
-    same-limit (boolean x) i r = refl
-    same-limit (number k x) i r = refl
-    same-limit (wide k x) i r = refl
-    same-limit (blob k x) i r = rw e
-    same-limit (variant t v) i r = rw (same-limit v (nodeAt sch i .first + t) (r + 1))
-    same-limit (repeated is) i r = rw (same-limitI is i (r + 1))
-    same-limit (tuple vs) i r = rw (same-limitV vs (nodeAt sch i .first) (r + 1))
-
-    same-limitI : (is : Items) (i r : ℕ) → writeI sch a is i r ≡ writeI sch b is i r
-    same-limitI done i r = refl
-    same-limitI (item t v is) i r = rw (same-limit v (nodeAt sch i .first + t) r, same-limitI is i (r + recordsOf v))
-
-    same-limitV : (vs : Values) (j r : ℕ) → writeV sch a vs j r ≡ writeV sch b vs j r
-    same-limitV none j r = refl
-    same-limitV (more v vs) j r = rw (same-limit v j r, same-limitV vs (j + 1) (r + recordsOf v))
-
 -- the table's tag is two bytes more
 tagged-row : (z : table-of.Spot) (y : Wrote) → judged 2 z y ≡ judged 0 z (y >>= (λ x. Put (le 2 0 ++ x)))
 unfolding judged _>>=_
@@ -86,6 +60,6 @@ module _ (sch table store : List ℕ) (k : RowJudgeable sch table store) where
   pub root-judgeable : Judgeable sch 0 64 table store (judgePos 0 0 2)
   root-judgeable = record { sound = k .sound; inside = k .root; whole = rw (table-stands table store (omega (arith, k .short)) (k .whole)) (k .whole); short = k .short; small = k .small; within = omega arith; few = omega arith }
 
-  pub row-judged : (s : Settings) → judgedAt sch (s .«max_blob_bytes») 0 64 table store (judgePos 0 0 2) ≡ judgedRow sch (limits s) table store
-  unfolding judgedAt judgedRow writeRow limits
-  row-judged s = rw (table-stands table store (omega (arith, k .short)) (k .whole), same-limit sch (only (s .«max_blob_bytes»)) (limits s) refl (wholeValue (tableValue table store)) 0 0) (tagged-row (wholeEnd (tableValue table store)) (write sch (limits s) (wholeValue (tableValue table store)) 0 0))
+  pub row-judged : (lim : Limits) → judgedAt sch lim 0 64 table store (judgePos 0 0 2) ≡ judgedRow sch lim table store
+  unfolding judgedAt judgedRow writeRow
+  row-judged lim = rw (table-stands table store (omega (arith, k .short)) (k .whole)) (tagged-row (wholeEnd (tableValue table store)) (write sch lim (wholeValue (tableValue table store)) 0 0))

@@ -37,9 +37,9 @@ pub record Flat (sch : List ℕ) (i : ℕ) (table store : List ℕ) (p : JudgePo
 
 module _ (sch : List ℕ) (i : ℕ) (table store : List ℕ) where
   -- a column ends at q by the check of the table; where its value stands, judging it says the same; and its bytes are few
-  pub record Seen (blob : ℕ) (p q : JudgePos) : Type 0 where
+  pub record Seen (lim : Limits) (p q : JudgePos) : Type 0 where
     pub walks : At (tablePos q) ≡ walkTable table (length store) 63 false (tablePos p)
-    pub judges : IsWhole (valueStandingAt table store 63 (p .at) (p .from)) → Fits q ≡ judgedAt sch blob i 63 table store p
+    pub judges : IsWhole (valueStandingAt table store 63 (p .at) (p .from)) → Fits q ≡ judgedAt sch lim i 63 table store p
     pub within : q .from ≤ length store
     pub grows : q .bytes + (80 * p .at + p .from) ≤ p .bytes + (80 * q .at + q .from)
 
@@ -49,8 +49,8 @@ module _ (sch : List ℕ) (i : ℕ) (table store : List ℕ) where
     pub there : ValueRecordIn (q .at) (length table)
     pub within : q .from ≤ length store
     pub few : q .bytes < 2 ^ 40
-    pub ends : (blob : ℕ) (r : JudgePos) → valueRecordOk (valueRecordAt table (q .at)) tagged (q .from) (length store) ≡ true → valueRecordAt table (q .at) .kind ≡ code →
-        Fits r ≡ leafOf blob code (valueRecordAt table (q .at) .size) q → r .from ≡ q .from + valueRecordAt table (q .at) .size → Seen blob p r
+    pub ends : (lim : Limits) (r : JudgePos) → valueRecordOk (valueRecordAt table (q .at)) tagged (q .from) (length store) ≡ true → valueRecordAt table (q .at) .kind ≡ code →
+        Fits r ≡ leafOf lim code (valueRecordAt table (q .at) .size) q → r .from ≡ q .from + valueRecordAt table (q .at) .size → Seen lim p r
 
   unfoldable pub LeadsToLeaf : JudgePos → Column → Type 0
   LeadsToLeaf p (Leaf code tagged q) = OnlyLeaf p code tagged q

@@ -25,10 +25,6 @@ use Rattle.judge.specs.declared.walk.Judged.the-variants.{Fits, Refused}
 use Rattle.judge.specs.declared.walk.Chosen.{Chosen}
 use Rattle.judge.specs.declared.walk.Chosen.the-variants as chosen-is
 
--- of the limits, writing asks for the longest blob alone
-abbrev pub only : ℕ → Limits
-only blob = record { charge = 0; blob = blob; row = 0 }
-
 abbrev pub judgePos : ℕ → ℕ → ℕ → JudgePos
 judgePos at from bytes = record { at = at; from = from; bytes = bytes }
 
@@ -40,11 +36,11 @@ judged n z (rule.Refused r) = Refused r
 -- ---- steps
 
 -- a node without children: its bytes, of which those that its record does not hold are payload; or 14 at its record
-unfoldable pub leafOf : ℕ → ℕ → ℕ → JudgePos → Judged
-leafOf blob code size p =
+unfoldable pub leafOf : Limits → ℕ → ℕ → JudgePos → Judged
+leafOf lim code size p =
     pick (ltb code 13) (Fits (judgePos (p .at + 1) (p .from + payloadOfFixed (widthOf (form code))) (p .bytes + widthOf (form code))))
-    (pick (leb size (blobLimit (only blob) code)) (Fits (judgePos (p .at + 1) (p .from + size) (p .bytes + (4 + size))))
-    (Refused (BlobTooLarge code size (blobLimit (only blob) code) (p .at))))
+    (pick (leb size (blobLimit lim code)) (Fits (judgePos (p .at + 1) (p .from + size) (p .bytes + (4 + size))))
+    (Refused (BlobTooLarge code size (blobLimit lim code) (p .at))))
 
 module _ (code first count : ℕ) where
   -- the child that a tag of w bytes names, or 17 at record r
@@ -89,10 +85,10 @@ pub record Opened (sch : List ℕ) (i code : ℕ) (table : List ℕ) (p : JudgeP
   pub count : size ≡ valueRecordAt table (p .at) .size
 
 -- what writing the value that stands there answers
-unfoldable pub judgedAt : List ℕ → ℕ → ℕ → ℕ → List ℕ → List ℕ → JudgePos → Judged
-judgedAt sch blob i depth table store p =
+unfoldable pub judgedAt : List ℕ → Limits → ℕ → ℕ → List ℕ → List ℕ → JudgePos → Judged
+judgedAt sch lim i depth table store p =
     let x = valueStandingAt table store depth (p .at) (p .from) in
-    judged (p .bytes) (wholeEnd x) (write sch (only blob) (wholeValue x) i (p .at))
+    judged (p .bytes) (wholeEnd x) (write sch lim (wholeValue x) i (p .at))
 
 -- ---- a row
 

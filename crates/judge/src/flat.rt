@@ -30,14 +30,14 @@ use value::record_ok;
 fn leaf_fits(
     code: u8,
     own: ValueRecord,
-    max_blob_bytes: u64,
+    settings: Settings,
     store: usize,
     tagged: bool,
     p: JudgePos,
 ) -> AtOnce
     requires { ⌜ (code < 15) × (store < 2 ^ 32) × (p .at < 2 ^ 32) × (p .from ≤ store) × (p .bytes < 2 ^ 40) ⌝ }
     ensures { λ r. ⌜ ((q : JudgePos) → r ≡ AtOnce.Fits q → (valueRecordOk own tagged (p .from) store ≡ true) × (own .kind ≡ code)
-        × (Judged.Fits q ≡ leafOf «max_blob_bytes» code (own .size) p) × (q .from ≡ p .from + own .size)) ⌝ }
+        × (Judged.Fits q ≡ leafOf (limits settings) code (own .size) p) × (q .from ≡ p .from + own .size)) ⌝ }
 {
     if own.kind != code {
         return AtOnce::Later;
@@ -45,7 +45,7 @@ fn leaf_fits(
     if !record_ok(own, tagged, p.from, store) {
         return AtOnce::Later;
     }
-    let j = judge_leaf(code, own.size, max_blob_bytes, p);
+    let j = judge_leaf(code, own.size, settings, p);
     let Judged::Fits(q) = j else {
         return AtOnce::Later;
     };
@@ -110,14 +110,14 @@ fn column_leaf(block: &[u8], node: usize, records: &[u8], payload: &[u8], p: Jud
 fn column_fits(
     block: &[u8],
     node: usize,
-    max_blob_bytes: u64,
+    settings: Settings,
     records: &[u8],
     payload: &[u8],
     p: JudgePos,
 ) -> AtOnce
     requires { ⌜ Flat (now block) node (now records) (now payload) p ⌝ }
     ensures { λ r. ⌜ ((q : JudgePos) → r ≡ AtOnce.Fits q → Seen (now (block .entry)) node (now (records .entry))
-        (now (payload .entry)) «max_blob_bytes» p q) ⌝ }
+        (now (payload .entry)) (limits settings) p q) ⌝ }
 {
     if records_in(records.len() as u64) <= p.at as u64 {
         return AtOnce::Later;
@@ -126,7 +126,7 @@ fn column_fits(
     match reached {
         Column::Leaf(code, tagged, start) => {
             let own = value_record_at(records, start.at);
-            leaf_fits(code, own, max_blob_bytes, payload.len(), tagged, start)
+            leaf_fits(code, own, settings, payload.len(), tagged, start)
         }
         Column::Other => AtOnce::Later,
     }
@@ -158,7 +158,6 @@ pub fn flat_row(block: &[u8], settings: Settings, records: &[u8], payload: &[u8]
     if own.size != count {
         return AtOnce::Later;
     }
-    let max_blob_bytes = settings.max_blob_bytes;
     let mut q = JudgePos {
         at: 1,
         from: 0,
@@ -167,7 +166,7 @@ pub fn flat_row(block: &[u8], settings: Settings, records: &[u8], payload: &[u8]
     let mut i: u64 = 0;
     while i < count {
         let column = (first + i) as usize;
-        let s = column_fits(block, column, max_blob_bytes, records, payload, q);
+        let s = column_fits(block, column, settings, records, payload, q);
         let AtOnce::Fits(r) = s else {
             return AtOnce::Later;
         };

@@ -5,10 +5,9 @@ ghost use Prim.Native.Nat.{_+_, _^_, _≤_, _<_};
 ghost use lib.ListN.{length};
 ghost use Rattle.rules.specs.Wire.{form};
 ghost use Rattle.rules.specs.Reading.{limits};
-ghost use Rattle.rules.specs.Walk.{blobLimit};
 ghost use Rattle.rules.specs.Writing.{kindFor};
 ghost use Rattle.leaves.specs.Shapes.{shapeOf};
-ghost use Rattle.judge.specs.Judging.{only, leafOf, chosenOf, countOk, closingBytes, Judgeable, Opened, judgedAt, RowJudgeable, judgedRow};
+ghost use Rattle.judge.specs.Judging.{leafOf, chosenOf, countOk, closingBytes, Judgeable, Opened, judgedAt, RowJudgeable, judgedRow};
 use leaves::fields::payload_of_fixed;
 use record::node::node_children;
 use record::node::node_code;
@@ -62,13 +61,6 @@ fn judged_refused_by_child(value: Judged) -> Judged
 
 // ---- nodes without children
 
-// The longest blob of a wire type.
-fn blob_limit(max_blob_bytes: u64, code: u8) -> u64
-    ensures { λ r. ⌜ r ≡ blobLimit (only «max_blob_bytes») code ⌝ }
-{
-    max_blob_bytes
-}
-
 // The kind of the values that a wire code takes.
 fn kind_of(code: u8) -> u8
     requires { ⌜ code ≤ 19 ⌝ }
@@ -86,10 +78,10 @@ fn kind_of(code: u8) -> u8
     17
 }
 
-// A value of a fixed width, or a blob within its limit.
-pub fn judge_leaf(code: u8, size: u64, max_blob_bytes: u64, p: JudgePos) -> Judged
+// A value of a fixed width, or a blob within its type's limit.
+pub fn judge_leaf(code: u8, size: u64, settings: Settings, p: JudgePos) -> Judged
     requires { ⌜ (code < 15) × (size < 2 ^ 32) × (p .at < 2 ^ 32) × (p .from < 2 ^ 32) × (p .bytes < 2 ^ 40) ⌝ }
-    ensures { λ r. ⌜ r ≡ leafOf «max_blob_bytes» code size p ⌝ }
+    ensures { λ r. ⌜ r ≡ leafOf (limits settings) code size p ⌝ }
 {
     let at = p.at;
     let from = p.from;
@@ -102,7 +94,7 @@ pub fn judge_leaf(code: u8, size: u64, max_blob_bytes: u64, p: JudgePos) -> Judg
             bytes: bytes + width as u64,
         });
     }
-    let limit = blob_limit(max_blob_bytes, code);
+    let limit = settings.blob_limit(code);
     if limit < size {
         return Judged::Refused(Refusal {
             why: Why::BlobTooLarge {
@@ -180,14 +172,14 @@ fn judge_at_once(
     node: usize,
     code: u8,
     depth: usize,
-    max_blob_bytes: u64,
+    settings: Settings,
     records: &[u8],
     payload: &[u8],
     p: JudgePos,
     size: u64,
 ) -> AtOnce
     requires { ⌜ Judgeable (now block) node depth (now records) (now payload) p × Opened (now block) node code (now records) p size ⌝ }
-    ensures { λ r. ⌜ ((q : JudgePos) → r ≡ AtOnce.Fits q → Judged.Fits q ≡ judgedAt (now (block .entry)) «max_blob_bytes»
+    ensures { λ r. ⌜ ((q : JudgePos) → r ≡ AtOnce.Fits q → Judged.Fits q ≡ judgedAt (now (block .entry)) (limits settings)
         node depth (now (records .entry)) (now (payload .entry)) p) ⌝ }
 {
     if 16 < code {
@@ -213,7 +205,7 @@ fn judge_at_once(
         from: p.from,
         bytes: p.bytes + width,
     };
-    let j = judge_leaf(leaf, below.size, max_blob_bytes, start);
+    let j = judge_leaf(leaf, below.size, settings, start);
     let Judged::Fits(q) = j else {
         return AtOnce::Later;
     };
@@ -225,13 +217,13 @@ fn judge_value(
     block: &[u8],
     node: usize,
     depth: usize,
-    max_blob_bytes: u64,
+    settings: Settings,
     records: &[u8],
     payload: &[u8],
     p: JudgePos,
 ) -> Judged
     requires { ⌜ Judgeable (now block) node depth (now records) (now payload) p ⌝ }
-    ensures { λ r. ⌜ r ≡ judgedAt (now (block .entry)) «max_blob_bytes» node depth (now (records .entry)) (now (payload .entry)) p ⌝ }
+    ensures { λ r. ⌜ r ≡ judgedAt (now (block .entry)) (limits settings) node depth (now (records .entry)) (now (payload .entry)) p ⌝ }
 {
     let at = p.at;
     let own = value_record_at(records, at);
@@ -249,7 +241,7 @@ fn judge_value(
     }
     // Here and below an answer is taken apart and built anew: returned as it came, it would go through memory once more.
     if code < 15 {
-        let j = judge_leaf(code, size, max_blob_bytes, p);
+        let j = judge_leaf(code, size, settings, p);
         let Judged::Fits(q) = j else {
             return j;
         };
@@ -260,7 +252,7 @@ fn judge_value(
         node,
         code,
         depth,
-        max_blob_bytes,
+        settings,
         records,
         payload,
         p,
@@ -279,7 +271,7 @@ fn judge_value(
         node,
         code,
         depth,
-        max_blob_bytes,
+        settings,
         table,
         store,
         start,
@@ -298,14 +290,14 @@ fn judge_children(
     node: usize,
     code: u8,
     depth: usize,
-    max_blob_bytes: u64,
+    settings: Settings,
     records: &[u8],
     payload: &[u8],
     p: JudgePos,
     size: u64,
 ) -> Judged
     requires { ⌜ Judgeable (now block) node depth (now records) (now payload) p × Opened (now block) node code (now records) p size ⌝ }
-    ensures { λ r. ⌜ r ≡ judgedAt (now (block .entry)) «max_blob_bytes» node depth (now (records .entry)) (now (payload .entry)) p ⌝ }
+    ensures { λ r. ⌜ r ≡ judgedAt (now (block .entry)) (limits settings) node depth (now (records .entry)) (now (payload .entry)) p ⌝ }
 {
     let first = node_first(block, node);
     let count = node_children(block, node);
@@ -337,15 +329,7 @@ fn judge_children(
             from: q.from,
             bytes: q.bytes + width,
         };
-        let j = judge_value(
-            block,
-            child,
-            depth - 1,
-            max_blob_bytes,
-            records,
-            payload,
-            start,
-        );
+        let j = judge_value(block, child, depth - 1, settings, records, payload, start);
         let Judged::Fits(r) = j else {
             return judged_refused_by_child(j);
         };
@@ -382,17 +366,7 @@ pub fn judge_row(block: &[u8], settings: Settings, records: &[u8], payload: &[u8
             place: 0,
         });
     }
-    let j = judge_children(
-        block,
-        0,
-        code,
-        64,
-        settings.max_blob_bytes,
-        records,
-        payload,
-        p,
-        own.size,
-    );
+    let j = judge_children(block, 0, code, 64, settings, records, payload, p, own.size);
     let Judged::Fits(q) = j else {
         return j;
     };

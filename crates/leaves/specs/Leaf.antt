@@ -67,7 +67,7 @@ skimBytes inp w context b p = do
   q ← bytesPast inp w context p
   At (stored b q)
 
--- a blob: its length, the blob limit (14), the charge for its length (13), its bytes
+-- a blob: its length, its type's limit (14), the charge for its length (13), its bytes
 unfoldable pub skimBlob : List ℕ → ℕ → SkipPos → Skipped
 skimBlob inp code p = reading (readNumberAt inp 4 13 (p .at)) p (λ n q.
     pick (leb n (longest (q .budget) code))

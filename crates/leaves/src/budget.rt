@@ -4,12 +4,15 @@ ghost use mathlib.Core.Path.{_≡_};
 ghost use Rattle.leaves.specs.Budget.{fresh, spent, longest};
 use rules::Refusal;
 use rules::Why;
+use rules::limit_of_type;
 
-// The longest blob, what the whole row may cost, and what is left of that.
+// The longest string32 and the longest yson32, what is left of the row's allowance, and what the whole row may cost. (Whatever a walk hands
+// to a step and back goes through memory; in this order it costs no more with two blob limits than with one.)
 pub struct RowBudget {
-    pub max_blob_bytes: u64,
-    pub limit: u64,
+    pub max_string32_bytes: u64,
+    pub max_yson32_bytes: u64,
     pub remaining: u64,
+    pub limit: u64,
 }
 
 // What a charge answers.
@@ -20,13 +23,14 @@ pub enum Charged {
 
 impl RowBudget {
     // The allowance of a row that has not begun.
-    pub fn new(max_blob_bytes: u64, limit: u64) -> Self
-        ensures { λ r. ⌜ r ≡ fresh «max_blob_bytes» limit ⌝ }
+    pub fn new(max_string32_bytes: u64, max_yson32_bytes: u64, limit: u64) -> Self
+        ensures { λ r. ⌜ r ≡ fresh «max_string32_bytes» «max_yson32_bytes» limit ⌝ }
     {
         Self {
-            max_blob_bytes,
-            limit,
+            max_string32_bytes,
+            max_yson32_bytes,
             remaining: limit,
+            limit,
         }
     }
 
@@ -43,9 +47,10 @@ impl RowBudget {
             });
         }
         Charged::Left(RowBudget {
-            max_blob_bytes: self.max_blob_bytes,
-            limit,
+            max_string32_bytes: self.max_string32_bytes,
+            max_yson32_bytes: self.max_yson32_bytes,
             remaining: remaining - bytes,
+            limit,
         })
     }
 }
@@ -54,5 +59,5 @@ impl RowBudget {
 pub fn blob_limit(budget: RowBudget, code: u8) -> u64
     ensures { λ r. ⌜ r ≡ longest budget code ⌝ }
 {
-    budget.max_blob_bytes
+    limit_of_type(code, budget.max_string32_bytes, budget.max_yson32_bytes)
 }

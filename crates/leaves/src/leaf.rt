@@ -71,7 +71,7 @@ fn skip_fixed(code: u8, input: &[u8], p: SkipPos) -> Skipped
     })
 }
 
-// The blob limit first, then the charge, and only then whether the bytes are there: a length that the stream does not keep
+// The type's limit first, then the charge, and only then whether the bytes are there: a length that the stream does not keep
 // is refused for what it asks.
 fn skip_blob(code: u8, input: &[u8], p: SkipPos) -> Skipped
     requires { ⌜ Readable (now input) p ⌝ }

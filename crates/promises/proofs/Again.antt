@@ -64,7 +64,7 @@ module _ (f : Format) (s : Settings) (inp : List ℕ) (at : ℕ) (e : Extent) (v
       e .records ≤ recordRoom rs′ → e .payload ≤ room ps′ → decodeRule f s inp′ at′ rs′ ps′ ≡ decodedAs e recs pay rs′ ps′
   table-again inp′ at′ rs′ ps′ stands short nodes enough =
       reads-back f s first n recs pay out position asked v is e (unfold writtenSaid in ap writtenSaid row-again) f (asked .format) (stood f (asked .format) 0 first n (asked .block) .below) refl s inp′ at′
-      (record { stands = stands; short = short; settings = asked .settings; blobs = λ k. omega arith; charge = there .afford }) rs′ ps′ (record { nodes = nodes; payload = enough })
+      (record { stands = stands; short = short; settings = asked .settings; string32 = omega arith; yson32 = omega arith; charge = there .afford }) rs′ ps′ (record { nodes = nodes; payload = enough })
 
   -- the row that stood there is written again byte for byte, just where its boolean bytes are plain
   bytes-again : (w : Value) (b : List ℕ) (r : TableRow (tables f) (schemaOf f) 0 w b) → Stands inp at b →

@@ -4,4 +4,5 @@ pub mod Lengths
 pub mod Plain
 pub mod RoundTrip
 pub mod Again
+pub mod OverLimit
 pub mod Promises

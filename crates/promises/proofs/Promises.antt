@@ -10,6 +10,7 @@ use lib.IntN.{ℤ}
 use lib.ListN.{length, getD, take, drop}
 use Rattle.rules.specs.Bytes.{Bytes, Stands, le, leAt, part, over}
 use Rattle.rules.specs.Answers.{Said, said, rowSaid, readSaid, stopSaid, writtenSaid, textSaid, checkedSaid}
+use Rattle.rules.specs.Wire.{codeOf}
 use Rattle.rules.specs.Schema.{Schema, deep, nodes}
 use Rattle.rules.specs.Block.{records, blockTree, Denotes, Formed, blockOk, Ordered}
 use Rattle.rules.specs.SchemaRules.{schemaRule, ruleAt, firstOf, preorder}
@@ -19,16 +20,18 @@ use Rattle.rules.specs.Value.{Value, tuple, Values, values, recordsOf}
 use Rattle.rules.specs.ValueRecord.{valueRecordStart}
 use Rattle.rules.specs.ValueTable.{TableOf, Whole, tableEnd, tableValue, valueKind}
 use Rattle.rules.specs.Grammar.{Row, TableRow}
-use Rattle.rules.specs.Walk.{Limits, Pos, Got, Refused}
+use Rattle.rules.specs.Walk.{Limits, blobLimit, Pos, Got, Refused}
 use Rattle.rules.specs.Reading.{limits, rowAt, schemaOf, Accepts, skipRule, room, recordRoom, roomTest, untouched, decodeRule, NoRow, LeavesRow, runRule, Iterated, rowCount, byteCount, ranOf}
 use Rattle.rules.specs.Reasons.{RowReason, RowJudged}
 use Rattle.rules.specs.Windows.{movedAnswer, WasCut, goesOn, continued, added, runAfter}
 use Rattle.rules.specs.Index.{IndexOf, HoldsRows, indexRecordStart, indexRecordsIn, indexRecord, buildRule, checkIndexRule, extendRule, indexedRowRule}
-use Rattle.rules.specs.Writing.{encodeRule, encodeFrom}
+use Rattle.rules.specs.Writing.{Wrote, writeRow, encodeRule, encodeFrom}
 use Rattle.rules.specs.RoundTrip.{EncodeAsked, Encodable, encodedInto, EncodeRefuses, SkipAsked, HasRoom, decodedAs, PlainRow}
-use Rattle.rules.specs.Rows.{outcome, lines, outcomes}
+use Rattle.rules.specs.Refusals.{BlobTooLarge}
+use Rattle.rules.specs.Rows.{outcome, lines, outcomes, limitLines, limitOutcomes}
 use Rattle.rules.specs.Numerals.{numeral, integerIn, integerText, integerTextRule, exampleIntegers, exampleTexts}
 use Rattle.rules.specs.Listing.{joined, exampleListing, exampleLines}
+use Rattle.rules.specs.declared.wire_type.WireType.the-variants.{String32, Yson32}
 use Rattle.rules.specs.declared.settings.Settings.{Settings}
 use Rattle.rules.specs.declared.refusal.Refusal.{Refusal}
 use Rattle.rules.specs.declared.table_record.Located.the-variants.{Block}
@@ -39,7 +42,8 @@ use Rattle.rules.specs.declared.answer.Read.{Read}
 use Rattle.rules.specs.declared.answer.Stop.{Stop}
 use Rattle.rules.specs.declared.answer.Written.{Written}
 use Rattle.rules.specs.declared.answer.TextWritten.{TextWritten}
-use Rattle.rules.proofs.Rows.{rows-hold}
+use Rattle.rules.proofs.Rows.{rows-hold, limits-hold}
+use Rattle.rules.proofs.Limits.{string32-limit, yson32-limit, equal-limits, limits-equal}
 use Rattle.rules.proofs.Listing.{listing-holds}
 use Rattle.rules.proofs.Integers.{integers-hold}
 use Rattle.rules.proofs.Answers.{check-number}
@@ -70,6 +74,7 @@ use Rattle.promises.proofs.Apart.{refusals-apart, reads-apart, stops-ap
 use Rattle.promises.proofs.Tables.{table-encodes, decoded-row, decoded-none}
 use Rattle.promises.proofs.RoundTrip.{encoded-when, encoded-as, refused-leaves, refused-in-order, skips-back, reads-back}
 use Rattle.promises.proofs.Again as again
+use Rattle.promises.proofs.OverLimit as over-limit
 use Rattle.rules.specs.Refusals.{Setting, NoSuchRow}
 use Rattle.rules.specs.Query.{queryRule}
 use Rattle.rules.specs.View.{kindRule, tagRule, childCountRule, afterRule, fieldRule}
@@ -83,6 +88,10 @@ use Rattle.value_laws.proofs.Subtrees as subtrees
 -- ---- the document's own examples: its table of rows, computed on the rules of the whole calls
 pub the-documents-rows : map outcome lines ≡ outcomes
 the-documents-rows = rows-hold
+
+-- rows at the two blob limits, in the same way
+pub rows-at-both-limits : map outcome limitLines ≡ limitOutcomes
+rows-at-both-limits = limits-hold
 
 -- its example of a listing, computed on the rule of the three files
 pub the-documents-listing : exampleListing ≡ joined exampleLines
@@ -172,6 +181,24 @@ no-second-reason = one-reason
 -- and each row is accepted or has a reason, never both
 pub accepted-or-refused : (f : Format) (inp : List ℕ) (lim : Limits) (at : ℕ) → formatRules f ≡ Accepted → Bytes inp → at ≤ length inp → RowJudged f inp lim at
 accepted-or-refused = row-judged
+
+-- string32 and yson32 have a limit each,
+pub each-type-its-limit : (lim : Limits) → (blobLimit lim (codeOf String32) ≡ lim .string32) × (blobLimit lim (codeOf Yson32) ≡ lim .yson32)
+each-type-its-limit lim = (string32-limit lim, yson32-limit lim)
+
+-- and the limit does not depend on the type just where the two are equal
+pub one-limit-where-equal : (lim : Limits) → ((a b : ℕ) → blobLimit lim a ≡ blobLimit lim b) ↔ (lim .string32 ≡ lim .yson32)
+one-limit-where-equal lim = (limits-equal lim, equal-limits lim)
+
+-- 14 carries the limit of its own type, which the blob's length passes: in reading
+pub read-too-large-by-its-limit : (f : Format) (inp : List ℕ) (lim : Limits) (at code n limit place : ℕ) →
+    rowAt f inp lim at ≡ Refused (BlobTooLarge code n limit place) → (limit ≡ blobLimit lim code) × (limit < n)
+read-too-large-by-its-limit f inp lim = over-limit.read-over lim inp f
+
+-- and in writing
+pub written-too-large-by-its-limit : (block : List ℕ) (lim : Limits) (v : Value) (code n limit place : ℕ) →
+    writeRow block lim v ≡ Wrote.Refused (BlobTooLarge code n limit place) → (limit ≡ blobLimit lim code) × (limit < n)
+written-too-large-by-its-limit block lim = over-limit.written-over lim block
 
 -- bytes after a row do not matter to it, unless it was cut (12)
 pub bytes-after : (f : Format) (inp more : List ℕ) (lim : Limits) (at : ℕ) → at ≤ length inp → (WasCut (rowAt f inp lim at) → ⊥) →
@@ -286,7 +313,7 @@ one-value-for-tables = one-value
 -- Of a checked format, settings inside the bounds and a well-formed value for table 0:
 module _ (f : Format) (s : Settings) (first n : ℕ) (recs pay out : List ℕ) (at : ℕ)
     (asked : EncodeAsked f s first n recs pay out at) (v : Value) (is : TableOf v recs pay) where
-  -- it is encoded exactly when it conforms, each blob is within its limit, and the row fits the output,
+  -- it is encoded exactly when it conforms, each blob is within its type's limit, and the row fits the output,
   pub encoded-exactly-when : (writtenSaid (encodeFrom f s first n recs pay out at .answer) .number ≡ 0) ↔ Encodable (schemaOf f 0) (limits s) v out at
   encoded-exactly-when = encoded-when f s first n recs pay out at asked v is
 

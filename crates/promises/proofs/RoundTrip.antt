@@ -35,6 +35,7 @@ use Rattle.rules.proofs.Checks.{pick-accepted}
 use Rattle.rules.proofs.Answers.{refusal-number, one-row}
 use Rattle.rules.proofs.Stands.{stands-seam, stands-part}
 use Rattle.rules.proofs.Over.{over-is}
+use Rattle.rules.proofs.Limits.{limits-rise}
 use Rattle.row_laws.proofs.Conform.{encoded-row}
 use Rattle.row_laws.proofs.Door.{MayAsk}
 use Rattle.row_laws.proofs.Decoding.{skip-accepts, decode-accepts, decodedRow}
@@ -247,7 +248,7 @@ module _ (f : Format) (s : Settings) (first n : ℕ) (recs pay out : List ℕ) (
       bytes = le 2 0 ++ encoded sch v;
       is = table-row {t = 0} (omega arith) below a-row refl;
       stands = rw row-is at (r .stands);
-      within = within-higher (blobLimit (limits s)) (blobLimit (limits s′)) (r .blobs) v (can .within);
+      within = within-higher (blobLimit (limits s)) (blobLimit (limits s′)) (limits-rise (limits s) (limits s′) (unfold limits in r .string32) (unfold limits in r .yson32)) v (can .within);
       afford = r .charge;
       ends = refl;
     }

@@ -23,7 +23,7 @@ use Rattle.read.proofs.Same.{skim-same}
 use Rattle.read.proofs.Steps.{ready-paid}
 use Rattle.read.proofs.Nodes.{skim-dear, skim-paid}
 
-module _ (sch inp : List ℕ) (s : Settings) (at : ℕ) (b : RowBudget) (e : b ≡ fresh (s .«max_blob_bytes») (s .«max_row_bytes»)) where
+module _ (sch inp : List ℕ) (s : Settings) (at : ℕ) (b : RowBudget) (e : b ≡ fresh (s .«max_string32_bytes») (s .«max_yson32_bytes») (s .«max_row_bytes»)) where
   -- the whole allowance is left
   same : skim sch inp (s .«node_charge») 64 0 (standing at b 0 0) ≡ skimmed (limits s) (walk sch inp (limits s) 64 0 (start (limits s) at))
   unfolding limits start skimPos fresh
@@ -35,9 +35,10 @@ module _ (sch inp : List ℕ) (s : Settings) (at : ℕ) (b : RowBudget) (e : b �
       let x = and-both _ _ (k .accepted) in
       let y = and-both _ _ (x .0) in
       let z = and-both _ _ (y .0) in
+      let w = and-both _ _ (z .0) in
       record {
         stands = record { within = k .within; short = k .short; passed = omega arith };
-        costs = leb-true 1 (s .«node_charge») (z .0);
+        costs = leb-true 1 (s .«node_charge») (w .0);
         total = rw e (omega (arith, leb-true (s .«max_row_bytes») 4294967295 (x .1)));
       }
 

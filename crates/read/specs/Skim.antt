@@ -20,7 +20,7 @@ use Rattle.leaves.specs.declared.leaf.Skipped.the-variants.{At, Refused}
 
 -- a position of the rules, with the limits in its allowance
 unfoldable pub skimPos : rule.Limits → rule.Pos → SkipPos
-skimPos lim p = record { at = p .at; budget = record { «max_blob_bytes» = lim .blob; limit = lim .row; remaining = p .left }; records = p .records; payload = p .payload }
+skimPos lim p = record { at = p .at; budget = record { «max_string32_bytes» = lim .string32; «max_yson32_bytes» = lim .yson32; remaining = p .left; limit = lim .row }; records = p .records; payload = p .payload }
 
 -- the value is forgotten
 unfoldable pub skimmed : {A : Type 0} → rule.Limits → rule.Answer A → Skipped

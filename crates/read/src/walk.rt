@@ -267,7 +267,11 @@ pub fn skip_root(block: &[u8], input: &[u8], at: usize, settings: Settings) -> S
         (start (limits settings) at)) ⌝ }
 {
     let charge = settings.node_charge;
-    let budget = RowBudget::new(settings.max_blob_bytes, settings.max_row_bytes);
+    let budget = RowBudget::new(
+        settings.max_string32_bytes,
+        settings.max_yson32_bytes,
+        settings.max_row_bytes,
+    );
     let paid = budget.charge(charge, at as u64);
     let Charged::Left(rest) = paid else {
         return skipped_refused_by_charge(paid);

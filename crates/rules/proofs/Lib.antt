@@ -6,6 +6,7 @@ pub mod Over
 pub mod Stands
 pub mod Codes
 pub mod Answers
+pub mod Limits
 pub mod Listing
 pub mod Signed
 pub mod Integers

@@ -35,16 +35,18 @@ use Rattle.rules.specs.declared.answer.Ran.{Ran}
 abbrev pub largestLimit : ℕ
 largestLimit = 4294967295
 
--- node charge 1..4,096; both limits at most 4,294,967,295
+-- node charge 1..4,096; both blob limits and the row limit at most 4,294,967,295
 unfoldable pub settingsOk : Settings → Bool
-settingsOk s = leb 1 (s .«node_charge») and leb (s .«node_charge») 4096 and leb (s .«max_blob_bytes») largestLimit and leb (s .«max_row_bytes») largestLimit
+settingsOk s =
+    leb 1 (s .«node_charge») and leb (s .«node_charge») 4096
+    and leb (s .«max_string32_bytes») largestLimit and leb (s .«max_yson32_bytes») largestLimit and leb (s .«max_row_bytes») largestLimit
 
 unfoldable pub limits : Settings → Limits
-limits s = record { charge = s .«node_charge»; blob = s .«max_blob_bytes»; row = s .«max_row_bytes» }
+limits s = record { charge = s .«node_charge»; string32 = s .«max_string32_bytes»; yson32 = s .«max_yson32_bytes»; row = s .«max_row_bytes» }
 
 -- the settings of a document that names none
 unfoldable pub defaults : Settings
-defaults = record { «node_charge» = 48; «max_blob_bytes» = 134217728; «max_row_bytes» = 268435456 }
+defaults = record { «node_charge» = 48; «max_string32_bytes» = 134217728; «max_yson32_bytes» = 134217728; «max_row_bytes» = 268435456 }
 
 -- ---- the door: what is judged before a row is read
 

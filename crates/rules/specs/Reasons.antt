@@ -28,7 +28,7 @@ module _ (inp : List ℕ) where
     pub stands : Stands inp at (le w x)
 
 module _ (inp : List ℕ) (lim : Limits) where
-  -- at a position stands a whole value of a schema, each blob within its limit; it ends at at′, and what is spent by then is within the
+  -- at a position stands a whole value of a schema, each blob within its type's limit; it ends at at′, and what is spent by then is within the
   -- row limit
   pub record StandsWhole (s : Schema) (at spent at′ spent′ : ℕ) : Type 0 where
     pub value : Value
@@ -56,7 +56,7 @@ module _ (inp : List ℕ) (lim : Limits) where
       cut-scalar : {f : Form} {k at spent : ℕ} {ss : Schemas} (w : ℕ) →
           fixedForm f ≡ Fixed w → Cut inp at w →
           BodyReason f k ss at spent (Truncated k at)
-      -- a blob, in this order: its length, 12 with context 13; the blob limit (14); the charge for its length (13, at the length field);
+      -- a blob, in this order: its length, 12 with context 13; its type's limit (14); the charge for its length (13, at the length field);
       -- its payload, 12 with context 14
       cut-length : {k at spent : ℕ} {ss : Schemas} →
           Cut inp at 4 →

@@ -37,7 +37,7 @@ pub record EncodeAsked (f : Format) (s : Settings) (first n : ℕ) (recs pay out
   pub payload : length pay ≤ longestSlice
   pub position : at ≤ room out
 
--- A value that is encoded: it conforms to the schema, each blob is within its limit, and the row fits the output.
+-- A value that is encoded: it conforms to the schema, each blob is within its type's limit, and the row fits the output.
 pub record Encodable (sch : Schema) (lim : Limits) (v : Value) (out : List ℕ) (at : ℕ) : Type 0 where
   pub conforms : Conforms sch v
   pub within : Within (blobLimit lim) v
@@ -75,13 +75,14 @@ module _ (s : Settings) (table names : List ℕ) (first n : ℕ) (recs pay out :
 
 -- ---- reading back
 
--- A row of v stands somewhere in a stream that is not too long; the reader's settings are inside document 01's bounds, its blob limits no
--- lower than the writer's, and its row limit covers the row's charge.
+-- A row of v stands somewhere in a stream that is not too long; the reader's settings are inside document 01's bounds, its two blob limits
+-- each no lower than the writer's, and its row limit covers the row's charge.
 pub record SkipAsked (s s′ : Settings) (v : Value) (row inp : List ℕ) (position : ℕ) : Type 0 where
   pub stands : Stands inp position row
   pub short : length inp ≤ longestSlice
   pub settings : settingsOk s′ ≡ true
-  pub blobs : (k : ℕ) → blobLimit (limits s) k ≤ blobLimit (limits s′) k
+  pub string32 : s .«max_string32_bytes» ≤ s′ .«max_string32_bytes»
+  pub yson32 : s .«max_yson32_bytes» ≤ s′ .«max_yson32_bytes»
   pub charge : costs (limits s′ .charge) v ≤ limits s′ .row
 
 -- There is room for what the row e takes.

@@ -1,5 +1,5 @@
--- 'Rows on both sides of each edge': document 01's table. Flat bytes go in; number, place and carried values come out; an accepted row is
--- decoded, and encoded again from what decode has left.
+-- 'Rows on both sides of each edge': document 01's table, and rows at the two blob limits of document 02, d. Flat bytes go in; number, place
+-- and carried values come out; an accepted row is decoded, and encoded again from what decode has left.
 -- Assumes nothing: these are definitions.
 use Prim.Native.Nat.{ℕ, _*_}
 use mathlib.Core.List.{List, [], _∷_, _++_}
@@ -16,7 +16,7 @@ use Rattle.rules.specs.declared.settings.Settings.{Settings}
 use Rattle.rules.specs.declared.answer.Read.{Read}
 use Rattle.rules.specs.declared.answer.Written.{Written}
 
--- ---- the two formats
+-- ---- the formats
 
 -- a schema record: wire code, whether it has a name, name length, name start, first child, child count
 unfoldable pub schemaRecord : ℕ → ℕ → ℕ → ℕ → ℕ → ℕ → List ℕ
@@ -45,17 +45,26 @@ B = oneTable 4
     ++ schemaRecord 2 0 0 0 0 0)))
     (ascii "v")
 
+-- tuple("name" string32, "note" yson32)
+unfoldable pub C : Format
+C = oneTable 3
+    (schemaRecord 19 0 0 0 1 2
+    ++ (schemaRecord 13 1 4 0 0 0
+    ++ schemaRecord 14 1 4 4 0 0))
+    (ascii "namenote")
+
 -- ---- a line of the table, and what comes out of it
 
--- a format, the two limits, and the bytes of a stream; the charge is 48
+-- a format, the three limits, and the bytes of a stream; the charge is 48
 pub record RowLine : Type 0 where
   pub format : Format
-  pub blob : ℕ
+  pub string32 : ℕ
+  pub yson32 : ℕ
   pub row : ℕ
   pub bytes : List ℕ
 
 unfoldable pub settings : RowLine → Settings
-settings l = record { «node_charge» = 48; «max_blob_bytes» = l .blob; «max_row_bytes» = l .row }
+settings l = record { «node_charge» = 48; «max_string32_bytes» = l .string32; «max_yson32_bytes» = l .yson32; «max_row_bytes» = l .row }
 
 -- what skip and decode say; decode's two slices afterwards; and the bytes of the row, encoded again
 pub record RowOutcome : Type 0 where
@@ -98,10 +107,15 @@ outcome l =
 
 -- the default limits, unless a line says otherwise
 unfoldable pub line : Format → List ℕ → RowLine
-line f bytes = record { format = f; blob = 134217728; row = 268435456; bytes = bytes }
+line f bytes = record { format = f; string32 = 134217728; yson32 = 134217728; row = 268435456; bytes = bytes }
 
+-- one limit for both blob types, and the row limit
 unfoldable pub limited : ℕ → ℕ → Format → List ℕ → RowLine
-limited blob row f bytes = record { format = f; blob = blob; row = row; bytes = bytes }
+limited blob row f bytes = record { format = f; string32 = blob; yson32 = blob; row = row; bytes = bytes }
+
+-- string32's limit and yson32's
+unfoldable pub apart : ℕ → ℕ → Format → List ℕ → RowLine
+apart string32 yson32 f bytes = record { format = f; string32 = string32; yson32 = yson32; row = 268435456; bytes = bytes }
 
 unfoldable pub tenBytes : List ℕ
 tenBytes = 0x00 ∷ 0x00 ∷ 0x25 ∷ 0x01 ∷ 0x02 ∷ 0x00 ∷ 0x00 ∷ 0x00 ∷ 0xD1 ∷ 0xC5 ∷ []
@@ -123,6 +137,23 @@ lines =
     ∷ line A (0x00 ∷ 0x00 ∷ 0x25 ∷ 0x02 ∷ [])
     ∷ line B (0x00 ∷ 0x00 ∷ 0x00 ∷ 0x07 ∷ 0x01 ∷ 0xFE ∷ 0xFF ∷ [])
     ∷ line B (0x00 ∷ 0x00 ∷ 0xFF ∷ [])
+    ∷ []
+
+-- both blobs in one row, of one byte each
+unfoldable pub twoBlobs : List ℕ
+twoBlobs = 0x00 ∷ 0x00 ∷ 0x01 ∷ 0x00 ∷ 0x00 ∷ 0x00 ∷ 0x61 ∷ 0x01 ∷ 0x00 ∷ 0x00 ∷ 0x00 ∷ 0x62 ∷ []
+
+-- each limit at equality and one below; then a limit that no blob of the schema asks for, at 0, at its largest, and one past that
+unfoldable pub limitLines : List RowLine
+limitLines =
+    apart 1 1 C twoBlobs
+    ∷ apart 0 1 C twoBlobs
+    ∷ apart 1 0 C twoBlobs
+    ∷ apart 2 0 A tenBytes
+    ∷ apart 2 4294967295 A tenBytes
+    ∷ apart 2 4294967296 A tenBytes
+    ∷ apart 1 2 A tenBytes
+    ∷ apart 4294967296 1 C twoBlobs
     ∷ []
 
 -- ---- what comes out of them
@@ -175,6 +206,14 @@ threeRecords =
     ∷ 16 ∷ 0 ∷ 0 ∷ 0 ∷ 0 ∷ 0 ∷ 0 ∷ 0 ∷ 0 ∷ 0 ∷ 0 ∷ 0 ∷ 0 ∷ 0 ∷ 0 ∷ 0
     ∷ blank 38
 
+-- of C's twelve bytes: a tuple of 2; a string32 of 1 byte from 0 on; a yson32 of 1 byte from 1 on. The rest stays.
+unfoldable pub twelveRecords : List ℕ
+twelveRecords =
+    17 ∷ 0 ∷ 0 ∷ 0 ∷ 2 ∷ 0 ∷ 0 ∷ 0 ∷ 0 ∷ 0 ∷ 0 ∷ 0 ∷ 0 ∷ 0 ∷ 0 ∷ 0
+    ∷ 13 ∷ 0 ∷ 0 ∷ 0 ∷ 1 ∷ 0 ∷ 0 ∷ 0 ∷ 0 ∷ 0 ∷ 0 ∷ 0 ∷ 0 ∷ 0 ∷ 0 ∷ 0
+    ∷ 14 ∷ 0 ∷ 0 ∷ 0 ∷ 1 ∷ 0 ∷ 0 ∷ 0 ∷ 1 ∷ 0 ∷ 0 ∷ 0 ∷ 0 ∷ 0 ∷ 0 ∷ 0
+    ∷ blank 22
+
 unfoldable pub tenPayload : List ℕ
 tenPayload = 0xD1 ∷ 0xC5 ∷ 0xEE ∷ []
 
@@ -195,4 +234,17 @@ outcomes =
     ∷ refusal 17 3 (15 ∷ 2 ∷ 2 ∷ [])
     ∷ row 7 4 0 sevenRecords (blank 3) (0x00 ∷ 0x00 ∷ 0x00 ∷ 0x01 ∷ 0x01 ∷ 0xFE ∷ 0xFF ∷ [])
     ∷ row 3 2 0 threeRecords (blank 3) (0x00 ∷ 0x00 ∷ 0xFF ∷ [])
+    ∷ []
+
+-- 14 carries the wire code, the length, and the limit of that code
+unfoldable pub limitOutcomes : List RowOutcome
+limitOutcomes =
+    row 12 3 2 twelveRecords (0x61 ∷ 0x62 ∷ 0xEE ∷ []) twoBlobs
+    ∷ refusal 14 2 (13 ∷ 1 ∷ 0 ∷ [])
+    ∷ refusal 14 7 (14 ∷ 1 ∷ 0 ∷ [])
+    ∷ row 10 4 2 tenRecords tenPayload tenBytes
+    ∷ row 10 4 2 tenRecords tenPayload tenBytes
+    ∷ refusal 1 0 []
+    ∷ refusal 14 4 (13 ∷ 2 ∷ 1 ∷ [])
+    ∷ refusal 1 0 []
     ∷ []

@@ -6,22 +6,28 @@ use lib.ListN.{length}
 use lib.Dec.{ltb, leb, eqb}
 use Rattle.rules.specs.Choice.{pick}
 use Rattle.rules.specs.Bytes.{leAt, part}
-use Rattle.rules.specs.Wire.{Form, empty, truth, fixed, raw, sized, variant-form, repeated-form, tuple-form, unknown, form, endTag}
+use Rattle.rules.specs.declared.wire_type.WireType.the-variants.{Yson32}
+use Rattle.rules.specs.Wire.{codeOf, Form, empty, truth, fixed, raw, sized, variant-form, repeated-form, tuple-form, unknown, form, endTag}
 use Rattle.rules.specs.Block.{nodeAt}
 use Rattle.rules.specs.Value.{Value, nothing, boolean, number, wide, blob, variant, repeated, tuple, Items, done, item, Values, none, more, costs, recordsOf, payloadOf}
 use Rattle.rules.specs.declared.table_record.Node.{Node}
 use Rattle.rules.specs.declared.refusal.Refusal.{Refusal}
 use Rattle.rules.specs.Refusals.{Setting, BadSchemaTable, TooDeep, Truncated, RowTooLarge, BlobTooLarge, InvalidVariantTag}
 
--- what a node costs, how long a blob may be, and how much a row may cost
+-- what a node costs, how long a string32 and a yson32 may be, and how much a row may cost
 pub record Limits : Type 0 where
   pub charge : ℕ
-  pub blob : ℕ
+  pub string32 : ℕ
+  pub yson32 : ℕ
   pub row : ℕ
+
+-- of two limits, that of a wire code: yson32's is the second
+unfoldable pub ofType : ℕ → ℕ → ℕ → ℕ
+ofType code string32 yson32 = pick (eqb code (codeOf Yson32)) yson32 string32
 
 -- the longest blob of a wire code
 unfoldable pub blobLimit : Limits → ℕ → ℕ
-blobLimit lim code = lim .blob
+blobLimit lim code = ofType code (lim .string32) (lim .yson32)
 
 -- where the walk stands, what is left of the row's allowance, and the records and payload bytes that it has passed
 pub record Pos : Type 0 where
@@ -62,7 +68,7 @@ charged lim cost r place p =
     pick (leb cost (p .left)) (Got tt (record { at = p .at; left = p .left - cost; records = p .records + r; payload = p .payload }))
     (Refused (RowTooLarge (lim .row) place))
 
--- a blob: its length, the blob limit (14), the charge for its length (13), its bytes
+-- a blob: its length, its type's limit (14), the charge for its length (13), its bytes
 unfoldable pub blobOf : List ℕ → Limits → ℕ → Pos → Answer Value
 blobOf inp lim code p = do
   (n, q) ← numberOf inp 4 13 p

@@ -31,6 +31,7 @@ pub use refusal::Report;
 pub use refusal::Why;
 pub use settings::LONGEST;
 pub use settings::Settings;
+pub use settings::limit_of_type;
 pub use settings::room_in;
 pub use table_record::Entry;
 pub use table_record::Located;

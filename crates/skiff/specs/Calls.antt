@@ -20,8 +20,8 @@ use Rattle.rules.specs.declared.host_answer.Viewed.{Viewed}
 use Rattle.answers.specs.declared.AnswerNumbers.{AnswerNumbers}
 use Rattle.answers.specs.Answers.{answerLayout, answerOfRead, answerOfRan, answerOfWindow, answerOfWritten, answerOfText, answerOfChecked, answerOfKnown, answerOfQueried, answerOfViewed}
 
-abbrev pub settingsOf : ℕ → ℕ → ℕ → Settings
-settingsOf charge blob row = record { «node_charge» = charge; «max_blob_bytes» = blob; «max_row_bytes» = row }
+abbrev pub settingsOf : ℕ → ℕ → ℕ → ℕ → Settings
+settingsOf charge string32 yson32 row = record { «node_charge» = charge; «max_string32_bytes» = string32; «max_yson32_bytes» = yson32; «max_row_bytes» = row }
 
 -- what a call returns, and its answer slice afterwards
 pub record Given : Type 0 where

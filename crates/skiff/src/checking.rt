@@ -9,7 +9,7 @@ use answers::give;
 
 // Whether four slices are a format.
 #[no_mangle]
-pub extern "C" fn skiff1_check_format(
+pub extern "C" fn skiff2_check_format(
     table: &[u8],
     names: &[u8],
     references: &[u8],
@@ -29,7 +29,7 @@ pub extern "C" fn skiff1_check_format(
 
 // Whether an encoder may write by a block of the record table.
 #[no_mangle]
-pub extern "C" fn skiff1_check_encoder_schema(
+pub extern "C" fn skiff2_check_encoder_schema(
     table: &[u8],
     names: &[u8],
     first: u64,
@@ -48,7 +48,7 @@ pub extern "C" fn skiff1_check_encoder_schema(
 
 // The wire type of a name.
 #[no_mangle]
-pub extern "C" fn skiff1_parse(name: &[u8], answer: &mut [u8]) -> u32
+pub extern "C" fn skiff2_parse(name: &[u8], answer: &mut [u8]) -> u32
     ensures { λ r. ⌜ record { number = r; answer = now (answer .exit) } ≡ parseGiven (now (name .entry)) (now (answer .entry)) ⌝ }
 {
     if answer.len() < ANSWER {

@@ -14,9 +14,10 @@ use rules::Settings;
 
 // The index of all rows.
 #[no_mangle]
-pub extern "C" fn skiff1_build_index(
+pub extern "C" fn skiff2_build_index(
     node_charge: u64,
-    max_blob_bytes: u64,
+    max_string32_bytes: u64,
+    max_yson32_bytes: u64,
     max_row_bytes: u64,
     table: &[u8],
     names: &[u8],
@@ -28,14 +29,16 @@ pub extern "C" fn skiff1_build_index(
 ) -> u32
     ensures { λ r. ⌜ record { number = r; answer = now (answer .exit); lent = now (index .exit) }
         ≡ buildIndexGiven (slices (now (table .entry)) (now (names .entry)) (now (references .entry)) (now (registry .entry)))
-        (settingsOf «node_charge» «max_blob_bytes» «max_row_bytes») (now (input .entry)) (now (index .entry)) (now (answer .entry)) ⌝ }
+        (settingsOf «node_charge» «max_string32_bytes» «max_yson32_bytes» «max_row_bytes») (now (input .entry))
+        (now (index .entry)) (now (answer .entry)) ⌝ }
 {
     if answer.len() < ANSWER {
         return 1;
     }
     let settings = Settings {
         node_charge,
-        max_blob_bytes,
+        max_string32_bytes,
+        max_yson32_bytes,
         max_row_bytes,
     };
     let ran = build_index(settings, table, names, references, registry, input, index);
@@ -45,9 +48,10 @@ pub extern "C" fn skiff1_build_index(
 
 // Whether a slice is the index of all rows.
 #[no_mangle]
-pub extern "C" fn skiff1_check_index(
+pub extern "C" fn skiff2_check_index(
     node_charge: u64,
-    max_blob_bytes: u64,
+    max_string32_bytes: u64,
+    max_yson32_bytes: u64,
     max_row_bytes: u64,
     table: &[u8],
     names: &[u8],
@@ -59,14 +63,16 @@ pub extern "C" fn skiff1_check_index(
 ) -> u32
     ensures { λ r. ⌜ record { number = r; answer = now (answer .exit) }
         ≡ checkIndexGiven (slices (now (table .entry)) (now (names .entry)) (now (references .entry)) (now (registry .entry)))
-        (settingsOf «node_charge» «max_blob_bytes» «max_row_bytes») (now (input .entry)) (now (index .entry)) (now (answer .entry)) ⌝ }
+        (settingsOf «node_charge» «max_string32_bytes» «max_yson32_bytes» «max_row_bytes») (now (input .entry))
+        (now (index .entry)) (now (answer .entry)) ⌝ }
 {
     if answer.len() < ANSWER {
         return 1;
     }
     let settings = Settings {
         node_charge,
-        max_blob_bytes,
+        max_string32_bytes,
+        max_yson32_bytes,
         max_row_bytes,
     };
     let ran = check_index(settings, table, names, references, registry, input, index);
@@ -76,9 +82,10 @@ pub extern "C" fn skiff1_check_index(
 
 // The index of all rows, of which the first `old` have their records already.
 #[no_mangle]
-pub extern "C" fn skiff1_extend_index(
+pub extern "C" fn skiff2_extend_index(
     node_charge: u64,
-    max_blob_bytes: u64,
+    max_string32_bytes: u64,
+    max_yson32_bytes: u64,
     max_row_bytes: u64,
     table: &[u8],
     names: &[u8],
@@ -91,14 +98,16 @@ pub extern "C" fn skiff1_extend_index(
 ) -> u32
     ensures { λ r. ⌜ record { number = r; answer = now (answer .exit); lent = now (index .exit) }
         ≡ extendIndexGiven (slices (now (table .entry)) (now (names .entry)) (now (references .entry)) (now (registry .entry)))
-        (settingsOf «node_charge» «max_blob_bytes» «max_row_bytes») (now (input .entry)) old (now (index .entry)) (now (answer .entry)) ⌝ }
+        (settingsOf «node_charge» «max_string32_bytes» «max_yson32_bytes» «max_row_bytes») (now (input .entry))
+        old (now (index .entry)) (now (answer .entry)) ⌝ }
 {
     if answer.len() < ANSWER {
         return 1;
     }
     let settings = Settings {
         node_charge,
-        max_blob_bytes,
+        max_string32_bytes,
+        max_yson32_bytes,
         max_row_bytes,
     };
     let ran = extend_index(
@@ -117,9 +126,10 @@ pub extern "C" fn skiff1_extend_index(
 
 // A row by its number, as value records and payload bytes in two slices of the host's.
 #[no_mangle]
-pub extern "C" fn skiff1_decode_indexed(
+pub extern "C" fn skiff2_decode_indexed(
     node_charge: u64,
-    max_blob_bytes: u64,
+    max_string32_bytes: u64,
+    max_yson32_bytes: u64,
     max_row_bytes: u64,
     table: &[u8],
     names: &[u8],
@@ -134,7 +144,7 @@ pub extern "C" fn skiff1_decode_indexed(
 ) -> u32
     ensures { λ r. ⌜ record { number = r; answer = now (answer .exit); records = now (records .exit); payload = now (payload .exit) }
         ≡ decodeIndexedGiven (slices (now (table .entry)) (now (names .entry)) (now (references .entry)) (now (registry .entry)))
-        (settingsOf «node_charge» «max_blob_bytes» «max_row_bytes») (now (input .entry)) (now (index .entry)) row
+        (settingsOf «node_charge» «max_string32_bytes» «max_yson32_bytes» «max_row_bytes») (now (input .entry)) (now (index .entry)) row
         (now (answer .entry)) (now (records .entry)) (now (payload .entry)) ⌝ }
 {
     if answer.len() < ANSWER {
@@ -142,7 +152,8 @@ pub extern "C" fn skiff1_decode_indexed(
     }
     let settings = Settings {
         node_charge,
-        max_blob_bytes,
+        max_string32_bytes,
+        max_yson32_bytes,
         max_row_bytes,
     };
     let read = decode_indexed(

@@ -7,7 +7,7 @@ use answers::give;
 
 // The value of one record of a value table, as far as the record can be judged alone.
 #[no_mangle]
-pub extern "C" fn skiff1_value(records: &[u8], index: u64, answer: &mut [u8]) -> u32
+pub extern "C" fn skiff2_value(records: &[u8], index: u64, answer: &mut [u8]) -> u32
     ensures { λ r. ⌜ record { number = r; answer = now (answer .exit) } ≡ valueGiven (now (records .entry)) index (now (answer .entry)) ⌝ }
 {
     if answer.len() < ANSWER {

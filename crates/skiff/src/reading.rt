@@ -10,9 +10,10 @@ use rules::Settings;
 
 // The row at a position.
 #[no_mangle]
-pub extern "C" fn skiff1_skip(
+pub extern "C" fn skiff2_skip(
     node_charge: u64,
-    max_blob_bytes: u64,
+    max_string32_bytes: u64,
+    max_yson32_bytes: u64,
     max_row_bytes: u64,
     table: &[u8],
     names: &[u8],
@@ -24,14 +25,15 @@ pub extern "C" fn skiff1_skip(
 ) -> u32
     ensures { λ r. ⌜ record { number = r; answer = now (answer .exit) }
         ≡ skipGiven (slices (now (table .entry)) (now (names .entry)) (now (references .entry)) (now (registry .entry)))
-        (settingsOf «node_charge» «max_blob_bytes» «max_row_bytes») (now (input .entry)) position (now (answer .entry)) ⌝ }
+        (settingsOf «node_charge» «max_string32_bytes» «max_yson32_bytes» «max_row_bytes») (now (input .entry)) position (now (answer .entry)) ⌝ }
 {
     if answer.len() < ANSWER {
         return 1;
     }
     let settings = Settings {
         node_charge,
-        max_blob_bytes,
+        max_string32_bytes,
+        max_yson32_bytes,
         max_row_bytes,
     };
     let read = row::skip_row(
@@ -48,9 +50,10 @@ pub extern "C" fn skiff1_skip(
 
 // All rows from the start on.
 #[no_mangle]
-pub extern "C" fn skiff1_run(
+pub extern "C" fn skiff2_run(
     node_charge: u64,
-    max_blob_bytes: u64,
+    max_string32_bytes: u64,
+    max_yson32_bytes: u64,
     max_row_bytes: u64,
     table: &[u8],
     names: &[u8],
@@ -61,14 +64,15 @@ pub extern "C" fn skiff1_run(
 ) -> u32
     ensures { λ r. ⌜ record { number = r; answer = now (answer .exit) }
         ≡ runGiven (slices (now (table .entry)) (now (names .entry)) (now (references .entry)) (now (registry .entry)))
-        (settingsOf «node_charge» «max_blob_bytes» «max_row_bytes») (now (input .entry)) (now (answer .entry)) ⌝ }
+        (settingsOf «node_charge» «max_string32_bytes» «max_yson32_bytes» «max_row_bytes») (now (input .entry)) (now (answer .entry)) ⌝ }
 {
     if answer.len() < ANSWER {
         return 1;
     }
     let settings = Settings {
         node_charge,
-        max_blob_bytes,
+        max_string32_bytes,
+        max_yson32_bytes,
         max_row_bytes,
     };
     let ran = run::run(settings, table, names, references, registry, input);
@@ -78,9 +82,10 @@ pub extern "C" fn skiff1_run(
 
 // The row at a position, as value records and payload bytes in two slices of the host's.
 #[no_mangle]
-pub extern "C" fn skiff1_decode(
+pub extern "C" fn skiff2_decode(
     node_charge: u64,
-    max_blob_bytes: u64,
+    max_string32_bytes: u64,
+    max_yson32_bytes: u64,
     max_row_bytes: u64,
     table: &[u8],
     names: &[u8],
@@ -94,7 +99,7 @@ pub extern "C" fn skiff1_decode(
 ) -> u32
     ensures { λ r. ⌜ record { number = r; answer = now (answer .exit); records = now (records .exit); payload = now (payload .exit) }
         ≡ decodeGiven (slices (now (table .entry)) (now (names .entry)) (now (references .entry)) (now (registry .entry)))
-        (settingsOf «node_charge» «max_blob_bytes» «max_row_bytes») (now (input .entry)) position (now (answer .entry))
+        (settingsOf «node_charge» «max_string32_bytes» «max_yson32_bytes» «max_row_bytes») (now (input .entry)) position (now (answer .entry))
         (now (records .entry)) (now (payload .entry)) ⌝ }
 {
     if answer.len() < ANSWER {
@@ -102,7 +107,8 @@ pub extern "C" fn skiff1_decode(
     }
     let settings = Settings {
         node_charge,
-        max_blob_bytes,
+        max_string32_bytes,
+        max_yson32_bytes,
         max_row_bytes,
     };
     let read = decode::next_row(

@@ -19,7 +19,7 @@ fn give_viewed(answer: &mut [u8], viewed: Viewed) -> u32
 
 // The kind of a record.
 #[no_mangle]
-pub extern "C" fn skiff1_kind(records: &[u8], record: u64, answer: &mut [u8]) -> u32
+pub extern "C" fn skiff2_kind(records: &[u8], record: u64, answer: &mut [u8]) -> u32
     ensures { λ r. ⌜ record { number = r; answer = now (answer .exit) }
         ≡ viewGiven (kindRule (now (records .entry)) «record») (now (answer .entry)) ⌝ }
 {
@@ -29,7 +29,7 @@ pub extern "C" fn skiff1_kind(records: &[u8], record: u64, answer: &mut [u8]) ->
 
 // The tag by which the parent of a record chose it.
 #[no_mangle]
-pub extern "C" fn skiff1_tag(records: &[u8], record: u64, answer: &mut [u8]) -> u32
+pub extern "C" fn skiff2_tag(records: &[u8], record: u64, answer: &mut [u8]) -> u32
     ensures { λ r. ⌜ record { number = r; answer = now (answer .exit) }
         ≡ viewGiven (tagRule (now (records .entry)) «record») (now (answer .entry)) ⌝ }
 {
@@ -39,7 +39,7 @@ pub extern "C" fn skiff1_tag(records: &[u8], record: u64, answer: &mut [u8]) -> 
 
 // How many children a record has.
 #[no_mangle]
-pub extern "C" fn skiff1_child_count(records: &[u8], record: u64, answer: &mut [u8]) -> u32
+pub extern "C" fn skiff2_child_count(records: &[u8], record: u64, answer: &mut [u8]) -> u32
     ensures { λ r. ⌜ record { number = r; answer = now (answer .exit) }
         ≡ viewGiven (childCountRule (now (records .entry)) «record») (now (answer .entry)) ⌝ }
 {
@@ -49,7 +49,7 @@ pub extern "C" fn skiff1_child_count(records: &[u8], record: u64, answer: &mut [
 
 // The record behind the tree of a record.
 #[no_mangle]
-pub extern "C" fn skiff1_after(records: &[u8], record: u64, answer: &mut [u8]) -> u32
+pub extern "C" fn skiff2_after(records: &[u8], record: u64, answer: &mut [u8]) -> u32
     ensures { λ r. ⌜ record { number = r; answer = now (answer .exit) }
         ≡ viewGiven (afterRule (now (records .entry)) «record») (now (answer .entry)) ⌝ }
 {
@@ -59,7 +59,7 @@ pub extern "C" fn skiff1_after(records: &[u8], record: u64, answer: &mut [u8]) -
 
 // A field of a record, which has to be a tuple.
 #[no_mangle]
-pub extern "C" fn skiff1_field(records: &[u8], record: u64, field: u64, answer: &mut [u8]) -> u32
+pub extern "C" fn skiff2_field(records: &[u8], record: u64, field: u64, answer: &mut [u8]) -> u32
     ensures { λ r. ⌜ record { number = r; answer = now (answer .exit) }
         ≡ viewGiven (fieldRule (now (records .entry)) «record» field) (now (answer .entry)) ⌝ }
 {

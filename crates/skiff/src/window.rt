@@ -35,9 +35,10 @@ fn answer_of_window(rows: u64, bytes: u64, stop: Stop) -> AnswerNumbers
 
 // All rows of a window, which begins where the rows so far end.
 #[no_mangle]
-pub extern "C" fn skiff1_run_window(
+pub extern "C" fn skiff2_run_window(
     node_charge: u64,
-    max_blob_bytes: u64,
+    max_string32_bytes: u64,
+    max_yson32_bytes: u64,
     max_row_bytes: u64,
     table: &[u8],
     names: &[u8],
@@ -50,14 +51,15 @@ pub extern "C" fn skiff1_run_window(
 ) -> u32
     ensures { λ r. ⌜ record { number = r; answer = now (answer .exit) }
         ≡ runWindowGiven (slices (now (table .entry)) (now (names .entry)) (now (references .entry)) (now (registry .entry)))
-        (settingsOf «node_charge» «max_blob_bytes» «max_row_bytes») (now (window .entry)) rows bytes (now (answer .entry)) ⌝ }
+        (settingsOf «node_charge» «max_string32_bytes» «max_yson32_bytes» «max_row_bytes») (now (window .entry)) rows bytes (now (answer .entry)) ⌝ }
 {
     if answer.len() < ANSWER {
         return 1;
     }
     let settings = Settings {
         node_charge,
-        max_blob_bytes,
+        max_string32_bytes,
+        max_yson32_bytes,
         max_row_bytes,
     };
     let ran = run_after(

@@ -9,9 +9,10 @@ use rules::Settings;
 
 // The value of a value table, as a row at a position of the output.
 #[no_mangle]
-pub extern "C" fn skiff1_encode(
+pub extern "C" fn skiff2_encode(
     node_charge: u64,
-    max_blob_bytes: u64,
+    max_string32_bytes: u64,
+    max_yson32_bytes: u64,
     max_row_bytes: u64,
     table: &[u8],
     names: &[u8],
@@ -24,15 +25,17 @@ pub extern "C" fn skiff1_encode(
     answer: &mut [u8],
 ) -> u32
     ensures { λ r. ⌜ record { number = r; answer = now (answer .exit); lent = now (output .exit) }
-        ≡ encodeGiven (settingsOf «node_charge» «max_blob_bytes» «max_row_bytes») (now (table .entry)) (now (names .entry)) first count
-        (now (records .entry)) (now (payload .entry)) (now (output .entry)) position (now (answer .entry)) ⌝ }
+        ≡ encodeGiven (settingsOf «node_charge» «max_string32_bytes» «max_yson32_bytes» «max_row_bytes»)
+        (now (table .entry)) (now (names .entry)) first count (now (records .entry)) (now (payload .entry))
+        (now (output .entry)) position (now (answer .entry)) ⌝ }
 {
     if answer.len() < ANSWER {
         return 1;
     }
     let settings = Settings {
         node_charge,
-        max_blob_bytes,
+        max_string32_bytes,
+        max_yson32_bytes,
         max_row_bytes,
     };
     let written = encode::encode(
@@ -51,7 +54,7 @@ pub extern "C" fn skiff1_encode(
 
 // Whether records and payload are the table of some value.
 #[no_mangle]
-pub extern "C" fn skiff1_check_value_table(records: &[u8], payload: &[u8], answer: &mut [u8]) -> u32
+pub extern "C" fn skiff2_check_value_table(records: &[u8], payload: &[u8], answer: &mut [u8]) -> u32
     ensures { λ r. ⌜ record { number = r; answer = now (answer .exit) }
         ≡ checkValueTableGiven (now (records .entry)) (now (payload .entry)) (now (answer .entry)) ⌝ }
 {

@@ -16,7 +16,6 @@ use Rattle.rules.specs.Value.{Value, nothing, boolean, number, wide, blob, vari
 use Rattle.rules.specs.ValueRecord.{valueRecordAt}
 use Rattle.rules.specs.ValueTable as table-of
 use Rattle.rules.specs.ValueTable.{bit, payloadBytes, valueKind, contentOf, headOf}
-use Rattle.rules.specs.Walk.{blobLimit}
 use Rattle.rules.specs.Writing.{Put, kindFor, fitting, write}
 use Rattle.rules.specs.declared.table_record.ValueRecord.{ValueRecord}
 use Rattle.rules.proofs.Stands.{length-le, stands-part}
@@ -30,6 +29,7 @@ use Rattle.judge.proofs.Codes.{leaf-kind, fixed-range, raw-range, sized-range}
 use Rattle.write.proofs.Numbers.{LeafIs, blob-is, wide-is, narrow-is}
 use Rattle.judge.proofs.Standing.{spot, head, at-end, from-end, from-in, length-told, inside}
 use Rattle.write.proofs.Putting.{reads-whole, all-put, right-kind}
+use Rattle.write.proofs.Unlimited.{no-limit}
 
 -- a number of few bytes is one of eight
 eight : (w x : ℕ) → w ≤ 8 → x < 256 ^ w → x < 256 ^ 8
@@ -57,7 +57,7 @@ module _ (table store : List ℕ) (code at from : ℕ) where
 
 module _ (sch : List ℕ) (i : ℕ) (table store : List ℕ) (short : length table ≤ 4294967295) (code : ℕ) (is : code ≡ nodeAt sch i .code) (at from : ℕ) {d tag : ℕ} {z : table-of.Spot} where
   pub leaf-stored : (v : Value) (b : List ℕ) → Reads table store d tag (spot at from) v z → code < 15 → valueKind v ≡ kindFor code (form code) → write sch unlimited v i at ≡ Put b → Leaf table store code at from v b
-  unfolding valueKind Fits recordsOf payloadOf tally widthOf write fitting pick contentOf headOf payloadBytes blobLimit
+  unfolding valueKind Fits recordsOf payloadOf tally widthOf write fitting pick contentOf headOf payloadBytes
   leaf-stored nothing b r l e w =
       let f = nothing-taken code e in
       let c : [] ≡ b = let g : Put [] ≡ Put b = rw (← is, eq-eqb _ _ e) at w in cc in
@@ -84,7 +84,7 @@ module _ (sch : List ℕ) (i : ℕ) (table store : List ℕ) (short : length tab
   leaf-stored (blob k x) b r l e w =
       let q : code ≡ k = leaf-kind code l ∙ sym e in
       let g = sized-range k (r .fits .0) in
-      let c : le 4 (length x) ++ x ≡ b = let h : Put (le 4 (length x) ++ x) ≡ Put b = rw (← is, eq-eqb _ _ e, le-leb (length x) 4294967295 (omega (arith, r .fits .1))) at w in cc in
+      let c : le 4 (length x) ++ x ≡ b = let h : Put (le 4 (length x) ++ x) ≡ Put b = rw (← is, eq-eqb _ _ e, no-limit k, le-leb (length x) 4294967295 (omega (arith, r .fits .1))) at w in cc in
       let s : part store from (length x) ≡ x = stands-part store from x (r .span .payload-stands) in
       let m : valueRecordAt table at .size ≡ length x = length-told table store short r in
       leaf-from table store code at from (blob k x) b _ _ _ (blob-is _ _ _ _ _ (omega (arith, q, g .0))) (rw (m, s) c) (simp (length-append, length-le) (rw (m, s))) (rw m (omega arith)) (omega arith)

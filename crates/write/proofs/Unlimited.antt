@@ -16,7 +16,9 @@ use Rattle.rules.specs.ValueTable.{bit}
 use Rattle.rules.specs.Value.{Value, nothing, boolean, number, wide, blob, variant, repeated, tuple, Items, done, item, Values, none, more, values, recordsOf, Fits, FitsI, FitsV}
 use Rattle.rules.specs.Walk.{Limits, blobLimit}
 use Rattle.rules.specs.Writing.{Put, _>>=_, fitting, tagged, write, writeI, writeV, writeRow}
+use Rattle.rules.specs.Reading.{largestLimit}
 use Rattle.rules.proofs.Tests.{either}
+use Rattle.rules.proofs.Limits.{one-limit}
 use Rattle.value_laws.proofs.Says.{Any, WroteSays, puts, refuses, then, put, fits, tags}
 use Rattle.write.specs.Putting.{unlimited}
 use Rattle.judge.proofs.Short.{relax}
@@ -26,9 +28,12 @@ yes : {A : Type 0} (x y : A) → pick true x y ≡ x
 unfolding pick
 yes x y = refl
 
+pub no-limit : (code : ℕ) → blobLimit unlimited code ≡ largestLimit
+no-limit code = one-limit unlimited largestLimit refl refl code
+
 module _ (sch : List ℕ) (lim : Limits) where
   mutual
-    unfolding write fitting tagged blobLimit _>>=_ Fits Any
+    unfolding write fitting tagged _>>=_ Fits Any
 
     free : (v : Value) (i r : ℕ) → Fits v → WroteSays (λ b. write sch unlimited v i r ≡ Put b) Any (write sch lim v i r)
     free nothing i r f = fits sch lim 0 i r (λ n. tt) (λ q. puts {b = []} (rw (eq-eqb _ _ q, yes)))
@@ -36,7 +41,7 @@ module _ (sch : List ℕ) (lim : Limits) where
     free (number k x) i r f = fits sch lim k i r (λ n. tt) (λ q. puts {b = le (widthOf (form (nodeAt sch i .code))) x} (rw (eq-eqb _ _ q, yes)))
     free (wide k x) i r f = fits sch lim k i r (λ n. tt) (λ q. puts {b = x} (rw (eq-eqb _ _ q, yes)))
     free (blob k x) i r f = fits sch lim k i r (λ n. tt) (λ q.
-        either (WroteSays (λ b. write sch unlimited (blob k x) i r ≡ Put b) Any) (leb (length x) (blobLimit lim k)) (λ n. puts {b = le 4 (length x) ++ x} (rw (eq-eqb _ _ q, yes, le-leb (length x) 4294967295 (omega (arith, f .1)), yes))) (λ n. refuses tt))
+        either (WroteSays (λ b. write sch unlimited (blob k x) i r ≡ Put b) Any) (leb (length x) (blobLimit lim k)) (λ n. puts {b = le 4 (length x) ++ x} (rw (eq-eqb _ _ q, yes, no-limit k, le-leb (length x) 4294967295 (omega (arith, f .1)), yes))) (λ n. refuses tt))
     free (variant t v) i r f = fits sch lim 15 i r (λ n. tt) (λ q. tags sch lim t i (r + 1) (λ n. tt) (λ n.
         then (free v (nodeAt sch i .first + t) (r + 1) (f .1)) (λ x y.
         puts {b = le (widthOf (form (nodeAt sch i .code))) t ++ x} (rw (eq-eqb _ _ q, yes, lt-ltb _ _ n, yes, y)))))

@@ -18,7 +18,6 @@ use Rattle.leaves.specs.Fields.{payloadOfFixed}
 use Rattle.leaves.specs.Shapes.{Shape, as-variant, as-repeated, as-tuple}
 use Rattle.read.specs.Ready.{HasNode, SoundNodes}
 use Rattle.judge.specs.Table.{IsWhole, wholeValue, wholeEnd, valueStandingAt}
-use Rattle.judge.specs.Judging.{only}
 use Rattle.write.specs.declared.put.WritePos.{WritePos}
 
 -- ---- steps
@@ -55,7 +54,7 @@ putOf (Refused r) = []
 
 -- limits that refuse no blob of a value table
 abbrev pub unlimited : Limits
-unlimited = only largestLimit
+unlimited = record { charge = 0; string32 = largestLimit; yson32 = largestLimit; row = 0 }
 
 -- the writing of the value that stands at a record, at node i
 unfoldable pub writtenAt : List ℕ → ℕ → ℕ → List ℕ → List ℕ → ℕ → ℕ → Wrote

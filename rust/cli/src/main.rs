@@ -34,9 +34,15 @@ fn limit(name: &'static str, help: &'static str) -> Arg {
     Arg::new(name).long(name).value_name("BYTES").value_parser(value_parser!(u64)).help(help)
 }
 
-fn reading(command: Command) -> Command {
+/// The limits that reading and writing have.
+fn blob_limits(command: Command) -> Command {
     command
-        .arg(limit("max-blob-bytes", "The limit of a string32 or yson32 [default: 134217728]"))
+        .arg(limit("max-string32-bytes", "The limit of a string32 [default: 134217728]"))
+        .arg(limit("max-yson32-bytes", "The limit of a yson32 [default: 134217728]"))
+}
+
+fn reading(command: Command) -> Command {
+    blob_limits(command)
         .arg(limit("max-row-bytes", "The limit of a row [default: 268435456]"))
         .arg(limit("node-charge", "What each value of a row costs [default: 48]"))
 }
@@ -141,10 +147,9 @@ fn command() -> Command {
         .subcommand(index_subcommand())
         .subcommand(row_subcommand())
         .subcommand(
-            Command::new("encode")
+            blob_limits(Command::new("encode"))
                 .about("Writes lines of JSON as a stream of table 0")
                 .long_about(json::ABOUT)
-                .arg(limit("max-blob-bytes", "The limit of a string32 or yson32 [default: 134217728]"))
                 .arg(format_argument())
                 .arg(
                     Arg::new("lines")

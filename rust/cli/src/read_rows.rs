@@ -24,7 +24,8 @@ pub fn settings(given: &ArgMatches) -> Settings {
     let usual = Settings::default();
     usual
         .with_node_charge(number("node-charge").unwrap_or(usual.node_charge()))
-        .with_max_blob_bytes(number("max-blob-bytes").unwrap_or(usual.max_blob_bytes()))
+        .with_max_string32_bytes(number("max-string32-bytes").unwrap_or(usual.max_string32_bytes()))
+        .with_max_yson32_bytes(number("max-yson32-bytes").unwrap_or(usual.max_yson32_bytes()))
         .with_max_row_bytes(number("max-row-bytes").unwrap_or(usual.max_row_bytes()))
 }
 

@@ -220,10 +220,50 @@ fn bad_json_is_told_by_line_and_column() {
     assert_eq!(refused("{\"page\":1,"), "line 1: column 10: EOF while parsing a value");
     assert_eq!(refused("{\"page\":1,\"page\":2}"), "line 1: column 19: \"page\" stands twice");
     assert!(refused("\u{1}").starts_with("line 1: column 1: "));
-    let limited = ["encode", "--max-blob-bytes", "1", "."];
+    let limited = ["encode", "--max-string32-bytes", "1", "."];
     let (status, _, errors) = told(&with_input(&limited, "{\"page\":1,\"name\":\"hi\"}"));
     assert_eq!(status, 1);
     assert!(errors.contains("line 1: refused 14 BlobTooLarge") && errors.contains("column \"name\""));
+}
+
+/// A name of two bytes and a note of three: each limit is its own type's, in every subcommand that has them.
+#[test]
+fn a_limit_for_each_type_of_blob() {
+    let folder = folder("limits");
+    let schema = file(&folder, "both.txt", "table\n  name: string32\n  note: yson32\n");
+    let stream = folder.join("both.skf").to_str().expect("text").to_owned();
+    let line = "{\"name\":\"hi\",\"note\":\"[1]\"}\n";
+    assert_eq!(accepted(&with_input(&["encode", &schema, "-o", &stream], line)), "");
+    accepted(&skiff(&["index", &schema, &stream]));
+    let long_name = "refused 14 BlobTooLarge (type 13 string32, length 2, limit 1)";
+    let long_note = "refused 14 BlobTooLarge (type 14 yson32, length 3, limit 2)";
+    let over = "refused 1 Setting";
+    for (string32, yson32, refusal) in [
+        ("2", "3", None),
+        ("4294967295", "4294967295", None),
+        ("1", "3", Some(long_name)),
+        ("3", "2", Some(long_note)),
+        ("4294967296", "3", Some(over)),
+        ("2", "4294967296", Some(over)),
+    ] {
+        let limits = ["--max-string32-bytes", string32, "--max-yson32-bytes", yson32];
+        let of_stream = [&schema[..], &stream];
+        for (subcommand, given) in [
+            (&["run"][..], &of_stream[..]),
+            (&["list"], &of_stream),
+            (&["cat", "--json"], &of_stream),
+            (&["index", "--check"], &of_stream),
+            (&["row", "0"], &of_stream),
+            (&["encode"], &of_stream[..1]),
+        ] {
+            let (status, out, errors) = told(&with_input(&[subcommand, &limits[..], given].concat(), line));
+            assert_eq!(status, i32::from(refusal.is_some()), "{subcommand:?}: {out}{errors}");
+            let words = format!("{out}{errors}");
+            assert!(words.contains(refusal.unwrap_or("")), "{subcommand:?}: {words}");
+        }
+    }
+    // The option that both types had is none of the command's.
+    assert_eq!(told(&skiff(&["run", "--max-blob-bytes", "1", &schema, &stream])).0, 2);
 }
 
 /// A file that is not whole never has the name that was asked for.

@@ -104,7 +104,7 @@ fn rows_by_their_numbers() {
         assert_eq!((status, out.as_str()), (1, ""));
         assert_eq!(errors, format!("skiff: {stream}: refused 32 NoSuchRow at 0: row {none}\n"));
     }
-    let (status, _, errors) = told(&skiff(&["row", "--max-blob-bytes", "1", "1", ".", &stream]));
+    let (status, _, errors) = told(&skiff(&["row", "--max-string32-bytes", "1", "1", ".", &stream]));
     let words = "refused 14 BlobTooLarge (type 13 string32, length 5, limit 1) at 14";
     assert_eq!(status, 1);
     assert_eq!(errors, format!("skiff: {stream}: {words}: byte 14, row 1, column \"name\", tag 1\n"));

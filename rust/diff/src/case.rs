@@ -36,7 +36,7 @@ pub fn halves(numbers: [u64; 2]) -> u64 {
     low | high << 32
 }
 
-pub const HEADER_BYTES: usize = 64;
+pub const HEADER_BYTES: usize = 72;
 
 /// The five strings of a case have at most this many bytes together.
 pub const MOST_BYTES: usize = 4_194_304;
@@ -54,7 +54,8 @@ pub struct Case {
     pub b: u64,
     /// The settings and the input are those of the reading and writing calls, and nothing elsewhere.
     pub node_charge: u64,
-    pub max_blob_bytes: u64,
+    pub max_string32_bytes: u64,
+    pub max_yson32_bytes: u64,
     pub max_row_bytes: u64,
     pub records: Vec<u8>,
     pub names: Vec<u8>,
@@ -75,13 +76,18 @@ impl Case {
     }
 
     pub fn settings(&self) -> Settings {
-        let Case { node_charge, max_blob_bytes, max_row_bytes, .. } = *self;
-        Settings { node_charge, max_blob_bytes, max_row_bytes }
+        let Case { node_charge, max_string32_bytes, max_yson32_bytes, max_row_bytes, .. } = *self;
+        Settings { node_charge, max_string32_bytes, max_yson32_bytes, max_row_bytes }
     }
 
     pub fn with_settings(self, settings: Settings) -> Self {
-        let Settings { node_charge, max_blob_bytes, max_row_bytes } = settings;
-        Self { node_charge, max_blob_bytes, max_row_bytes, ..self }
+        let Settings { node_charge, max_string32_bytes, max_yson32_bytes, max_row_bytes } = settings;
+        Self { node_charge, max_string32_bytes, max_yson32_bytes, max_row_bytes, ..self }
+    }
+
+    /// Whether a string32 and a yson32 have the same limit, as they always do in the original.
+    pub fn has_one_blob_limit(&self) -> bool {
+        self.max_string32_bytes == self.max_yson32_bytes
     }
 
     /// How many bytes a decoding call is lent, for value records and for payload.
@@ -108,7 +114,8 @@ impl Case {
         for string in self.strings() {
             out.extend((string.len() as u32).to_le_bytes());
         }
-        for number in [self.a, self.b, self.node_charge, self.max_blob_bytes, self.max_row_bytes] {
+        let limits = [self.max_string32_bytes, self.max_yson32_bytes, self.max_row_bytes];
+        for number in [self.a, self.b, self.node_charge].into_iter().chain(limits) {
             out.extend(number.to_le_bytes());
         }
         for string in self.strings() {
@@ -133,8 +140,9 @@ impl Case {
             a: u64_at(24),
             b: u64_at(32),
             node_charge: u64_at(40),
-            max_blob_bytes: u64_at(48),
-            max_row_bytes: u64_at(56),
+            max_string32_bytes: u64_at(48),
+            max_yson32_bytes: u64_at(56),
+            max_row_bytes: u64_at(64),
             records,
             names,
             references,
@@ -198,7 +206,8 @@ mod tests {
             a: 0x0102_0304_0506_0708,
             b: u64::MAX,
             node_charge: 48,
-            max_blob_bytes: 3 << 32,
+            max_string32_bytes: 3 << 32,
+            max_yson32_bytes: 4 << 40,
             max_row_bytes: 5 << 56,
             records: vec![9],
             names: vec![8, 8],
@@ -213,13 +222,14 @@ mod tests {
         expected.extend([255; 8]);
         expected.extend([48, 0, 0, 0, 0, 0, 0, 0]);
         expected.extend([0, 0, 0, 0, 3, 0, 0, 0]);
+        expected.extend([0, 0, 0, 0, 0, 4, 0, 0]);
         expected.extend([0, 0, 0, 0, 0, 0, 0, 5]);
         expected.extend([9, 8, 8, 7, 7, 7, 6, 6, 6, 6, 5]);
         assert_eq!(bytes, expected);
         bytes.extend([1, 2, 3]);
         assert_eq!(Case::read_from(&bytes), Some((case, &[1, 2, 3][..])));
-        assert_eq!(Case::read_from(&bytes[..74]), None);
-        assert_eq!(Case::read_from(&bytes[..63]), None);
+        assert_eq!(Case::read_from(&bytes[..82]), None);
+        assert_eq!(Case::read_from(&bytes[..71]), None);
     }
 
     #[test]

@@ -7,6 +7,7 @@ use std::io;
 use plain::answer::number::TRUNCATED;
 use plain::format::validate_format;
 
+use crate::blob_limits::BlobLimits;
 use crate::case::{Answer, Case};
 use crate::generate::{self, Kind};
 use crate::judge::{checked, plain_answer, tables};
@@ -71,11 +72,13 @@ pub struct Tally {
     pub numbers: BTreeMap<u64, u64>,
     /// What cut streams were cut in.
     pub contexts: BTreeMap<u64, u64>,
+    pub limits: BlobLimits,
 }
 
 impl Tally {
-    pub fn add(&mut self, kind: Kind, expected: &Expected) {
+    pub fn add(&mut self, kind: Kind, case: &Case, expected: &Expected) {
         self.cases += 1;
+        self.limits.add(case, expected.original.is_some());
         self.with_original += u64::from(expected.original.is_some());
         self.with_format += u64::from(expected.format.is_some());
         *self.kinds.entry(kind).or_default() += 1;
@@ -110,6 +113,10 @@ impl fmt::Display for Tally {
         }
         for (context, count) in &self.contexts {
             write!(formatter, " {context}: {count},")?;
+        }
+        // Cases of the schema side have no settings.
+        if self.limits.two > 0 {
+            write!(formatter, " {},", self.limits)?;
         }
         Ok(())
     }
@@ -168,7 +175,7 @@ impl Run<'_> {
                 let batch = batch[..=index].iter().map(|(_, case)| case.clone()).collect();
                 return Err(Stop::Difference(Box::new(Difference { case: case.clone(), line, batch })));
             }
-            self.tally.add(kind, expected);
+            self.tally.add(kind, case, expected);
         }
         if answers.len() > batch.len() {
             let (cases, lines) = (batch.len(), answers.len());

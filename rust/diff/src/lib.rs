@@ -9,6 +9,7 @@ extern crate double as _;
 #[cfg(feature = "library")]
 pub mod at_once;
 pub mod bench;
+pub mod blob_limits;
 pub mod case;
 pub mod compare;
 #[cfg(feature = "library")]

@@ -1,7 +1,8 @@
 //! What the original answers to a case, on demand 2's domain: calls that are not to be answered 1, 2 or 3,
-//! with UTF-8 names and, where rows are read, its own node charge. Which those are is told by [`laid`], never by the
-//! plain reading. The original knows no places, so it
-//! is compared in number and carried values, in what it accepts, and in a run's rows and bytes.
+//! with UTF-8 names, one limit for blobs and, where rows are read, its own node charge; and beyond it where two limits
+//! differ, but blobs of one type can't occur. Which those are is told by [`laid`] and [`blob_limit`], never by the
+//! plain reading. The original knows no places, so it is compared in number and carried values, in what it accepts,
+//! and in a run's rows and bytes.
 
 pub mod indexing;
 pub mod laid;
@@ -9,7 +10,7 @@ mod rows;
 pub mod views;
 pub mod writing;
 
-pub use rows::node_charge;
+pub use rows::{blob_limit, node_charge};
 
 use std::collections::BTreeMap;
 use std::fmt;
@@ -295,10 +296,10 @@ fn block_of(case: &Case, format: &Format, schema: &Schema) -> Block {
 #[cfg(test)]
 mod tests {
     use super::*;
-    use crate::generate::rows::edges::{schema_a, FULL};
+    use crate::generate::rows::edges::{blob_limits, schema_a, FULL};
     use crate::generate::rows::usual;
     use crate::judge::plain_answer;
-    use crate::plan::{inline, lay_out};
+    use crate::plan::{inline, lay_out, over, table_of};
 
     /// The row of schema A that has everything: four records and two bytes of payload.
     fn decoding(lent: [usize; 2]) -> Case {
@@ -350,6 +351,24 @@ mod tests {
         let short = plain_answer(&Case { input: vec![0x5C; 12], ..case.clone() });
         assert_eq!((short.number, short.values), (NO_OUTPUT_ROOM, [10, 0, 0]));
         assert!(said.agrees_with(&short) && !said.agrees_with(&Answer { values: [9, 0, 0], ..short }));
+    }
+
+    /// Of two limits it is given the one whose type there is, and is not asked where there are both.
+    #[test]
+    fn one_limit_stands_for_two_where_a_type_is_missing() {
+        let asked = |codes: &[u8], limits: [u64; 2]| {
+            let mut case = Case { op: op::RUN, ..Case::default() }.with_settings(blob_limits(limits));
+            let block = lay_out(&table_of(&over(19, codes)), &mut case.records, &mut case.names);
+            case.references.extend(inline(block));
+            assert_eq!(ask(&case).is_some(), blob_limit(&case).is_some());
+            blob_limit(&case)
+        };
+        assert_eq!(asked(&[13, 14], [3, 3]), Some(3));
+        assert_eq!(asked(&[13, 14], [2, 3]), None);
+        assert_eq!(asked(&[14, 8, 13], [3, 2]), None);
+        assert_eq!(asked(&[13, 8], [2, 3]), Some(2));
+        assert_eq!(asked(&[8, 14], [2, 3]), Some(3));
+        assert!(asked(&[8], [2, 3]).is_some());
     }
 
     #[test]

@@ -3,19 +3,22 @@
 
 mod wanted;
 mod wanted_indexes;
+mod wanted_limits;
 mod wanted_writes;
 
 use std::collections::BTreeMap;
 
 use crate::case::{op, Case, MOST_INPUT};
 use crate::compare::{Expected, Tally};
-use crate::generate::{self, edges, indexes, rows, words, writes, Kind};
+use crate::generate::{self, edges, indexes, rows, words, writes, Kind, TWO_BLOB_LIMITS};
 use crate::indexing::IndexCase;
 use crate::judge::plain_answer;
 use crate::rng::Rng;
 use crate::writing::{run, WriteCase};
+use plain::answer::number::{BLOB_TOO_LARGE, SETTING};
 use plain::decoding::ValueTable;
 use wanted::{answered, Answered, Wanted, IS_ROW};
+use wanted_writes::NO_COLUMN;
 
 /// What is recorded apart: the schema side with the reading of rows, their writing, and their index.
 #[derive(Debug, Clone, Copy, PartialEq, Eq)]
@@ -62,6 +65,9 @@ pub struct Recording {
 /// run on the interpreter.
 fn most_kept(answered: Answered, kind: Kind) -> usize {
     match (answered, kind) {
+        // What has nothing to do with the limits is met in other kinds.
+        ((_, number, _), TWO_BLOB_LIMITS) if ![0, SETTING, BLOB_TOO_LARGE].contains(&number) => 0,
+        ((op::ENCODE, 0, column), TWO_BLOB_LIMITS) if ![13, 14, NO_COLUMN].contains(&column) => 0,
         ((op::DECODE, 0, IS_ROW), _) => 4,
         ((op::SKIP | op::RUN | op::DECODE, _, _), _) => 1,
         ((op::ENCODE, 0, 12), "scalars") => 12,
@@ -235,7 +241,7 @@ fn write(part: Part, chosen: &[(Kind, Case)]) -> Recording {
             crate::show::describe(case)
         );
         wanted.meet(case, &expected.plain);
-        recording.tally.add(kind, &expected);
+        recording.tally.add(kind, case, &expected);
         case.write_to(&mut recording.cases);
         recording.answers.push_str(&format!("{}\n", expected.plain));
     }

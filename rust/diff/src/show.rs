@@ -102,6 +102,12 @@ fn hex_of_some(bytes: &[u8]) -> String {
     }
 }
 
+pub fn settings_in_words(case: &Case) -> String {
+    let Case { node_charge, max_string32_bytes, max_yson32_bytes, max_row_bytes, .. } = case;
+    let blobs = format!("string32 limit {max_string32_bytes}, yson32 limit {max_yson32_bytes}");
+    format!("node charge {node_charge}, {blobs}, row limit {max_row_bytes}")
+}
+
 pub fn describe(case: &Case) -> String {
     let mut out = format!("  {}\n", call(case));
     if case.op == op::ENCODE || case.op == op::CHECK_TABLE {
@@ -119,9 +125,7 @@ pub fn describe(case: &Case) -> String {
     }
     writeln!(out, "  name store: {} bytes", case.names.len()).unwrap();
     if case.reads() {
-        let Case { node_charge, max_blob_bytes, max_row_bytes, .. } = case;
-        let limits = format!("blob limit {max_blob_bytes}, row limit {max_row_bytes}");
-        writeln!(out, "  node charge {node_charge}, {limits}").unwrap();
+        writeln!(out, "  {}", settings_in_words(case)).unwrap();
         writeln!(out, "  input: {}", hex_of_some(&case.input)).unwrap();
     }
     let mut bytes = Vec::new();

@@ -65,6 +65,20 @@ fn building() {
     );
 }
 
+/// A limit for string32 and another for yson32: every call takes both, and building comes first.
+#[test]
+fn blob_limits() {
+    each_is_found(
+        "build",
+        &[
+            "blob_limits_are_swapped",
+            "lower_blob_limit_is_for_both",
+            "too_large_carries_the_other_limit",
+            "yson32_limit_is_not_tested",
+        ],
+    );
+}
+
 #[test]
 fn checking() {
     each_is_found(

@@ -58,6 +58,20 @@ fn a_blob_as_long_as_its_limit() {
     found("blob_limit_excludes_equality", ONE_COLUMN + 40, &["library:  returned 14", "original: number 12"]);
 }
 
+/// A limit for string32 and another for yson32. What is found comes down to a blob of one type, about which the
+/// original can be asked, or to no blob at all.
+#[test]
+fn limits_of_blobs_that_are_mixed_up() {
+    found("blob_limits_are_swapped", ONE_COLUMN + 40, &["string32 limit ", "original: number "]);
+    found("lower_blob_limit_is_for_both", ONE_COLUMN + 40, &["library:  returned 14", "original: number "]);
+    found(
+        "too_large_carries_the_other_limit",
+        ONE_COLUMN + 40,
+        &["plain:    returned 14", "original: number 14"],
+    );
+    found("yson32_limit_is_not_tested", 0, &["yson32 limit 4294967296", "plain:    returned 1:"]);
+}
+
 #[test]
 fn a_row_that_costs_one_more() {
     found("row_limit_one_more", ONE_COLUMN + 40, &["plain:    returned 13", "original: number 13"]);

@@ -6,7 +6,7 @@ use plain::report::{what, Report, REPORT_BYTES};
 use plain::settings::{Settings, MOST};
 use plain::value_table::{check, is_formed};
 
-use crate::fault::{kept, looks_past, named};
+use crate::fault::{kept, looks_past, named, with_lower_blob_limits, with_own_limits};
 
 /// A record of a table, by where it begins, whose kind is this.
 fn last_is(kind: u8, records: &[u8]) -> bool {
@@ -17,6 +17,18 @@ fn refused(refusal: Refusal) -> Report {
     Report::of_encoded(&Err(refusal))
 }
 
+/// The limits that an encoder with a fault asks for blobs; those that are out of bounds stay so.
+fn asked_by_encoder(fault: &str, settings: Settings) -> Settings {
+    match fault {
+        _ if !settings.are_good() => settings,
+        "encoder_blob_limit_excludes_equality" => with_lower_blob_limits(settings),
+        "encoder_asks_string32_limit_for_yson32" => {
+            Settings { max_yson32_bytes: settings.max_string32_bytes, ..settings }
+        }
+        _ => settings,
+    }
+}
+
 pub fn encode_answer(given: Given, output: &mut [u8], position: u64, answer: &mut [u8]) -> u32 {
     let fault = named();
     if answer.len() < REPORT_BYTES && fault != "encodes_with_a_short_answer" {
@@ -25,13 +37,10 @@ pub fn encode_answer(given: Given, output: &mut [u8], position: u64, answer: &mu
     looks_past(given.value_records);
     // An output may be too long to be kept; faults are planted in short ones.
     let before = if fault.is_empty() { Vec::new() } else { output.to_vec() };
-    let limit = given.settings.max_blob_bytes;
-    let lower = Settings { max_blob_bytes: limit.wrapping_sub(1), ..given.settings };
-    let excludes = fault == "encoder_blob_limit_excludes_equality" && limit > 0 && limit <= MOST;
-    let asked = if excludes { Given { settings: lower, ..given } } else { given };
+    let asked = Given { settings: asked_by_encoder(fault, given.settings), ..given };
     let mut report = Report::of_encoded(&encode(&asked, output, position));
-    if report.number == 14 {
-        report.carried[2] = limit;
+    if fault == "encoder_blob_limit_excludes_equality" {
+        report = with_own_limits(report, &given.settings);
     }
     let is_row = report.what == what::ROW;
     let at = position as usize;
@@ -64,7 +73,7 @@ pub fn encode_answer(given: Given, output: &mut [u8], position: u64, answer: &mu
             report = refused(Refusal::at(21, position, [report.bytes, 0, 0]));
         }
         "room_comes_before_the_blob_limit" if report.number == 14 => {
-            let settings = Settings { max_blob_bytes: MOST, ..given.settings };
+            let settings = given.settings.with_max_blob_bytes(MOST);
             let done = encode(&Given { settings, ..given }, &mut before.clone(), position);
             if let Err(refusal @ Refusal { number: 21, .. }) = done {
                 report = refused(refusal);

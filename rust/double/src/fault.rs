@@ -8,6 +8,7 @@ use std::thread::yield_now;
 
 use plain::report::{what, Report, REPORT_BYTES};
 use plain::settings::{numbers_are_good, Settings, MOST};
+use plain::wire_type::{STRING32, YSON32};
 
 use crate::Call;
 
@@ -25,6 +26,34 @@ pub fn looks_past(slice: &[u8]) {
     };
     // SAFETY: there is none. This is what a wrong library does, and what the harness has to find.
     black_box(unsafe { read_volatile(beside) });
+}
+
+/// The settings as a call takes them that mixes up the limits of string32 and yson32, where that is the fault.
+pub fn taken(settings: Settings) -> Settings {
+    let Settings { max_string32_bytes: string32, max_yson32_bytes: yson32, .. } = settings;
+    let (max_string32_bytes, max_yson32_bytes) = match named() {
+        "yson32_limit_is_not_tested" => (string32, yson32.min(MOST)),
+        // What is out of bounds is refused all the same.
+        _ if !settings.are_good() => return settings,
+        "blob_limits_are_swapped" => (yson32, string32),
+        "lower_blob_limit_is_for_both" => (string32.min(yson32), string32.min(yson32)),
+        _ => return settings,
+    };
+    Settings { max_string32_bytes, max_yson32_bytes, ..settings }
+}
+
+/// Where a report has its refusal, and the first and the last of the values that it carries.
+const NUMBER: usize = 8;
+const TYPE: usize = 3 * 8;
+const LIMIT: usize = 5 * 8;
+
+/// Has 14 carry the limit of the type that it is not about, where that is the fault.
+pub fn carries_another_limit(settings: &Settings, answer: &mut [u8]) {
+    if named() != "too_large_carries_the_other_limit" || answer.len() < REPORT_BYTES || answer[NUMBER] != 14 {
+        return;
+    }
+    let other = settings.blob_limit(STRING32 + YSON32 - answer[TYPE]);
+    answer[LIMIT..LIMIT + 8].copy_from_slice(&other.to_le_bytes());
 }
 
 pub fn answer(call: Call, answer: &mut [u8]) -> u32 {
@@ -66,21 +95,14 @@ fn report(fault: &str, call: &Call) -> Report {
     let refused = right.what == what::REFUSAL;
     let settings = call.settings;
     match fault {
-        "blob_limit_excludes_equality" if settings.are_good() && settings.max_blob_bytes > 0 => {
-            let limit = settings.max_blob_bytes;
-            with_limit(
-                Call { settings: Settings { max_blob_bytes: limit - 1, ..settings }, ..*call },
-                2,
-                limit,
-            )
+        "blob_limit_excludes_equality" if settings.are_good() => {
+            let report = Call { settings: with_lower_blob_limits(settings), ..*call }.report();
+            with_own_limits(report, &settings)
         }
         "row_limit_one_more" if settings.are_good() && settings.max_row_bytes < MOST => {
-            let limit = settings.max_row_bytes;
-            with_limit(
-                Call { settings: Settings { max_row_bytes: limit + 1, ..settings }, ..*call },
-                0,
-                limit,
-            )
+            let higher = Settings { max_row_bytes: settings.max_row_bytes + 1, ..settings };
+            let report = Call { settings: higher, ..*call }.report();
+            with_own_limits(report, &settings)
         }
         "end_before_the_format" if at_end(call) => Report { what: what::END, ..Report::default() },
         "place_counts_from_the_row" if refused && right.number > 10 => {
@@ -100,11 +122,21 @@ fn report(fault: &str, call: &Call) -> Report {
     }
 }
 
-/// The answer under another limit, which carries the limit that was given.
-fn with_limit(call: Call, value: usize, limit: u64) -> Report {
-    let mut report = call.report();
-    if report.number == 13 && value == 0 || report.number == 14 && value == 2 {
-        report.carried[value] = limit;
+/// Both limits of blobs one less, so that equality is refused.
+pub fn with_lower_blob_limits(settings: Settings) -> Settings {
+    Settings {
+        max_string32_bytes: settings.max_string32_bytes.saturating_sub(1),
+        max_yson32_bytes: settings.max_yson32_bytes.saturating_sub(1),
+        ..settings
+    }
+}
+
+/// A report under other limits, which carries those that were given.
+pub fn with_own_limits(mut report: Report, settings: &Settings) -> Report {
+    match report.number {
+        13 => report.carried[0] = settings.max_row_bytes,
+        14 => report.carried[2] = settings.blob_limit(report.carried[0] as u8),
+        _ => {}
     }
     report
 }

@@ -9,7 +9,7 @@ use crate::fault::{kept, looks_past, named};
 
 /// # Safety
 /// Each pointer leads to as many bytes as the length after it says.
-#[export_name = "skiff1_integer_text"]
+#[export_name = "skiff2_integer_text"]
 pub unsafe extern "C" fn skiff_integer_text(
     bytes: *const u8,
     bytes_len: usize,

@@ -64,7 +64,8 @@ macro_rules! reading_call {
         #[export_name = $symbol]
         pub unsafe extern "C" fn $name(
             node_charge: u64,
-            max_blob_bytes: u64,
+            max_string32_bytes: u64,
+            max_yson32_bytes: u64,
             max_row_bytes: u64,
             records: *const u8,
             records_len: usize,
@@ -86,23 +87,27 @@ macro_rules! reading_call {
                 references: slice::from_raw_parts(references, references_len),
                 registry: slice::from_raw_parts(registry, registry_len),
             };
+            let settings = Settings { node_charge, max_string32_bytes, max_yson32_bytes, max_row_bytes };
             let call = Call {
-                settings: Settings { node_charge, max_blob_bytes, max_row_bytes },
+                settings: fault::taken(settings),
                 tables,
                 input: slice::from_raw_parts(input, input_len),
                 position: $position,
                 is_run: $is_run,
             };
             let finish = $finish;
-            finish(call, slice::from_raw_parts_mut(answer, answer_len))
+            let answer = slice::from_raw_parts_mut(answer, answer_len);
+            let returned = finish(call, &mut *answer);
+            fault::carries_another_limit(&settings, answer);
+            returned
         }
     };
 }
 
-reading_call!("skiff1_skip", skiff_skip, false, position, (position: u64), fault::answer);
-reading_call!("skiff1_run", skiff_run, true, 0, (), fault::answer);
+reading_call!("skiff2_skip", skiff_skip, false, position, (position: u64), fault::answer);
+reading_call!("skiff2_run", skiff_run, true, 0, (), fault::answer);
 reading_call!(
-    "skiff1_run_window",
+    "skiff2_run_window",
     skiff_run_window,
     true,
     0,
@@ -110,7 +115,7 @@ reading_call!(
     |call: Call, answer: &mut [u8]| call.window_report(rows, bytes).write_to(answer)
 );
 reading_call!(
-    "skiff1_decode",
+    "skiff2_decode",
     skiff_decode,
     false,
     position,
@@ -129,7 +134,7 @@ reading_call!(
 );
 
 reading_call!(
-    "skiff1_build_index",
+    "skiff2_build_index",
     skiff_build_index,
     true,
     0,
@@ -139,7 +144,7 @@ reading_call!(
     }
 );
 reading_call!(
-    "skiff1_check_index",
+    "skiff2_check_index",
     skiff_check_index,
     true,
     0,
@@ -149,7 +154,7 @@ reading_call!(
     }
 );
 reading_call!(
-    "skiff1_extend_index",
+    "skiff2_extend_index",
     skiff_extend_index,
     true,
     0,
@@ -159,7 +164,7 @@ reading_call!(
     }
 );
 reading_call!(
-    "skiff1_decode_indexed",
+    "skiff2_decode_indexed",
     skiff_decode_indexed,
     true,
     0,
@@ -182,10 +187,11 @@ reading_call!(
 
 /// # Safety
 /// Each pointer leads to as many bytes as the length after it says.
-#[export_name = "skiff1_encode"]
+#[export_name = "skiff2_encode"]
 pub unsafe extern "C" fn skiff_encode(
     node_charge: u64,
-    max_blob_bytes: u64,
+    max_string32_bytes: u64,
+    max_yson32_bytes: u64,
     max_row_bytes: u64,
     records: *const u8,
     records_len: usize,
@@ -203,8 +209,9 @@ pub unsafe extern "C" fn skiff_encode(
     answer: *mut u8,
     answer_len: usize,
 ) -> u32 {
+    let settings = Settings { node_charge, max_string32_bytes, max_yson32_bytes, max_row_bytes };
     let given = Given {
-        settings: Settings { node_charge, max_blob_bytes, max_row_bytes },
+        settings: fault::taken(settings),
         records: slice::from_raw_parts(records, records_len),
         names: slice::from_raw_parts(names, names_len),
         block: Block { first, count },
@@ -212,12 +219,15 @@ pub unsafe extern "C" fn skiff_encode(
         payload: slice::from_raw_parts(payload, payload_len),
     };
     let output = slice::from_raw_parts_mut(output, output_len);
-    encoding::encode_answer(given, output, position, slice::from_raw_parts_mut(answer, answer_len))
+    let answer = slice::from_raw_parts_mut(answer, answer_len);
+    let returned = encoding::encode_answer(given, output, position, answer);
+    fault::carries_another_limit(&settings, answer);
+    returned
 }
 
 /// # Safety
 /// Each pointer leads to as many bytes as the length after it says.
-#[export_name = "skiff1_check_value_table"]
+#[export_name = "skiff2_check_value_table"]
 pub unsafe extern "C" fn skiff_check_value_table(
     value_records: *const u8,
     value_records_len: usize,
@@ -233,7 +243,7 @@ pub unsafe extern "C" fn skiff_check_value_table(
 
 /// # Safety
 /// Each pointer leads to as many bytes as the length after it says.
-#[export_name = "skiff1_check_format"]
+#[export_name = "skiff2_check_format"]
 pub unsafe extern "C" fn skiff_check_format(
     records: *const u8,
     records_len: usize,
@@ -258,7 +268,7 @@ pub unsafe extern "C" fn skiff_check_format(
 
 /// # Safety
 /// Each pointer leads to as many bytes as the length after it says.
-#[export_name = "skiff1_check_encoder_schema"]
+#[export_name = "skiff2_check_encoder_schema"]
 pub unsafe extern "C" fn skiff_check_encoder_schema(
     records: *const u8,
     records_len: usize,
@@ -277,7 +287,7 @@ pub unsafe extern "C" fn skiff_check_encoder_schema(
 
 /// # Safety
 /// Each pointer leads to as many bytes as the length after it says.
-#[export_name = "skiff1_parse"]
+#[export_name = "skiff2_parse"]
 pub unsafe extern "C" fn skiff_parse(
     name: *const u8,
     name_len: usize,
@@ -291,7 +301,7 @@ pub unsafe extern "C" fn skiff_parse(
 
 /// # Safety
 /// Each pointer leads to as many bytes as the length after it says.
-#[export_name = "skiff1_value"]
+#[export_name = "skiff2_value"]
 pub unsafe extern "C" fn skiff_value(
     value_records: *const u8,
     value_records_len: usize,

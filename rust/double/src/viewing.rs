@@ -27,20 +27,20 @@ macro_rules! view_call {
     };
 }
 
-view_call!("skiff1_kind", skiff_kind, kind);
-view_call!("skiff1_tag", skiff_tag, |records: &[u8], record| match named() {
+view_call!("skiff2_kind", skiff_kind, kind);
+view_call!("skiff2_tag", skiff_tag, |records: &[u8], record| match named() {
     "tag_is_cut_to_8_bits" => tag(records, record).map(|tag| tag % 256),
     _ => tag(records, record),
 });
-view_call!("skiff1_child_count", skiff_child_count, child_count);
-view_call!("skiff1_after", skiff_after, |records: &[u8], record| match named() {
+view_call!("skiff2_child_count", skiff_child_count, child_count);
+view_call!("skiff2_after", skiff_after, |records: &[u8], record| match named() {
     "after_is_the_next_record" => after(records, record).map(|_| record + 1),
     _ => after(records, record),
 });
 
 /// # Safety
 /// Each pointer leads to as many bytes as the length after it says.
-#[export_name = "skiff1_field"]
+#[export_name = "skiff2_field"]
 pub unsafe extern "C" fn skiff_field(
     value_records: *const u8,
     value_records_len: usize,

@@ -97,7 +97,7 @@ impl Writer<'_> {
         self.next += 1;
         match schema.code {
             STRING32 | YSON32 => {
-                let limit = self.given.settings.max_blob_bytes;
+                let limit = self.given.settings.blob_limit(schema.code);
                 if value.size > limit {
                     return Err(Refusal::at(BLOB_TOO_LARGE, place, [code, value.size, limit]));
                 }

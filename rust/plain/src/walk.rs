@@ -39,7 +39,7 @@ impl<'a> Walk<'a> {
         self.records += 1;
         let record = schema_record(self.table, self.block.first + index);
         match record.code {
-            STRING32 | YSON32 => self.blob(u64::from(record.code)),
+            STRING32 | YSON32 => self.blob(record.code),
             VARIANT8 | VARIANT16 => {
                 let place = self.at;
                 let tag = self.tag(record.code)?;
@@ -85,13 +85,13 @@ impl<'a> Walk<'a> {
         Ok(())
     }
 
-    /// A length, then its bytes: the blob limit, then the row's charge, then whether they are there.
-    fn blob(&mut self, code: u64) -> Checked {
+    /// A length, then its bytes: the limit of its type, then the row's charge, then whether they are there.
+    fn blob(&mut self, code: u8) -> Checked {
         let field = self.peek(0, 4, context::BLOB_LENGTH)?;
         let length = u64::from(u32::from_le_bytes(field.try_into().expect("four bytes")));
-        let limit = self.settings.max_blob_bytes;
+        let limit = self.settings.blob_limit(code);
         if length > limit {
-            return Err(Refusal::at(BLOB_TOO_LARGE, self.at, [code, length, limit]));
+            return Err(Refusal::at(BLOB_TOO_LARGE, self.at, [u64::from(code), length, limit]));
         }
         self.charge(length)?;
         self.peek(4, length, context::BLOB_PAYLOAD)?;

@@ -90,7 +90,21 @@ impl<'f, S: Source> Decoder<'f, S> {
         Self { settings, ..self }
     }
 
-    /// With another limit of a blob.
+    /// With another limit of a string32.
+    #[must_use]
+    pub fn with_max_string32_bytes(self, bytes: u64) -> Self {
+        let settings = self.settings.with_max_string32_bytes(bytes);
+        self.with_settings(settings)
+    }
+
+    /// With another limit of a yson32.
+    #[must_use]
+    pub fn with_max_yson32_bytes(self, bytes: u64) -> Self {
+        let settings = self.settings.with_max_yson32_bytes(bytes);
+        self.with_settings(settings)
+    }
+
+    /// With another limit of every blob, string32 and yson32 alike.
     #[must_use]
     pub fn with_max_blob_bytes(self, bytes: u64) -> Self {
         let settings = self.settings.with_max_blob_bytes(bytes);

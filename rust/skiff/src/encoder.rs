@@ -132,13 +132,27 @@ impl<'f, S: Sink> Encoder<'f, S> {
         Ok(Self { block, settings, sink, rows: 0, bytes: 0, builder })
     }
 
-    /// With all of these settings; in writing only the limit of a blob counts.
+    /// With all of these settings; in writing only the limits of string32 and yson32 count.
     #[must_use]
     pub fn with_settings(self, settings: Settings) -> Self {
         Self { settings, ..self }
     }
 
-    /// With another limit of a blob.
+    /// With another limit of a string32.
+    #[must_use]
+    pub fn with_max_string32_bytes(self, bytes: u64) -> Self {
+        let settings = self.settings.with_max_string32_bytes(bytes);
+        self.with_settings(settings)
+    }
+
+    /// With another limit of a yson32.
+    #[must_use]
+    pub fn with_max_yson32_bytes(self, bytes: u64) -> Self {
+        let settings = self.settings.with_max_yson32_bytes(bytes);
+        self.with_settings(settings)
+    }
+
+    /// With another limit of every blob, string32 and yson32 alike.
     #[must_use]
     pub fn with_max_blob_bytes(self, bytes: u64) -> Self {
         let settings = self.settings.with_max_blob_bytes(bytes);

@@ -147,13 +147,13 @@ pub enum Refusal {
         /// The offset where the node would start.
         place: u64,
     },
-    /// A blob is over the limit.
+    /// A blob is over the limit of its type.
     BlobTooLarge {
         /// string32 or yson32.
         wire_type: WireType,
         /// Its bytes.
         length: u64,
-        /// The most bytes that it may have.
+        /// The most bytes that one of this type may have.
         limit: u64,
         /// The offset of the length, or the value record.
         place: u64,

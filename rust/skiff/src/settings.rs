@@ -9,21 +9,23 @@
 /// ```
 /// use skiff::Settings;
 ///
-/// let settings = Settings::default().with_max_blob_bytes(1 << 20).with_max_row_bytes(1 << 24);
-/// assert_eq!(settings.max_blob_bytes(), 1 << 20);
+/// let settings = Settings::default().with_max_string32_bytes(1 << 10).with_max_row_bytes(1 << 24);
+/// assert_eq!(settings.max_string32_bytes(), 1 << 10);
+/// assert_eq!(settings.max_yson32_bytes(), Settings::DEFAULT_MAX_BLOB_BYTES);
 /// assert_eq!(settings.node_charge(), Settings::DEFAULT_NODE_CHARGE);
 /// ```
 #[derive(Debug, Clone, Copy, PartialEq, Eq, Hash)]
 pub struct Settings {
     node_charge: u64,
-    max_blob_bytes: u64,
+    max_string32_bytes: u64,
+    max_yson32_bytes: u64,
     max_row_bytes: u64,
 }
 
 impl Settings {
     /// The node charge where none is given.
     pub const DEFAULT_NODE_CHARGE: u64 = 48;
-    /// The limit of a blob where none is given: 128 MiB.
+    /// The limit of a string32 and that of a yson32 where none is given: 128 MiB.
     pub const DEFAULT_MAX_BLOB_BYTES: u64 = 134_217_728;
     /// The limit of a row where none is given: 256 MiB.
     pub const DEFAULT_MAX_ROW_BYTES: u64 = 268_435_456;
@@ -36,7 +38,8 @@ impl Settings {
     pub const fn new() -> Self {
         Self {
             node_charge: Self::DEFAULT_NODE_CHARGE,
-            max_blob_bytes: Self::DEFAULT_MAX_BLOB_BYTES,
+            max_string32_bytes: Self::DEFAULT_MAX_BLOB_BYTES,
+            max_yson32_bytes: Self::DEFAULT_MAX_BLOB_BYTES,
             max_row_bytes: Self::DEFAULT_MAX_ROW_BYTES,
         }
     }
@@ -47,10 +50,23 @@ impl Settings {
         Self { node_charge, ..self }
     }
 
-    /// Another limit of a blob: at most [`Settings::MOST_BYTES`].
+    /// Another limit of a string32: at most [`Settings::MOST_BYTES`].
     #[must_use]
-    pub const fn with_max_blob_bytes(self, max_blob_bytes: u64) -> Self {
-        Self { max_blob_bytes, ..self }
+    pub const fn with_max_string32_bytes(self, max_string32_bytes: u64) -> Self {
+        Self { max_string32_bytes, ..self }
+    }
+
+    /// Another limit of a yson32: at most [`Settings::MOST_BYTES`].
+    #[must_use]
+    pub const fn with_max_yson32_bytes(self, max_yson32_bytes: u64) -> Self {
+        Self { max_yson32_bytes, ..self }
+    }
+
+    /// Another limit of every blob, string32 and yson32 alike, as ytsaurus-rs has one for both: at most
+    /// [`Settings::MOST_BYTES`].
+    #[must_use]
+    pub const fn with_max_blob_bytes(self, bytes: u64) -> Self {
+        self.with_max_string32_bytes(bytes).with_max_yson32_bytes(bytes)
     }
 
     /// Another limit of a row: at most [`Settings::MOST_BYTES`].
@@ -64,9 +80,14 @@ impl Settings {
         self.node_charge
     }
 
-    /// How long a string32 or yson32 may be.
-    pub const fn max_blob_bytes(&self) -> u64 {
-        self.max_blob_bytes
+    /// How long a string32 may be.
+    pub const fn max_string32_bytes(&self) -> u64 {
+        self.max_string32_bytes
+    }
+
+    /// How long a yson32 may be.
+    pub const fn max_yson32_bytes(&self) -> u64 {
+        self.max_yson32_bytes
     }
 
     /// How much all values of a row may cost, with the bytes of its blobs.

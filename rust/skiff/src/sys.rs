@@ -32,7 +32,8 @@ macro_rules! reading_calls {
         extern "C" {
             $(#[link_name = $symbol] fn $name(
                 node_charge: u64,
-                max_blob_bytes: u64,
+                max_string32_bytes: u64,
+                max_yson32_bytes: u64,
                 max_row_bytes: u64,
                 records: *const u8,
                 records_len: usize,
@@ -53,20 +54,20 @@ macro_rules! reading_calls {
 }
 
 reading_calls! {
-    "skiff1_skip" fn skiff_skip(position: u64);
-    "skiff1_decode" fn skiff_decode(
+    "skiff2_skip" fn skiff_skip(position: u64);
+    "skiff2_decode" fn skiff_decode(
         position: u64,
         value_records: *mut u8,
         value_records_len: usize,
         payload: *mut u8,
         payload_len: usize
     );
-    "skiff1_run" fn skiff_run();
-    "skiff1_run_window" fn skiff_run_window(rows: u64, bytes: u64);
-    "skiff1_build_index" fn skiff_build_index(index: *mut u8, index_len: usize);
-    "skiff1_check_index" fn skiff_check_index(index: *const u8, index_len: usize);
-    "skiff1_extend_index" fn skiff_extend_index(old: u64, index: *mut u8, index_len: usize);
-    "skiff1_decode_indexed" fn skiff_decode_indexed(
+    "skiff2_run" fn skiff_run();
+    "skiff2_run_window" fn skiff_run_window(rows: u64, bytes: u64);
+    "skiff2_build_index" fn skiff_build_index(index: *mut u8, index_len: usize);
+    "skiff2_check_index" fn skiff_check_index(index: *const u8, index_len: usize);
+    "skiff2_extend_index" fn skiff_extend_index(old: u64, index: *mut u8, index_len: usize);
+    "skiff2_decode_indexed" fn skiff_decode_indexed(
         index: *const u8,
         index_len: usize,
         row: u64,
@@ -78,10 +79,11 @@ reading_calls! {
 }
 
 extern "C" {
-    #[link_name = "skiff1_encode"]
+    #[link_name = "skiff2_encode"]
     fn skiff_encode(
         node_charge: u64,
-        max_blob_bytes: u64,
+        max_string32_bytes: u64,
+        max_yson32_bytes: u64,
         max_row_bytes: u64,
         records: *const u8,
         records_len: usize,
@@ -99,7 +101,7 @@ extern "C" {
         answer: *mut u8,
         answer_len: usize,
     ) -> u32;
-    #[link_name = "skiff1_check_value_table"]
+    #[link_name = "skiff2_check_value_table"]
     fn skiff_check_value_table(
         value_records: *const u8,
         value_records_len: usize,
@@ -108,7 +110,7 @@ extern "C" {
         answer: *mut u8,
         answer_len: usize,
     ) -> u32;
-    #[link_name = "skiff1_integer_text"]
+    #[link_name = "skiff2_integer_text"]
     fn skiff_integer_text(
         bytes: *const u8,
         bytes_len: usize,
@@ -117,7 +119,7 @@ extern "C" {
         answer: *mut u8,
         answer_len: usize,
     ) -> u32;
-    #[link_name = "skiff1_check_format"]
+    #[link_name = "skiff2_check_format"]
     fn skiff_check_format(
         records: *const u8,
         records_len: usize,
@@ -130,7 +132,7 @@ extern "C" {
         answer: *mut u8,
         answer_len: usize,
     ) -> u32;
-    #[link_name = "skiff1_check_encoder_schema"]
+    #[link_name = "skiff2_check_encoder_schema"]
     fn skiff_check_encoder_schema(
         records: *const u8,
         records_len: usize,
@@ -141,9 +143,9 @@ extern "C" {
         answer: *mut u8,
         answer_len: usize,
     ) -> u32;
-    #[link_name = "skiff1_parse"]
+    #[link_name = "skiff2_parse"]
     fn skiff_parse(name: *const u8, name_len: usize, answer: *mut u8, answer_len: usize) -> u32;
-    #[link_name = "skiff1_value"]
+    #[link_name = "skiff2_value"]
     fn skiff_value(
         value_records: *const u8,
         value_records_len: usize,
@@ -151,7 +153,7 @@ extern "C" {
         answer: *mut u8,
         answer_len: usize,
     ) -> u32;
-    #[link_name = "skiff1_kind"]
+    #[link_name = "skiff2_kind"]
     fn skiff_kind(
         value_records: *const u8,
         value_records_len: usize,
@@ -159,7 +161,7 @@ extern "C" {
         answer: *mut u8,
         answer_len: usize,
     ) -> u32;
-    #[link_name = "skiff1_tag"]
+    #[link_name = "skiff2_tag"]
     fn skiff_tag(
         value_records: *const u8,
         value_records_len: usize,
@@ -167,7 +169,7 @@ extern "C" {
         answer: *mut u8,
         answer_len: usize,
     ) -> u32;
-    #[link_name = "skiff1_child_count"]
+    #[link_name = "skiff2_child_count"]
     fn skiff_child_count(
         value_records: *const u8,
         value_records_len: usize,
@@ -175,7 +177,7 @@ extern "C" {
         answer: *mut u8,
         answer_len: usize,
     ) -> u32;
-    #[link_name = "skiff1_after"]
+    #[link_name = "skiff2_after"]
     fn skiff_after(
         value_records: *const u8,
         value_records_len: usize,
@@ -183,7 +185,7 @@ extern "C" {
         answer: *mut u8,
         answer_len: usize,
     ) -> u32;
-    #[link_name = "skiff1_field"]
+    #[link_name = "skiff2_field"]
     fn skiff_field(
         value_records: *const u8,
         value_records_len: usize,
@@ -194,13 +196,15 @@ extern "C" {
     ) -> u32;
 }
 
-/// The three settings as numbers, unchecked: the library checks them.
+/// The four settings as numbers, unchecked: the library checks them.
 #[derive(Debug, Clone, Copy, PartialEq, Eq)]
 pub struct Numbers {
     /// What each value of a row costs.
     pub node_charge: u64,
-    /// How long a blob may be.
-    pub max_blob_bytes: u64,
+    /// How long a string32 may be.
+    pub max_string32_bytes: u64,
+    /// How long a yson32 may be.
+    pub max_yson32_bytes: u64,
     /// How much a row may cost.
     pub max_row_bytes: u64,
 }
@@ -210,7 +214,8 @@ impl From<&Settings> for Numbers {
     fn from(settings: &Settings) -> Self {
         Self {
             node_charge: settings.node_charge(),
-            max_blob_bytes: settings.max_blob_bytes(),
+            max_string32_bytes: settings.max_string32_bytes(),
+            max_yson32_bytes: settings.max_yson32_bytes(),
             max_row_bytes: settings.max_row_bytes(),
         }
     }
@@ -231,7 +236,8 @@ macro_rules! lend {
     };
     (@ $function:ident [$($done:expr,)*] settings $numbers:expr; $($rest:tt)*) => {
         lend!(@ $function [
-            $($done,)* $numbers.node_charge, $numbers.max_blob_bytes, $numbers.max_row_bytes,
+            $($done,)* $numbers.node_charge, $numbers.max_string32_bytes, $numbers.max_yson32_bytes,
+            $numbers.max_row_bytes,
         ] $($rest)*)
     };
     (@ $function:ident [$($done:expr,)*] format $format:expr; $($rest:tt)*) => {
@@ -333,7 +339,8 @@ pub(crate) fn append(
     let refused = unsafe {
         skiff_encode(
             numbers.node_charge,
-            numbers.max_blob_bytes,
+            numbers.max_string32_bytes,
+            numbers.max_yson32_bytes,
             numbers.max_row_bytes,
             block.records.as_ptr(),
             block.records.len(),

@@ -74,8 +74,10 @@ fn a_slice_is_filled_to_its_end() {
         assert_eq!(encoder.into_written().len(), full);
         assert!(output[full..].iter().all(|byte| *byte == 0xEE));
     }
-    let bad = Settings::default().with_max_blob_bytes(Settings::MOST_BYTES + 1);
-    let mut encoder = Encoder::to_slice(&mut [], &tables).expect("a table's schema").with_settings(bad);
-    let refusal = encoder.write_value(&row("")).expect_err("bad settings").refusal();
-    assert_eq!(refusal, Some(Refusal::Setting));
+    let (usual, over) = (Settings::default(), Settings::MOST_BYTES + 1);
+    for bad in [usual.with_max_string32_bytes(over), usual.with_max_yson32_bytes(over)] {
+        let mut encoder = Encoder::to_slice(&mut [], &tables).expect("a table's schema").with_settings(bad);
+        let refusal = encoder.write_value(&row("")).expect_err("bad settings").refusal();
+        assert_eq!(refusal, Some(Refusal::Setting));
+    }
 }

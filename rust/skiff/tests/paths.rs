@@ -83,11 +83,12 @@ fn the_column_is_the_one_that_the_library_refuses() {
         for _ in 0..50 {
             let mut stream = row.clone();
             let mut settings = Settings::default().with_node_charge(1 + chance.below(3) as u64);
-            match chance.below(4) {
+            match chance.below(5) {
                 0 => stream.truncate(chance.below(row.len() + 1)),
                 1 if row.len() > 2 => stream[2 + chance.below(row.len() - 2)] = chance.number() as u8,
                 2 => settings = settings.with_max_row_bytes(chance.below(row.len() + 10) as u64),
-                _ => settings = settings.with_max_blob_bytes(chance.below(10) as u64),
+                3 => settings = settings.with_max_string32_bytes(chance.below(10) as u64),
+                _ => settings = settings.with_max_yson32_bytes(chance.below(6) as u64),
             }
             let decoder = Decoder::from_slice(&stream, &format).expect("a format");
             let Err(error) = decoder.with_settings(settings).next_row() else { continue };

@@ -20,8 +20,8 @@ fn one_table(schema: Schema) -> FormatTables {
     FormatBuilder::new().table(schema).build().expect("short names")
 }
 
-fn limits(max_blob_bytes: u64, max_row_bytes: u64) -> Settings {
-    Settings::default().with_max_blob_bytes(max_blob_bytes).with_max_row_bytes(max_row_bytes)
+fn limits(blob_bytes: u64, row_bytes: u64) -> Settings {
+    Settings::default().with_max_blob_bytes(blob_bytes).with_max_row_bytes(row_bytes)
 }
 
 fn row(bytes: usize, records: u64, payload: u64) -> Result<Option<Extent>, Refusal> {
@@ -158,7 +158,8 @@ fn settings_are_bounded() {
     for bad in [
         least.with_node_charge(0),
         least.with_node_charge(Settings::MOST_NODE_CHARGE + 1),
-        least.with_max_blob_bytes(most + 1),
+        least.with_max_string32_bytes(most + 1),
+        least.with_max_yson32_bytes(most + 1),
         least.with_max_row_bytes(most + 1),
     ] {
         assert_eq!(run(bad), Err(Refusal::Setting));

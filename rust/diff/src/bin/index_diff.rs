@@ -10,9 +10,10 @@ use diff::indexing::shrink::shrink;
 
 const USAGE: &str = "\
 usage: index-diff [--count N] [--seed N] [--only PART]
-  makes N calls (2,000,000 by default) that build, check and extend indexes and decode rows by them, and compares the
-  number returned and every byte of the answer slice and of the slices lent. The parts are made one after the other,
-  or one alone: cases, threads (two that ask at once), rows (streams of some hundred thousand), huge (slices)";
+  makes N calls with one limit for string32 and yson32 (2,000,000 by default) and further ones with two that build,
+  check and extend indexes and decode rows by them, and compares the number returned and every byte of the answer slice
+  and of the slices lent. The parts are made one after the other, or one alone: cases, threads (two that ask at once),
+  rows (streams of some hundred thousand), huge (slices)";
 
 const PARTS: [&str; 4] = ["cases", "threads", "rows", "huge"];
 

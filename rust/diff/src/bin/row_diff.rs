@@ -12,11 +12,11 @@ use diff::trap;
 
 const USAGE: &str = "\
 usage: row-diff [--count N] [--seed N] [--save FILE] [--only PART]
-  puts N cases (5,000,000 by default) to skiff_skip and skiff_run, more than N to skiff_decode, and every record
-  that was decoded to skiff_value and the row view, and compares the number returned and every byte of the answer
-  slice and of the slices lent. --save writes the smallest differing case found, for schema-diff show. The parts
-  are made one after the other, or one alone: cases, threads (two that ask at once), rows (some million of them),
-  huge (slices)";
+  puts N cases with one limit for string32 and yson32 (5,000,000 by default) and further ones with two to skiff_skip
+  and skiff_run, more of both to skiff_decode, and every record that was decoded to skiff_value and the row view, and
+  compares the number returned and every byte of the answer slice and of the slices lent. --save writes the smallest
+  differing case found, for schema-diff show. The parts are made one after the other, or one alone: cases, threads
+  (two that ask at once), rows (some million of them), huge (slices)";
 
 /// A part of a run that is no stream of cases: how many of what were right, or what is wrong; none where it could not
 /// be tried.

@@ -10,8 +10,8 @@ use diff::writing::shrink::shrink;
 
 const USAGE: &str = "\
 usage: write-diff [--count N] [--seed N]
-  makes N encoding calls (5,000,000 by default), and a check of each value table, and compares every byte of the
-  output; each accepted row goes through both round trips";
+  makes N encoding calls with one limit for string32 and yson32 (5,000,000 by default), further ones with two, and a
+  check of each value table, and compares every byte of the output; each accepted row goes through both round trips";
 
 #[cfg(feature = "encode")]
 const PARTS: [diff::options::Part; 2] = [
@@ -46,7 +46,9 @@ fn compare() -> Result<ExitCode, String> {
             println!("{tally} 0 differences");
             Ok(ExitCode::SUCCESS)
         }
-        Err(Stop::Unmet(unmet)) => Err(format!("all answers were right, but never met: {unmet:?}")),
+        Err(Stop::Unmet(unmet)) => {
+            Err(format!("all answers were right, but never met: {}", unmet.join(", ")))
+        }
         Err(Stop::Difference(found)) => {
             report(&found);
             Ok(ExitCode::from(1))

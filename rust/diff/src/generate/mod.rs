@@ -19,6 +19,9 @@ use crate::rng::Rng;
 /// What kind of case it is, for the count at the end.
 pub type Kind = &'static str;
 
+/// Random cases with a limit for string32 and another for yson32.
+pub const TWO_BLOB_LIMITS: Kind = "two blob limits";
+
 /// Takes the cases one by one.
 pub type Emit<'a> = dyn FnMut(Kind, Case) + 'a;
 

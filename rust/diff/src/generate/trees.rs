@@ -1,5 +1,7 @@
 //! Random schemas, mostly right ones, and the calls that take a single block.
 
+use plain::wire_type::{LAST_CHILDLESS, STRING32, YSON32};
+
 use super::formats::Pool;
 use crate::case::{op, Case};
 use crate::plan::Plan;
@@ -91,6 +93,16 @@ pub fn random_table_plans(rng: &mut Rng, most: usize, fault: usize) -> Vec<Plan>
         plans[column].name = [None, Some(Vec::new())][rng.below(2)].clone();
     }
     plans
+}
+
+/// The same schemas with blobs, of either type, for about half of the nodes that can't have children.
+pub fn with_blobs(rng: &mut Rng, mut case: Case) -> Case {
+    for record in case.records.chunks_exact_mut(16).filter(|record| record[0] <= LAST_CHILDLESS) {
+        if rng.one_in(2) {
+            record[0] = [STRING32, YSON32][rng.below(2)];
+        }
+    }
+    case
 }
 
 /// A size: mostly a handful, sometimes enough for a long chain.

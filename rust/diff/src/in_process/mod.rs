@@ -55,9 +55,9 @@ pub struct Reply {
     pub lent: Option<[Vec<u8>; 2]>,
 }
 
-fn numbers(settings: Settings) -> Numbers {
-    let Settings { node_charge, max_blob_bytes, max_row_bytes } = settings;
-    Numbers { node_charge, max_blob_bytes, max_row_bytes }
+pub(crate) fn numbers(settings: Settings) -> Numbers {
+    let Settings { node_charge, max_string32_bytes, max_yson32_bytes, max_row_bytes } = settings;
+    Numbers { node_charge, max_string32_bytes, max_yson32_bytes, max_row_bytes }
 }
 
 /// What the library is given of a case: its numbers, and each of its slices between unreadable pages.
@@ -224,7 +224,7 @@ impl Verdict {
     }
 }
 
-/// What every run has to meet: each refusal of reading, and each context of a cut.
+/// What every run has to meet: each refusal of reading, each context of a cut, and blobs under two limits.
 fn unmet(call: &str, tally: &Tally, more: &[u64]) -> Vec<String> {
     let numbers: BTreeSet<u64> = (0..=17).filter(|number| ![9, 15, 16].contains(number)).collect();
     let numbers = numbers.iter().chain(more).filter(|number| !tally.numbers.contains_key(number));
@@ -232,6 +232,7 @@ fn unmet(call: &str, tally: &Tally, more: &[u64]) -> Vec<String> {
     numbers
         .map(|number| format!("{call} answer {number}"))
         .chain(contexts.map(|context| format!("{call} context {context}")))
+        .chain(tally.limits.unmet().into_iter().map(|words| format!("{call} {words}")))
         .collect()
 }
 
@@ -292,7 +293,7 @@ impl Run {
             self.found = Some(asked);
             return;
         }
-        tally.add(kind, &verdict.expected);
+        tally.add(kind, &asked.case, &verdict.expected);
         verdict.queried.iter().for_each(|more| self.tallies.queried.add(more));
         if let Some(short) = asked.short() {
             self.tallies.short_answers += 1;
@@ -301,7 +302,8 @@ impl Run {
     }
 }
 
-/// All fixed cases, then random ones up to `count` in all; and at least as many of decode.
+/// All fixed cases, then random ones up to `count` in all that have one limit for blobs, those with two not counted;
+/// and at least as many of decode.
 pub fn run(seed: u64, count: u64) -> Result<Tallies, Stop> {
     let sizes = || ANSWER_SIZES.iter().chain(&SHORT_SIZES);
     if let Some(name) = sizes().find_map(|size| checks::misread_name(*size)) {
@@ -310,12 +312,11 @@ pub fn run(seed: u64, count: u64) -> Result<Tallies, Stop> {
     let mut run = Run::default();
     rows::fixed(&mut |kind, case| run.take(kind, case));
     rows::registries::fixed(&mut |kind, case| run.take(kind, case));
-    for number in run.tallies.reading.cases..count {
-        if run.found.is_some() {
-            break;
-        }
+    let mut number = run.tallies.reading.cases;
+    while run.found.is_none() && run.tallies.reading.limits.one < count {
         let (kind, case) = rows::random(&mut Rng::for_case(seed, number));
         run.take(kind, case);
+        number += 1;
     }
     if let Some(asked) = run.found {
         return Err(Stop::Difference(Box::new(asked)));

@@ -4,6 +4,8 @@ use plain::settings::Settings;
 use skiff::sys::{self, Numbers};
 use skiff::Format;
 
+use crate::in_process;
+
 /// What each call is given first: settings, format and stream.
 #[derive(Debug, Clone, Copy)]
 pub struct Streamed<'a> {
@@ -14,8 +16,7 @@ pub struct Streamed<'a> {
 
 impl<'a> Streamed<'a> {
     pub fn numbers(&self) -> Numbers {
-        let Settings { node_charge, max_blob_bytes, max_row_bytes } = self.settings;
-        Numbers { node_charge, max_blob_bytes, max_row_bytes }
+        in_process::numbers(self.settings)
     }
 
     pub fn format(&self) -> Format<'a> {

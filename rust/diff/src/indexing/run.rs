@@ -8,6 +8,7 @@ use plain::answer::number::{
 };
 
 use super::{filled_lent, left_over, Call, IndexCase, Left, CALLS};
+use crate::blob_limits::BlobLimits;
 use crate::generate::{indexes, Kind};
 use crate::original::indexing as original;
 use crate::original::laid;
@@ -26,6 +27,7 @@ pub struct Tally {
     pub numbers: BTreeMap<(Call, u64), u64>,
     /// Of row n's 31: its offset is past the stream, or another row is there.
     pub mismatches: [u64; 2],
+    pub limits: BlobLimits,
 }
 
 impl fmt::Display for Tally {
@@ -44,6 +46,7 @@ impl fmt::Display for Tally {
                 }
             }
         }
+        write!(out, " {};", self.limits)?;
         let [past, another] = self.mismatches;
         write!(out, " of row n's 31: {past} past the stream, {another} of another row;")?;
         write!(out, " {} calls of run and decode beside them,", self.beside)?;
@@ -80,6 +83,7 @@ impl Tally {
         if self.mismatches.contains(&0) {
             unmet.push("row n's 31, each way".to_owned());
         }
+        unmet.extend(self.limits.unmet());
         unmet
     }
 }
@@ -136,7 +140,9 @@ fn verdict(case: &IndexCase, number: u64, tally: &mut Tally) -> Result<(), Strin
     if unknown.map_or([SETTING, 2, 3].contains(&answer), |unknown| unknown != answer) {
         return Err(format!("plain: {:?}; for what the original does not know: {unknown:?}", plain.report));
     }
-    if let Some(original) = original::ask(case, lent.clone()) {
+    let original = original::ask(case, lent.clone());
+    tally.limits.add(&case.stream, original.is_some());
+    if let Some(original) = original {
         tally.with_original += 1;
         if !original::agrees(&plain, &original) {
             return Err(format!("plain: {plain:02x?}; over the original's rows: {original:02x?}"));
@@ -173,12 +179,13 @@ impl Run {
     }
 }
 
-/// All fixed cases, then random ones up to `count` calls in all.
+/// All fixed cases, then random ones up to `count` calls in all that have one limit for blobs, those with two not
+/// counted.
 pub fn run(seed: u64, count: u64) -> Result<Tally, Stop> {
     let mut run = Run::default();
     indexes::edges::fixed(&mut |kind, case| run.take(kind, case));
     let mut number = 0;
-    while run.found.is_none() && run.tally.calls < count {
+    while run.found.is_none() && run.tally.limits.one < count {
         number += 1;
         for (kind, case) in indexes::random(&mut Rng::for_case(seed, number)) {
             run.take(kind, case);

@@ -10,7 +10,7 @@ use plain::decoding::ValueTable;
 use plain::indexing::{IndexRecord, Stream};
 use plain::report::{what, Report};
 
-use super::rows::{decoder, flatten, node_charge, row_refused};
+use super::rows::{decoder, flatten, row_refused, takes_settings};
 use super::{format, laid, refused, Said};
 use crate::case::Case;
 use crate::indexing::{left_over, Call, IndexCase, Left};
@@ -26,9 +26,9 @@ fn without_place(said: Said) -> Refusal {
 }
 
 impl<'a> Originally<'a> {
-    /// None outside the domain: another node charge, or a name that is not UTF-8.
+    /// None outside the domain, as for rows.
     fn of(case: &'a Case) -> Option<Self> {
-        if case.node_charge != node_charge() {
+        if !takes_settings(case) {
             return None;
         }
         let format = format(case)?.map_err(|error| without_place(refused(case, error)));

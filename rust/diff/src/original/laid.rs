@@ -108,8 +108,9 @@ pub fn format_refusal(case: &Case) -> Option<u64> {
 }
 
 fn are_in_bounds(settings: &Settings) -> bool {
-    let limits = [settings.max_blob_bytes, settings.max_row_bytes];
-    (1..=MOST_NODE_CHARGE).contains(&settings.node_charge) && limits.iter().all(|limit| *limit <= MOST)
+    let Settings { node_charge, max_string32_bytes, max_yson32_bytes, max_row_bytes } = *settings;
+    let limits = [max_string32_bytes, max_yson32_bytes, max_row_bytes];
+    (1..=MOST_NODE_CHARGE).contains(&node_charge) && limits.iter().all(|limit| *limit <= MOST)
 }
 
 /// What a case has to be refused by for what the original does not know; none where it is for the original to say.

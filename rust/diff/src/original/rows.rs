@@ -17,9 +17,27 @@ pub fn node_charge() -> u64 {
     size_of::<Value>() as u64
 }
 
-/// None outside the domain: another node charge, or a name that is not UTF-8.
+/// Its one limit for blobs, where that can stand for the case's two: they are the same, or no schema has a node of
+/// the type whose limit is left out. Which types there are is told by the records' first bytes, those of records that
+/// no schema has among them.
+pub fn blob_limit(case: &Case) -> Option<u64> {
+    let has = |code: u8| case.records.chunks(16).any(|record| record.first() == Some(&code));
+    let Case { max_string32_bytes, max_yson32_bytes, .. } = *case;
+    if case.has_one_blob_limit() || !has(14) {
+        Some(max_string32_bytes)
+    } else {
+        (!has(13)).then_some(max_yson32_bytes)
+    }
+}
+
+/// Whether it charges and limits a row as the case's settings do.
+pub(super) fn takes_settings(case: &Case) -> bool {
+    case.node_charge == node_charge() && blob_limit(case).is_some()
+}
+
+/// None outside the domain: another node charge, two limits for blobs that occur, or a name that is not UTF-8.
 pub fn ask(case: &Case) -> Option<Said> {
-    if case.node_charge != node_charge() {
+    if !takes_settings(case) {
         return None;
     }
     let format = match format(case)? {
@@ -46,8 +64,9 @@ impl Read for Rest<'_> {
 
 /// The limits are within 32 bits, and the position is in the input.
 pub(super) fn decoder<'a>(case: &Case, format: Format, rest: &'a Cell<&'a [u8]>) -> Decoder<Rest<'a>> {
+    let blob_limit = blob_limit(case).expect("it takes these settings");
     Decoder::new(Rest(rest), format)
-        .with_max_blob_bytes(case.max_blob_bytes as usize)
+        .with_max_blob_bytes(blob_limit as usize)
         .with_max_row_bytes(case.max_row_bytes as usize)
 }
 
@@ -108,7 +127,7 @@ const LONGEST_BLOB: u64 = 1 << 28;
 /// What `next_row` says of the row at the case's position, with the row that it gives; none outside of the
 /// domain, as in `ask`.
 pub fn decode(case: &Case) -> Option<Said> {
-    if case.node_charge != node_charge() {
+    if !takes_settings(case) {
         return None;
     }
     let format = match format(case)? {
@@ -118,7 +137,7 @@ pub fn decode(case: &Case) -> Option<Said> {
     let from = &case.input[case.a as usize..];
     let rest = Cell::new(from);
     let mut decoder = decoder(case, format, &rest);
-    if case.max_blob_bytes > LONGEST_BLOB {
+    if blob_limit(case).is_some_and(|limit| limit > LONGEST_BLOB) {
         if let Err(error @ CodecError::Truncated { context: "blob payload" }) = decoder.skip_row() {
             return Some(row_refused(case, error));
         }

@@ -4,7 +4,7 @@ use oracle::{CodecError, Decoder, Encoder, Format, SchemaRef, Value, Variant};
 use plain::answer::number::BAD_VALUE_TABLE;
 use plain::decoding::ValueTable;
 
-use super::rows::flatten;
+use super::rows::{blob_limit, flatten};
 use super::{code, laid, refused, tree};
 use crate::case::Case;
 use crate::judge::lone_block;
@@ -39,21 +39,24 @@ const KINDS: [&str; 18] = [
     "tuple",
 ];
 
-/// Asks `Encoder::new` and `write`. None where a name is not UTF-8, or the schema was laid out from no tree that is
-/// not too deep.
+/// Asks `Encoder::new` and `write`. None where a name is not UTF-8, the schema was laid out from no tree that is not
+/// too deep, or it has blobs of both types under different limits.
 pub fn write(case: &WriteCase) -> Option<Wrote> {
+    write_under(blob_limit(&case.schema)?, case)
+}
+
+fn write_under(limit: u64, case: &WriteCase) -> Option<Wrote> {
     let block = lone_block(&case.schema);
     if laid::block_refusal(&case.schema, block).is_some() {
         return None;
     }
     let schema = tree(&case.schema, block, 0)?;
-    Some(written(case, schema).unwrap_or_else(|error| refusal(case, error)))
+    Some(written(case, schema, limit).unwrap_or_else(|error| refusal(case, error)))
 }
 
 /// A table that was laid out from no value is refused after the schema is accepted.
-fn written(case: &WriteCase, schema: oracle::Schema) -> Result<Wrote, CodecError> {
-    let mut encoder =
-        Encoder::new(Vec::new(), schema)?.with_max_blob_bytes(case.schema.max_blob_bytes as usize);
+fn written(case: &WriteCase, schema: oracle::Schema, limit: u64) -> Result<Wrote, CodecError> {
+    let mut encoder = Encoder::new(Vec::new(), schema)?.with_max_blob_bytes(limit as usize);
     let Some(value) = laid::value(&case.value) else {
         return Ok(Wrote::Refused(BAD_VALUE_TABLE, [0; 3]));
     };
@@ -61,10 +64,10 @@ fn written(case: &WriteCase, schema: oracle::Schema) -> Result<Wrote, CodecError
     encoder.into_inner().map(Wrote::Row)
 }
 
-/// What `Encoder::new` says of the schema alone; none as above.
+/// What `Encoder::new` says of the schema alone, whatever the limits are; otherwise none as above.
 pub fn accepts(schema: &Case) -> Option<Result<(), Wrote>> {
     let case = WriteCase { schema: schema.clone(), ..WriteCase::default() };
-    Some(match write(&case)? {
+    Some(match write_under(0, &case)? {
         // There is no value, and that is found out when the schema is accepted.
         Wrote::Refused(BAD_VALUE_TABLE, _) => Ok(()),
         refused => Err(refused),
@@ -151,7 +154,7 @@ pub fn read_back(case: &WriteCase, bytes: &[u8]) -> Option<ValueTable> {
     let format = Format::new(vec![SchemaRef::Inline(schema)]).expect("the encoder took this schema");
     let mut rest = bytes;
     let mut decoder = Decoder::new(&mut rest, format)
-        .with_max_blob_bytes(case.schema.max_blob_bytes as usize)
+        .with_max_blob_bytes(blob_limit(&case.schema)? as usize)
         .with_max_row_bytes(usize::MAX);
     let (table, row) = decoder.next_row().ok()??;
     let mut flat = ValueTable::default();

@@ -13,7 +13,7 @@ use plain::wire_type::{BOOLEAN, INT128, INT256, STRING32, YSON32};
 use crate::case::{op, Answer, Case};
 use crate::generate::rows;
 
-use super::{wanted_indexes, wanted_writes, Part};
+use super::{wanted_indexes, wanted_limits, wanted_writes, Part};
 
 /// Operation, number, and what there is to tell apart besides: what a cut stream was cut in, a row from an
 /// end, the wire type that an encoding call is about, and which of its two turns a mismatch with an index had.
@@ -104,16 +104,20 @@ impl Edge {
 /// One setting at or past its bound while the others are usual, and both sides of the last position.
 fn edges() -> Vec<Edge> {
     let charge = |node_charge| Settings { node_charge, ..rows::usual() };
-    let blob = |max_blob_bytes| Settings { max_blob_bytes, ..rows::usual() };
+    let string32 = |max_string32_bytes| Settings { max_string32_bytes, ..rows::usual() };
+    let yson32 = |max_yson32_bytes| Settings { max_yson32_bytes, ..rows::usual() };
     let row = |max_row_bytes| Settings { max_row_bytes, ..rows::usual() };
     let settings = [
         (charge(0), SETTING),
         (charge(1), 0),
         (charge(MOST_NODE_CHARGE), 0),
         (charge(MOST_NODE_CHARGE + 1), SETTING),
-        (blob(0), BLOB_TOO_LARGE),
-        (blob(MOST), 0),
-        (blob(MOST + 1), SETTING),
+        (string32(0), BLOB_TOO_LARGE),
+        (string32(MOST), 0),
+        (string32(MOST + 1), SETTING),
+        (yson32(0), 0),
+        (yson32(MOST), 0),
+        (yson32(MOST + 1), SETTING),
         (row(0), ROW_TOO_LARGE),
         // The table is looked for before anything is charged.
         (row(0), MISSING_TABLE_SCHEMA),
@@ -208,18 +212,19 @@ pub struct Wanted {
 
 impl Wanted {
     pub fn of(part: Part) -> Self {
-        match part {
+        let (answers, edges, mut shown, operations) = match part {
             Part::Reading => {
                 let answers = schema_answers().into_iter().chain(reading_answers()).collect();
-                Self { answers, edges: edges(), shown: decoded() }
+                (answers, edges(), decoded(), &READING[..])
             }
-            Part::Writing => {
-                Self { answers: wanted_writes::answers(), edges: vec![], shown: wanted_writes::shown() }
-            }
+            Part::Writing => (wanted_writes::answers(), vec![], wanted_writes::shown(), &[op::ENCODE][..]),
             Part::Indexing => {
-                Self { answers: wanted_indexes::answers(), edges: vec![], shown: wanted_indexes::shown() }
+                let operations = &wanted_indexes::OPERATIONS[..];
+                (wanted_indexes::answers(), vec![], wanted_indexes::shown(), operations)
             }
-        }
+        };
+        shown.extend(wanted_limits::shown(operations));
+        Self { answers, edges, shown }
     }
 
     pub fn meet(&mut self, case: &Case, answer: &Answer) {

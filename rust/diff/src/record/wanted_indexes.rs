@@ -12,7 +12,7 @@ use super::wanted::{plainly as numbers, Answered, Shown};
 use crate::case::{op, Answer, Case};
 use crate::indexing::{plainly, IndexCase};
 
-const OPERATIONS: [u32; 4] = [op::BUILD_INDEX, op::CHECK_INDEX, op::EXTEND_INDEX, op::DECODE_INDEXED];
+pub const OPERATIONS: [u32; 4] = [op::BUILD_INDEX, op::CHECK_INDEX, op::EXTEND_INDEX, op::DECODE_INDEXED];
 
 /// Whether the offset of row n's record lies in the stream, so that another row is there.
 pub fn mismatch(case: &Case) -> u64 {

@@ -14,7 +14,7 @@ use super::wanted::{plainly, Answered, Shown};
 use crate::case::{op, Answer, Case};
 
 /// Where a case has no column, or several.
-const NO_COLUMN: u64 = 255;
+pub const NO_COLUMN: u64 = 255;
 
 /// The wire type of the only column.
 pub fn column(case: &Case) -> u64 {
@@ -135,14 +135,16 @@ fn blobs_and_doubles(show: &mut Show) {
         show(
             format!("a blob of type {code} at the limit"),
             Box::new(move |case, answer| {
-                let is_at = |value: &ValueRecord| value.kind == code && value.size == case.max_blob_bytes;
-                case.max_blob_bytes > 0 && writes(answer, is_at, case)
+                let limit = case.settings().blob_limit(code);
+                let is_at = |value: &ValueRecord| value.kind == code && value.size == limit;
+                limit > 0 && writes(answer, is_at, case)
             }),
         );
         show(
             format!("an empty blob of type {code} where the limit is 0"),
             Box::new(move |case, answer| {
-                case.max_blob_bytes == 0 && writes(answer, |value| value.kind == code, case)
+                let limit = case.settings().blob_limit(code);
+                limit == 0 && writes(answer, |value| value.kind == code, case)
             }),
         );
         show(
@@ -200,12 +202,14 @@ fn room(show: &mut Show) {
 }
 
 fn settings(show: &mut Show) {
-    let tests: [(&str, u64, fn(&Case) -> bool); 8] = [
+    let tests: [(&str, u64, fn(&Case) -> bool); 10] = [
         ("a node charge of 0", SETTING, |case| case.node_charge == 0),
         ("the largest node charge", 0, |case| case.node_charge == MOST_NODE_CHARGE),
         ("a larger one", SETTING, |case| case.node_charge == MOST_NODE_CHARGE + 1),
-        ("the largest blob limit", 0, |case| case.max_blob_bytes == MOST),
-        ("a larger one", SETTING, |case| case.max_blob_bytes == MOST + 1),
+        ("the largest limit of a string32", 0, |case| case.max_string32_bytes == MOST),
+        ("a larger one", SETTING, |case| case.max_string32_bytes == MOST + 1),
+        ("the largest limit of a yson32", 0, |case| case.max_yson32_bytes == MOST),
+        ("a larger one", SETTING, |case| case.max_yson32_bytes == MOST + 1),
         ("a row limit of 0, which does not count here", 0, |case| case.max_row_bytes == 0),
         ("the largest row limit", 0, |case| case.max_row_bytes == MOST),
         ("a larger one", SETTING, |case| case.max_row_bytes == MOST + 1),

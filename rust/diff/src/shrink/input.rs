@@ -13,7 +13,8 @@ pub fn oddness(case: &Case) -> u128 {
     let usual = Settings::default();
     [
         case.node_charge.abs_diff(usual.node_charge),
-        case.max_blob_bytes.abs_diff(usual.max_blob_bytes),
+        case.max_string32_bytes.abs_diff(usual.max_string32_bytes),
+        case.max_yson32_bytes.abs_diff(usual.max_yson32_bytes),
         case.max_row_bytes.abs_diff(usual.max_row_bytes),
     ]
     .map(u128::from)
@@ -75,8 +76,11 @@ fn settings(case: &Case, found: &mut Vec<Case>) {
     for node_charge in nearer(now.node_charge, usual.node_charge) {
         push(Settings { node_charge, ..now });
     }
-    for max_blob_bytes in nearer(now.max_blob_bytes, usual.max_blob_bytes) {
-        push(Settings { max_blob_bytes, ..now });
+    for max_string32_bytes in nearer(now.max_string32_bytes, usual.max_string32_bytes) {
+        push(Settings { max_string32_bytes, ..now });
+    }
+    for max_yson32_bytes in nearer(now.max_yson32_bytes, usual.max_yson32_bytes) {
+        push(Settings { max_yson32_bytes, ..now });
     }
     for max_row_bytes in nearer(now.max_row_bytes, usual.max_row_bytes) {
         push(Settings { max_row_bytes, ..now });

@@ -7,11 +7,11 @@ use plain::tables::Block;
 use plain::value_table::check as check_table;
 use skiff::{sys, SchemaBlock, ValueTable};
 
-use super::library::numbers;
 use crate::generate::rows::usual;
 use crate::generate::writes::draw::{lay_out, Body, Node};
 use crate::generate::writes::schema_of;
 use crate::in_process::huge::{zeros, BOUND};
+use crate::in_process::numbers;
 use crate::plan::{table_of, Plan};
 use crate::trap;
 

@@ -6,15 +6,14 @@ use plain::encoding::written;
 use plain::format::validate_encoder;
 use plain::reading::Row;
 use plain::report::Report;
-use plain::settings::Settings;
 use plain::tables::record_count;
 use plain::value_table::{check, value};
-use skiff::sys::{self, Numbers};
-use skiff::{Format, SchemaBlock, ValueTable};
+use skiff::{sys, Format, SchemaBlock, ValueTable};
 
 use super::run::Tally;
 use super::{describe, filled, round_trip, WriteCase};
 use crate::fence::Turn;
+use crate::in_process::numbers;
 use crate::judge::lone_block;
 use crate::trap;
 
@@ -24,11 +23,6 @@ struct Left {
     returned: u32,
     answer: Vec<u8>,
     output: Vec<u8>,
-}
-
-pub fn numbers(settings: Settings) -> Numbers {
-    let Settings { node_charge, max_blob_bytes, max_row_bytes } = settings;
-    Numbers { node_charge, max_blob_bytes, max_row_bytes }
 }
 
 /// What the library is given of a case, each slice by itself.

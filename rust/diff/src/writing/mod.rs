@@ -20,6 +20,7 @@ use plain::report::Report;
 
 use crate::case::{halves, hex, op, Answer, Case};
 use crate::judge::{line, lone_block};
+use crate::show::settings_in_words;
 
 /// What an encoding call is given.
 #[derive(Debug, Clone, PartialEq, Eq, Default)]
@@ -102,11 +103,12 @@ pub fn encoded_line(done: &Result<Row, Refusal>, output: Vec<u8>) -> Answer {
 
 /// A case in words and in hex, record by record.
 pub fn describe(case: &WriteCase) -> String {
-    let Case { a, b, node_charge, max_blob_bytes, max_row_bytes, records, names, .. } = &case.schema;
+    let Case { a, b, records, names, .. } = &case.schema;
     let mut words = format!(
-        "  settings {node_charge} {max_blob_bytes} {max_row_bytes}; block of {b} records from {a}; \
-         output of {} bytes, position {}\n",
-        case.output, case.position
+        "  {}; block of {b} records from {a}; output of {} bytes, position {}\n",
+        settings_in_words(&case.schema),
+        case.output,
+        case.position
     );
     let mut list = |name: &str, bytes: &[u8]| {
         words.push_str(&format!("  {name}, {} bytes:\n", bytes.len()));

@@ -7,6 +7,7 @@ use plain::settings::{Settings, MOST};
 use plain::tables::FormatTables;
 
 use super::WriteCase;
+use crate::case::Case;
 use crate::judge::lone_block;
 use crate::plan::inline;
 
@@ -29,9 +30,16 @@ impl Stream {
     }
 }
 
-/// The stream of a row: bytes before and after it that are no row's, and settings that let it pass.
+/// The stream of a row: bytes before and after it that are no row's, and settings that let it pass. To read it each
+/// blob limit has to be no lower than it was to write it: they are higher by as many bytes as stand on either side.
 pub fn stream(case: &WriteCase, row: &[u8], before: usize, after: usize) -> Stream {
-    let settings = Settings { node_charge: 1, max_row_bytes: MOST, ..case.schema.settings() };
+    let Case { max_string32_bytes, max_yson32_bytes, .. } = case.schema;
+    let settings = Settings {
+        node_charge: 1,
+        max_string32_bytes: MOST.min(max_string32_bytes + before as u64),
+        max_yson32_bytes: MOST.min(max_yson32_bytes + after as u64),
+        max_row_bytes: MOST,
+    };
     let input = [&vec![0x3B; before], row, &vec![0xC3; after]].concat();
     Stream { settings, references: inline(lone_block(&case.schema)).to_vec(), input, position: before as u64 }
 }

@@ -10,6 +10,7 @@ use plain::reading::Row;
 use plain::value_table::check;
 
 use super::{filled, plain_encoded, round_trip, WriteCase};
+use crate::blob_limits::BlobLimits;
 use crate::generate::{writes, Kind};
 use crate::judge::lone_block;
 use crate::original::laid;
@@ -30,6 +31,7 @@ pub struct Tally {
     pub short_answers: u64,
     pub kinds: BTreeMap<Kind, u64>,
     pub numbers: BTreeMap<u64, u64>,
+    pub limits: BlobLimits,
 }
 
 impl fmt::Display for Tally {
@@ -51,6 +53,7 @@ impl fmt::Display for Tally {
                 number => write!(out, " refusal {number} {count},")?,
             }
         }
+        write!(out, " {};", self.limits)?;
         write!(out, " {} round trips; value tables: {good} accepted, {bad} refused", self.round_trips)?;
         write!(out, "; {} calls more with a short answer slice;", self.short_answers)?;
         #[cfg(feature = "encode")]
@@ -76,7 +79,7 @@ impl Found {
 pub enum Stop {
     Difference(Box<Found>),
     /// All answers were right, but these were never among them.
-    Unmet(Vec<u64>),
+    Unmet(Vec<String>),
 }
 
 /// What the plain reading and the original say of the same call.
@@ -128,13 +131,14 @@ fn verdict(case: &WriteCase, number: u64, tally: &mut Tally) -> Result<(), Strin
         return Err(format!("plain: {done:?}; for what the original does not know: {unknown:?}"));
     }
     let wrote = if unknown.is_none() { write(case) } else { None };
+    tally.limits.add(&case.schema, wrote.is_some());
     if let Some(wrote) = &wrote {
         tally.with_original += 1;
         if !is_one(case, &done, &output, wrote) {
             return Err(format!("plain: {done:?}; original: {wrote:?}"));
         }
     } else if let Some(accepted) = accepts(&case.schema) {
-        // Under numbers that are refused it has the schema alone.
+        // Under numbers that are refused, or that it can't be given, it has the schema alone.
         tally.with_schema += 1;
         let checked = validate_encoder(&case.schema.records, &case.schema.names, lone_block(&case.schema));
         let told = checked.map_err(|refusal| Wrote::Refused(refusal.number, refusal.carried));
@@ -213,12 +217,13 @@ impl Run {
     }
 }
 
-/// All fixed cases, then random ones up to `count` calls in all.
+/// All fixed cases, then random ones up to `count` calls in all that have one limit for blobs, those with two not
+/// counted.
 pub fn run(seed: u64, count: u64) -> Result<Tally, Stop> {
     let mut run = Run::default();
     writes::edges::fixed(&mut |kind, case| run.take(kind, case));
     let mut number = 0;
-    while run.found.is_none() && run.tally.calls < count {
+    while run.found.is_none() && run.tally.limits.one < count {
         number += 1;
         let (kind, case) = writes::random(&mut Rng::for_case(seed, number));
         run.take(kind, case);
@@ -227,8 +232,9 @@ pub fn run(seed: u64, count: u64) -> Result<Tally, Stop> {
         return Err(Stop::Difference(Box::new(found)));
     }
     let met = |number: &u64| run.tally.numbers.contains_key(number);
-    let unmet: Vec<u64> =
-        [0, 1, 2, 3, 4, 5, 9, 10, 14, 15, 16, 17, 18, 21].into_iter().filter(|number| !met(number)).collect();
+    let numbers = [0, 1, 2, 3, 4, 5, 9, 10, 14, 15, 16, 17, 18, 21].into_iter().filter(|number| !met(number));
+    let mut unmet: Vec<String> = numbers.map(|number| format!("answer {number}")).collect();
+    unmet.extend(run.tally.limits.unmet());
     if unmet.is_empty() {
         Ok(run.tally)
     } else {

@@ -26,7 +26,7 @@ fn under_a(values: &[Value], payload: &[u8], limit: u64, room: usize) -> (Result
     let (schema, names) = a();
     let value_records = table(values);
     let given = Given {
-        settings: Settings { max_blob_bytes: limit, ..Settings::default() },
+        settings: Settings::default().with_max_blob_bytes(limit),
         records: &schema,
         names: &names,
         block: block(0, 5),
@@ -84,6 +84,29 @@ fn refusals_in_their_order() {
     assert_eq!(room(&wrong, 1, 1), Err(Refusal::bare(18)));
     let short: [Value; 2] = [(17, 0, 1, 0), (14, 0, 2, 0)];
     assert_eq!(room(&short, 9, 99), Err(Refusal::at(16, 0, [2, 1, 0])));
+}
+
+#[test]
+fn each_blob_is_within_the_limit_of_its_type() {
+    let schema = records(&[(19, 0, 0, 0, 1, 2), (13, 1, 1, 0, 0, 0), (14, 1, 1, 1, 0, 0)]);
+    let value_records = table(&[(17, 0, 2, 0), (13, 0, 2, 0), (14, 0, 3, 2)]);
+    let under = |max_string32_bytes, max_yson32_bytes| {
+        let given = Given {
+            settings: Settings { max_string32_bytes, max_yson32_bytes, ..Settings::default() },
+            records: &schema,
+            names: b"sy",
+            block: block(0, 3),
+            value_records: &value_records,
+            payload: b"hi[1]",
+        };
+        encode(&given, &mut [0xEE; 15], 0)
+    };
+    assert_eq!(under(2, 3), Ok(Row { table: 0, bytes: 15, records: 3, payload: 5 }));
+    assert_eq!(under(1, 3), Err(Refusal::at(14, 1, [13, 2, 1])));
+    assert_eq!(under(3, 2), Err(Refusal::at(14, 2, [14, 3, 2])));
+    assert_eq!(under(4_294_967_295, 0), Err(Refusal::at(14, 2, [14, 3, 0])));
+    assert_eq!(under(4_294_967_296, 3), Err(Refusal::bare(1)));
+    assert_eq!(under(2, 4_294_967_296), Err(Refusal::bare(1)));
 }
 
 #[test]

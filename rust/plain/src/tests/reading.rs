@@ -65,8 +65,9 @@ fn refused(number: u64, place: u64, carried: [u64; 3]) -> Result<Skipped, Refusa
     Err(Refusal::at(number, place, carried))
 }
 
-fn limits(max_blob_bytes: u64, max_row_bytes: u64) -> Settings {
-    Settings { max_blob_bytes, max_row_bytes, ..Settings::default() }
+/// The same limit for both types of blobs.
+fn limits(blob_bytes: u64, max_row_bytes: u64) -> Settings {
+    Settings { max_row_bytes, ..Settings::default() }.with_max_blob_bytes(blob_bytes)
 }
 
 const FULL: [u8; 10] = [0, 0, 0x25, 1, 2, 0, 0, 0, 0xD1, 0xC5];
@@ -144,18 +145,21 @@ fn a_charge_comes_before_the_bytes_and_the_blob_limit_before_the_charge() {
 #[test]
 fn settings_and_positions() {
     let a = schema_a();
-    let with = |node_charge, max_blob_bytes, max_row_bytes| {
-        let settings = Settings { node_charge, max_blob_bytes, max_row_bytes };
+    let with = |node_charge, max_string32_bytes, max_yson32_bytes, max_row_bytes| {
+        let settings = Settings { node_charge, max_string32_bytes, max_yson32_bytes, max_row_bytes };
         a.skip(settings, &FULL, 0)
     };
     let most = 4_294_967_295;
     let one = refused(1, 0, [0; 3]);
-    assert_eq!(with(1, 2, 6), row(0, 10, 4, 2));
-    assert_eq!(with(1, 2, 5), refused(13, 4, [5, 0, 0]));
-    assert_eq!(with(4_096, most, most), row(0, 10, 4, 2));
-    for (charge, blob, row) in [(0, 2, 6), (4_097, 2, most), (1, most + 1, 6), (1, 2, most + 1)] {
-        assert_eq!(with(charge, blob, row), one);
+    assert_eq!(with(1, 2, 0, 6), row(0, 10, 4, 2));
+    assert_eq!(with(1, 2, 0, 5), refused(13, 4, [5, 0, 0]));
+    assert_eq!(with(4_096, most, most, most), row(0, 10, 4, 2));
+    for (charge, row) in [(0, 6), (4_097, most), (1, most + 1)] {
+        assert_eq!(with(charge, 2, 2, row), one);
     }
+    // The limit of a type that does not occur is tested too.
+    assert_eq!(with(1, most + 1, 2, 6), one);
+    assert_eq!(with(1, 2, most + 1, 6), one);
     assert_eq!(a.skip(Settings::default(), &FULL, 10), Ok(Skipped::End));
     assert_eq!(a.skip(Settings::default(), &FULL, 11), one);
     assert_eq!(a.skip(Settings::default(), &FULL, u64::MAX), one);
@@ -163,6 +167,36 @@ fn settings_and_positions() {
     assert_eq!(a.skip(Settings::default(), &FULL, 5), refused(17, 8, [15, 0xD1, 2]));
     assert_eq!(a.skip(Settings::default(), &FULL, 9), refused(12, 9, [17, 0, 0]));
     assert_eq!(a.skip(Settings::default(), &FULL, 2), refused(11, 2, [0x125, 0, 0]));
+}
+
+#[test]
+fn each_blob_is_within_the_limit_of_its_type() {
+    let columns = [(19, 0, 0, 0, 1, 2), (13, 1, 1, 0, 0, 0), (14, 1, 1, 1, 0, 0)];
+    let both = Made::of(&[records(&columns)], b"sy");
+    let input = [0, 0, 2, 0, 0, 0, b'h', b'i', 3, 0, 0, 0, b'[', b'1', b']'];
+    let with = |max_string32_bytes, max_yson32_bytes| {
+        let settings = Settings { max_string32_bytes, max_yson32_bytes, ..Settings::default() };
+        both.skip(settings, &input, 0)
+    };
+    assert_eq!(with(2, 3), row(0, 15, 3, 5));
+    assert_eq!(with(1, 3), refused(14, 2, [13, 2, 1]));
+    assert_eq!(with(2, 2), refused(14, 8, [14, 3, 2]));
+    assert_eq!(with(3, 2), refused(14, 8, [14, 3, 2]));
+    assert_eq!(with(1, 2), refused(14, 2, [13, 2, 1]));
+    let most = 4_294_967_295;
+    assert_eq!(with(most, 0), refused(14, 8, [14, 3, 0]));
+    assert_eq!(with(0, most), refused(14, 2, [13, 2, 0]));
+    for (string32, yson32) in [(most + 1, 3), (2, most + 1), (most + 1, 0), (0, most + 1)] {
+        assert_eq!(with(string32, yson32), refused(1, 0, [0; 3]));
+    }
+    // One type alone: the other's limit is in bounds and nothing more.
+    let input = [0, 0, 1, 0, 0, 0, 7];
+    for other in [0, most] {
+        let strings = Settings { max_string32_bytes: 1, max_yson32_bytes: other, ..Settings::default() };
+        let ysons = Settings { max_string32_bytes: other, max_yson32_bytes: 1, ..Settings::default() };
+        assert_eq!(column(13).skip(strings, &input, 0), row(0, 7, 2, 1));
+        assert_eq!(column(14).skip(ysons, &input, 0), row(0, 7, 2, 1));
+    }
 }
 
 #[test]

@@ -2,17 +2,18 @@ use borrow.Author.Needs.{needs}
 use borrow.Author.Tests.{not-false}
 use native.Mathlib.Omega.{arith}
 use Prim.Native.Nat.{_-_}
-use mathlib.Core.Path.{refl, sym, _∙_}
+use mathlib.Core.Path.{sym, _∙_}
+use Rattle.rules.specs.Reading.{limits}
 use Rattle.judge.proofs.Once.{later-not}
 use Rattle.judge.proofs.Columns.{Along, row-said, along-first, column-in, column-flat, along-next, row-seen}
 use Rattle.judge.proofs.flat.flat_row.Statement.{statement}
 use Rattle.judge.proofs.flat.flat_row.Tie as tie
 
 abbrev Inv-loop : tie.InvT-loop
-Inv-loop block records payload bytes total first count max-blob-bytes q₀ i₀ q i = Along block records payload max-blob-bytes count q i
+Inv-loop block settings records payload bytes total first count q₀ i₀ q i = Along block records payload (limits settings) count q i
 
 abbrev μ-loop : tie.MeasureT-loop
-μ-loop block records payload bytes total first count max-blob-bytes q₀ i₀ q i = count - i
+μ-loop block settings records payload bytes total first count q₀ i₀ q i = count - i
 
 whole-records-requires : tie.Need-whole-records-requires Inv-loop μ-loop
 whole-records-requires c κs = search needs
@@ -84,7 +85,7 @@ returns-9 : tie.Need-returns-9 Inv-loop μ-loop
 returns-9 c = λ q e.
     row-said _ _ _ _ _ q e
     (row-seen _ _ _ (c .before .before .before .before .before .before .before .before .before .before .before .before .before .before .before .before .before .before .before .before .before .pre) _ _ (c .before .before .before .before .before .before .before .before .before .before .before .before .before .value-record-at .ensures) (c .before .before .before .before .before .before .before .before .before .before .before .if3 .left) _ _ (c .before .before .before .before .before .before .before .before .node-first .ensures) (c .before .before .before .before .before .before .before .node-children .ensures) (c .before .before .before .before .before .if5 .left) (c .before .before .before .before .loop .inv) (c .before .before .before .loop-test .left) _ (c .before .before .before .before .before .before .before .before .before .before .before .before .before .before .before .records-in .ensures) (omega (arith, c .before .before .before .before .before .before .before .before .before .before .before .before .before .before .if2 .left)) _ (c .before .before .before .before .before .before .before .before .before .before .record-ok .ensures) (not-false (c .before .before .before .before .before .before .before .before .before .before .record-ok .result) (c .before .before .before .before .before .before .before .before .before .if4 .left)) (c .before .before .if6 .left) (c .if7 .left)
-    (λ j. omega (arith, c .before .before .before .before .before .before .before .before .before .before .before .before .before .before .before .before .before .before .before .shared-slice-known2 .given j)) (sym (c .before .before .before .before .before .before .before .before .before .before .before .before .before .before .before .before .before .whole-records .ensures) ∙ not-false (c .before .before .before .before .before .before .before .before .before .before .before .before .before .before .before .before .before .whole-records .result) (c .before .before .before .before .before .before .before .before .before .before .before .before .before .before .before .before .if1 .left)) _ refl)
+    (λ j. omega (arith, c .before .before .before .before .before .before .before .before .before .before .before .before .before .before .before .before .before .before .before .shared-slice-known2 .given j)) (sym (c .before .before .before .before .before .before .before .before .before .before .before .before .before .before .before .before .before .whole-records .ensures) ∙ not-false (c .before .before .before .before .before .before .before .before .before .before .before .before .before .before .before .before .before .whole-records .result) (c .before .before .before .before .before .before .before .before .before .before .before .before .before .before .before .before .if1 .left)))
 
 pub flat-row-spec : {M : Type 1} → statement M
 flat-row-spec =

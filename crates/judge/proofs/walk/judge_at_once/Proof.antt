@@ -1,3 +1,4 @@
+use Rattle.rules.specs.Reading.{limits}
 use borrow.Author.Needs.{needs}
 use native.Mathlib.Omega.{arith}
 use mathlib.Core.Path.{sym, _∙_}
@@ -15,13 +16,13 @@ node-children-requires : tie.Need-node-children-requires
 node-children-requires c κs = search needs
 
 add-at : tie.Need-add-at
-add-at c = omega (arith, below-there _ 0 _ _ _ _ _ (c .before .before .before .before .before .before .before .pre .0) _ _ (c .before .before .before .before .before .before .before .pre .1) (c .before .before .before .if1 .left) _ _ (c .before .before .node-first .ensures) (c .before .node-children .ensures), c .before .before .before .before .before .before .before .good)
+add-at c = omega (arith, below-there _ (limits (c .before .before .before .before .before .before .before .args .settings)) _ _ _ _ _ (c .before .before .before .before .before .before .before .pre .0) _ _ (c .before .before .before .before .before .before .before .pre .1) (c .before .before .before .if1 .left) _ _ (c .before .before .node-first .ensures) (c .before .node-children .ensures), c .before .before .before .before .before .before .before .good)
 
 value-record-at-requires : tie.Need-value-record-at-requires
-value-record-at-requires c κs = below-there _ 0 _ _ _ _ _ (c .before .before .before .before .before .before .before .pre .0) _ _ (c .before .before .before .before .before .before .before .pre .1) (c .before .before .before .if1 .left) _ _ (c .before .before .node-first .ensures) (c .before .node-children .ensures)
+value-record-at-requires c κs = below-there _ (limits (c .before .before .before .before .before .before .before .args .settings)) _ _ _ _ _ (c .before .before .before .before .before .before .before .pre .0) _ _ (c .before .before .before .before .before .before .before .pre .1) (c .before .before .before .if1 .left) _ _ (c .before .before .node-first .ensures) (c .before .node-children .ensures)
 
 next-child-requires : tie.Need-next-child-requires
-next-child-requires c κs = below-asks _ 0 _ _ _ _ _ (c .before .before .before .before .before .before .before .before .pre .0) _ _ (c .before .before .before .before .before .before .before .before .pre .1) (c .before .before .before .before .if1 .left) _ _ (c .before .before .before .node-first .ensures) (c .before .before .node-children .ensures) (omega (arith, c .before .before .before .before .before .before .before .before .good))
+next-child-requires c κs = below-asks _ (limits (c .before .before .before .before .before .before .before .before .args .settings)) _ _ _ _ _ (c .before .before .before .before .before .before .before .before .pre .0) _ _ (c .before .before .before .before .before .before .before .before .pre .1) (c .before .before .before .before .if1 .left) _ _ (c .before .before .before .node-first .ensures) (c .before .before .node-children .ensures) (omega (arith, c .before .before .before .before .before .before .before .before .good))
 
 enum-known-pick : tie.Need-enum-known-pick
 enum-known-pick c = search needs
@@ -33,7 +34,7 @@ returns-2 : tie.Need-returns-2
 returns-2 c = λ q e. later-not q e
 
 node-code-requires : tie.Need-node-code-requires
-node-code-requires c κs = below-in _ 0 _ _ _ _ _ (c .before .before .before .before .before .before .before .before .before .before .before .before .pre .0) _ _ (c .before .before .before .before .before .before .before .before .before .before .before .before .pre .1) (c .before .before .before .before .before .before .before .before .if1 .left) _ _ (c .before .before .before .before .before .before .before .node-first .ensures) (c .before .before .before .before .before .before .node-children .ensures) _ (c .before .before .before .before .value-record-at .ensures) _ (c .before .before .before .next-child .ensures) _ _ (c .before .pick .given .1)
+node-code-requires c κs = below-in _ (limits (c .before .before .before .before .before .before .before .before .before .before .before .before .args .settings)) _ _ _ _ _ (c .before .before .before .before .before .before .before .before .before .before .before .before .pre .0) _ _ (c .before .before .before .before .before .before .before .before .before .before .before .before .pre .1) (c .before .before .before .before .before .before .before .before .if1 .left) _ _ (c .before .before .before .before .before .before .before .node-first .ensures) (c .before .before .before .before .before .before .node-children .ensures) _ (c .before .before .before .before .value-record-at .ensures) _ (c .before .before .before .next-child .ensures) _ _ (c .before .pick .given .1)
 
 returns-3 : tie.Need-returns-3
 returns-3 c = λ q e. later-not q e
@@ -42,11 +43,11 @@ returns-4 : tie.Need-returns-4
 returns-4 c = λ q e. later-not q e
 
 add-t22 : tie.Need-add-t22
-add-t22 c = omega (arith, few-bytes-on _ 0 _ _ _ _ _ (c .before .before .before .before .before .before .before .before .before .before .before .before .before .before .before .before .before .pre .0) _ _ (c .before .before .before .before .before .before .before .before .before .before .before .before .before .before .before .before .before .pre .1) (c .before .before .before .before .before .before .before .before .before .before .before .before .before .if1 .left) _ _ (c .before .before .before .before .before .before .before .before .before .before .before .before .node-first .ensures) (c .before .before .before .before .before .before .before .before .before .before .before .node-children .ensures) _ (c .before .before .before .before .before .before .before .before .before .value-record-at .ensures) _ (c .before .before .before .before .before .before .before .before .next-child .ensures) _ _ (c .before .before .before .before .before .before .pick .given .1))
+add-t22 c = omega (arith, few-bytes-on _ (limits (c .before .before .before .before .before .before .before .before .before .before .before .before .before .before .before .before .before .args .settings)) _ _ _ _ _ (c .before .before .before .before .before .before .before .before .before .before .before .before .before .before .before .before .before .pre .0) _ _ (c .before .before .before .before .before .before .before .before .before .before .before .before .before .before .before .before .before .pre .1) (c .before .before .before .before .before .before .before .before .before .before .before .before .before .if1 .left) _ _ (c .before .before .before .before .before .before .before .before .before .before .before .before .node-first .ensures) (c .before .before .before .before .before .before .before .before .before .before .before .node-children .ensures) _ (c .before .before .before .before .before .before .before .before .before .value-record-at .ensures) _ (c .before .before .before .before .before .before .before .before .next-child .ensures) _ _ (c .before .before .before .before .before .before .pick .given .1))
 
 judge-leaf-requires : tie.Need-judge-leaf-requires
 judge-leaf-requires c κs =
-    let k = below-bounds _ 0 _ _ _ _ _ (c .before .before .before .before .before .before .before .before .before .before .before .before .before .before .before .before .before .pre .0) _ _ (c .before .before .before .before .before .before .before .before .before .before .before .before .before .before .before .before .before .pre .1) (c .before .before .before .before .before .before .before .before .before .before .before .before .before .if1 .left) _ _ (c .before .before .before .before .before .before .before .before .before .before .before .before .node-first .ensures) (c .before .before .before .before .before .before .before .before .before .before .before .node-children .ensures) _ (c .before .before .before .before .before .before .before .before .before .value-record-at .ensures) _ (c .before .before .before .before .before .before .before .before .next-child .ensures) _ _ (c .before .before .before .before .before .before .pick .given .1) in
+    let k = below-bounds _ (limits (c .before .before .before .before .before .before .before .before .before .before .before .before .before .before .before .before .before .args .settings)) _ _ _ _ _ (c .before .before .before .before .before .before .before .before .before .before .before .before .before .before .before .before .before .pre .0) _ _ (c .before .before .before .before .before .before .before .before .before .before .before .before .before .before .before .before .before .pre .1) (c .before .before .before .before .before .before .before .before .before .before .before .before .before .if1 .left) _ _ (c .before .before .before .before .before .before .before .before .before .before .before .before .node-first .ensures) (c .before .before .before .before .before .before .before .before .before .before .before .node-children .ensures) _ (c .before .before .before .before .before .before .before .before .before .value-record-at .ensures) _ (c .before .before .before .before .before .before .before .before .next-child .ensures) _ _ (c .before .before .before .before .before .before .pick .given .1) in
     (omega (arith, c .before .before .before .if2 .left), k .0, k .1 .0, k .1 .1 .0, k .1 .1 .1)
 
 enum-known-j : tie.Need-enum-known-j

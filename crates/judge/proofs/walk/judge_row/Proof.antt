@@ -14,13 +14,13 @@ node-code-requires : tie.Need-node-code-requires
 node-code-requires c κs = search needs
 
 kind-of-requires : tie.Need-kind-of-requires
-kind-of-requires c κs = code-known _ 0 _ _ _ _ _ (root-judgeable _ _ _ (c .before .before .before .before .before .pre)) _ (c .before .value-record-at .ensures) _ (c .node-code .ensures)
+kind-of-requires c κs = code-known _ _ _ _ _ _ (root-judgeable _ _ _ (c .before .before .before .before .before .pre)) _ (c .before .value-record-at .ensures) _ (c .node-code .ensures)
 
 returns : tie.Need-returns
-returns c = other-kind _ _ _ _ _ _ _ (root-judgeable _ _ _ (c .before .before .before .before .before .before .before .pre)) _ (c .before .before .before .value-record-at .ensures) _ (c .before .before .node-code .ensures) _ (c .before .kind-of .ensures) (c .if1 .taken) ∙ row-judged _ _ _ (c .before .before .before .before .before .before .before .pre) _
+returns c = other-kind _ _ _ _ _ _ (root-judgeable _ _ _ (c .before .before .before .before .before .before .before .pre)) _ (c .before .before .before .value-record-at .ensures) _ (c .before .before .node-code .ensures) _ (c .before .kind-of .ensures) _ (c .if1 .taken) ∙ row-judged _ _ _ (c .before .before .before .before .before .before .before .pre) _
 
 judge-children-requires : tie.Need-judge-children-requires
-judge-children-requires c κs = ((root-judgeable _ _ _ (c .before .before .before .before .before .before .before .pre)), opened _ 0 _ _ _ _ _ (root-judgeable _ _ _ (c .before .before .before .before .before .before .before .pre)) _ (c .before .before .before .value-record-at .ensures) _ (c .before .before .node-code .ensures) _ (c .before .kind-of .ensures) (c .if1 .left) (omega (arith, c .before .before .node-code .ensures, c .before .before .before .before .before .before .before .pre .tuple)))
+judge-children-requires c κs = ((root-judgeable _ _ _ (c .before .before .before .before .before .before .before .pre)), opened _ _ _ _ _ _ (root-judgeable _ _ _ (c .before .before .before .before .before .before .before .pre)) _ (c .before .before .before .value-record-at .ensures) _ (c .before .before .node-code .ensures) _ (c .before .kind-of .ensures) (c .if1 .left) (omega (arith, c .before .before .node-code .ensures, c .before .before .before .before .before .before .before .pre .tuple)))
 
 enum-known-j : tie.Need-enum-known-j
 enum-known-j c = search needs

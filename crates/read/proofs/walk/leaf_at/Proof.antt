@@ -57,7 +57,7 @@ returns-7 : tie.Need-returns-7
 returns-7 c = leads-on _ _ _ _ _ (c .before .before .before .before .before .before .before .before .before .before .before .before .before .before .before .before .before .before .pre .0) _ (c .before .before .before .before .before .before .before .before .before .before .before .before .before .before .before .if1 .left)
 
 add-t20 : tie.Need-add-t20
-add-t20 c = search needs
+add-t20 c = omega (arith, c .before .before .before .before .before .before .before .before .before .before .before .before .before .before .before .before .before .before .before .before .pre .1 .total)
 
 returns-8 : tie.Need-returns-8
 returns-8 c = leads-child _ _ _ _ _ _ (c .before .before .before .before .before .before .before .before .before .before .before .before .before .before .before .before .before .before .before .before .pre .0) _ (c .before .before .before .before .before .before .before .before .before .before .before .before .before .before .before .before .before .before .before .before .pre .1) _ _ (c .before .before .before .before .before .before .before .before .before .node-first .ensures) (c .before .before .before .before .before .before .before .before .node-children .ensures) (c .before .before .before .before .before .before .before .before .before .before .before .before .before .before .before .before .before .if1 .left) (omega (arith, c .before .before .before .before .before .before .before .before .before .before .before .before .before .before .before .before .if2 .left)) (λ z. omega (arith, z, c .before .before .before .before .before .before .before .before .before .before .before .before .before .before .before .if3 .left)) _ (c .before .before .before .before .before .before .before .before .before .before .before .before .before .read-tag .ensures) _ _ (c .before .before .before .before .before .before .before .before .before .before .before .t .given .1) (c .before .before .before .before .before .before .before .if4 .left) _ (c .before .before .before .before .before .before .node-code .ensures) (omega (arith, c .before .before .before .before .before .if5 .left)) _ (c .before .before .before .before .charge .ensures) _ (c .before .before .paid .given .1)

@@ -6,7 +6,9 @@ use plain::settings::{Settings, MOST};
 
 use super::lend;
 use crate::case::{op, Case};
-use crate::generate::rows::edges::{schema_a, schema_b, FULL};
+use crate::generate::rows::edges::{
+    blob_limits, limits_around, row_of_blobs, schema_a, schema_b, schema_of_blobs, FULL,
+};
 use crate::generate::rows::{self, usual};
 use crate::generate::Kind;
 use crate::indexing::{filled, plainly, Call, IndexCase, CALLS};
@@ -156,6 +158,48 @@ fn refused(emit: &mut Emit) {
     }
 }
 
+/// Two rows of 11 and 15 bytes, each with a string32 and a yson32, under a limit for each type.
+fn two_rows_of_blobs(limits: [u64; 2]) -> Case {
+    let input = [row_of_blobs([1, 0]), row_of_blobs([2, 3])].concat();
+    let mut case = Case { op: op::RUN, input, ..Case::default() }.with_settings(blob_limits(limits));
+    let block = lay_out(&schema_of_blobs(), &mut case.records, &mut case.names);
+    case.references.extend(inline(block));
+    case
+}
+
+/// The two limits in all pairs: the run is refused at the second row, or not at all.
+fn two_blob_limits(emit: &mut Emit) {
+    let whole = index_of(&two_rows_of_blobs([2, 3]));
+    for limits in limits_around([2, 3]) {
+        let stream = two_rows_of_blobs(limits);
+        for bytes in [16, 31, 32, 48] {
+            let mut index = whole.clone();
+            index.resize(bytes, 0x5C);
+            all_calls(&stream, &index, &[0, 1, 2, 3], emit);
+        }
+    }
+}
+
+/// What a sample has to have of two limits: each at its longest blob, with the other at 0 too, one below it, and past
+/// its largest where no such blob can occur.
+fn few_blob_limits(emit: &mut Emit) {
+    let whole = index_of(&two_rows_of_blobs([2, 3]));
+    for limits in [[2, 3], [1, 3], [3, 2]] {
+        let stream = two_rows_of_blobs(limits);
+        CALLS.into_iter().for_each(|one| emit(KIND, call(one, &stream, &whole, 1)));
+    }
+    for (code, limits) in [(13, [2, 0]), (14, [0, 2]), (13, [2, MOST + 1]), (14, [MOST + 1, 2])] {
+        let input = vec![0, 0, 2, 0, 0, 0, 7, 7];
+        let mut stream = Case { op: op::RUN, input, ..Case::default() };
+        let plans = table_of(&[Plan::new(code, 0)]);
+        let block = lay_out(&plans, &mut stream.records, &mut stream.names);
+        stream.references.extend(inline(block));
+        let index = index_of(&stream.clone().with_settings(usual()));
+        let stream = stream.with_settings(blob_limits(limits));
+        CALLS.into_iter().for_each(|one| emit(KIND, call(one, &stream, &index, 0)));
+    }
+}
+
 /// The rows of document 01, each with its own index and with none.
 fn document_rows(emit: &mut Emit) {
     let mut take = |_, case: Case| {
@@ -173,6 +217,7 @@ pub fn fixed(emit: &mut Emit) {
     fields(emit);
     rooms(emit);
     refused(emit);
+    two_blob_limits(emit);
     document_rows(emit);
 }
 
@@ -213,6 +258,7 @@ pub fn few(emit: &mut Emit) {
     for (records, payload) in rooms {
         emit(KIND, lend(call(Call::Row, &stream, &whole, 0), Room { records, payload }));
     }
+    few_blob_limits(emit);
     // A row that is cut behind its table's tag, and formats that are too deep or have a child too many.
     let cut = IndexRecord { offset: 0, length: 4, table: 0 }.in_bytes();
     emit(KIND, call(Call::Row, &self::stream(&[0, 0]), &cut, 0));

@@ -7,37 +7,32 @@ pub mod edges;
 use plain::indexing::accepted;
 use plain::tables::record_count;
 
-use super::formats::{format, random_name};
+use super::rows::limits::two_blob_limits;
 use super::rows::{self, values};
 use super::Kind;
 use crate::case::{op, Case};
 use crate::indexing::{filled, plainly, Call, IndexCase};
-use crate::original;
 use crate::rng::Rng;
 use crate::room::{Room, Slack};
 
 /// A good format with usual settings and more rows than the cases of skip and run have.
 fn good(rng: &mut Rng) -> Case {
-    loop {
-        // So seldom wrong that it is drawn again where it is.
-        let mut case = format(rng, 1_000, &mut random_name).with_settings(rows::usual());
-        if original::ask_format(&case).is_some_and(|said| said.number == 0) {
-            let rows = [0, 1, 2, 3, 4, 5, 8, 13][rng.below(8)];
-            values::fill(rng, &mut case, rows);
-            return case;
-        }
-    }
+    let mut case = values::good_format(rng);
+    let rows = [0, 1, 2, 3, 4, 5, 8, 13][rng.below(8)];
+    values::fill(rng, &mut case, rows);
+    case
 }
 
-/// A stream and its format. Half of them are good; of the others most are refused for what they are.
+/// A stream and its format. About half of them are good; of the others most are refused for what they are.
 fn stream(rng: &mut Rng) -> Case {
-    let case = match rng.below(10) {
+    let case = match rng.below(11) {
         0..=4 => good(rng),
         5 => {
             let mut case = good(rng);
             rows::damage::change(rng, &mut case.input);
             case
         }
+        6 => two_blob_limits(rng),
         _ => rows::random(rng).1,
     };
     Case { op: op::RUN, a: 0, b: 0, ..case }

@@ -1,6 +1,8 @@
 //! Document 01's rows, and both sides of every bound that a row can meet: wide tags, deep schemas, many
 //! tables, long blobs, settings and positions.
 
+use std::collections::BTreeSet;
+
 use plain::settings::{Settings, MOST, MOST_NODE_CHARGE};
 
 use super::usual;
@@ -51,8 +53,8 @@ fn document_rows(emit: &mut Emit) {
         read(&a, &FULL[..length], emit);
         read(&a, &[&FULL[..], &FULL[..length]].concat(), emit);
     }
-    for (max_blob_bytes, max_row_bytes) in [(2, 194), (2, 193), (1, 192), (1, 191), (0, 47), (0, 0)] {
-        read(&a.clone().with_settings(limits(max_blob_bytes, max_row_bytes)), &FULL, emit);
+    for (blob_bytes, row_bytes) in [(2, 194), (2, 193), (1, 192), (1, 191), (0, 47), (0, 0)] {
+        read(&a.clone().with_settings(limits(blob_bytes, row_bytes)), &FULL, emit);
     }
     read(&a.clone().with_settings(limits(0, 0)), &[1, 0], emit);
     let b = format(&[schema_b()]);
@@ -60,24 +62,25 @@ fn document_rows(emit: &mut Emit) {
     rows.into_iter().for_each(|row| read(&b, row, emit));
 }
 
-fn limits(max_blob_bytes: u64, max_row_bytes: u64) -> Settings {
-    Settings { max_blob_bytes, max_row_bytes, ..usual() }
+/// With one limit for both types of blobs.
+fn limits(blob_bytes: u64, max_row_bytes: u64) -> Settings {
+    Settings { max_row_bytes, ..usual() }.with_max_blob_bytes(blob_bytes)
 }
 
 fn settings_and_positions(emit: &mut Emit) {
     let a = format(&[schema_a()]);
     for max_row_bytes in [0, 47, 48, 95, 96, 143, 144, 191, 192, 193, 194, 195] {
-        for max_blob_bytes in [0, 1, 2, 3] {
-            let case = a.clone().with_settings(limits(max_blob_bytes, max_row_bytes));
+        for blob_bytes in [0, 1, 2, 3] {
+            let case = a.clone().with_settings(limits(blob_bytes, max_row_bytes));
             [&FULL[..], &FULL[..9], &[1, 0]].into_iter().for_each(|input| read(&case, input, emit));
         }
     }
     let charges = [0, 1, 48, 4_095, 4_096, 4_097, (1 << 32) + 48, u64::MAX];
     let bounds = [0, 1, 2, 194, 4_294_967_294, MOST, MOST + 1, u64::MAX];
     for node_charge in charges {
-        for max_blob_bytes in bounds {
-            for max_row_bytes in bounds {
-                let settings = Settings { node_charge, max_blob_bytes, max_row_bytes };
+        for blob_bytes in bounds {
+            for row_bytes in bounds {
+                let settings = Settings { node_charge, ..limits(blob_bytes, row_bytes) };
                 read(&a.clone().with_settings(settings), &FULL, emit);
             }
         }
@@ -105,9 +108,10 @@ fn bounds(emit: &mut Emit) {
     let charges = [0, 1, MOST_NODE_CHARGE, MOST_NODE_CHARGE + 1];
     let charges = charges.map(|node_charge| Settings { node_charge, ..usual() });
     let bounds = [0, MOST, MOST + 1];
-    let blobs = bounds.map(|max_blob_bytes| Settings { max_blob_bytes, ..usual() });
+    let strings = bounds.map(|max_string32_bytes| Settings { max_string32_bytes, ..usual() });
+    let ysons = bounds.map(|max_yson32_bytes| Settings { max_yson32_bytes, ..usual() });
     let rows = bounds.map(|max_row_bytes| Settings { max_row_bytes, ..usual() });
-    for settings in [usual()].into_iter().chain(charges).chain(blobs).chain(rows) {
+    for settings in [usual()].into_iter().chain(charges).chain(strings).chain(ysons).chain(rows) {
         let case = a.clone().with_settings(settings);
         read(&case, &FULL, emit);
         read(&case, &[1, 0], emit);
@@ -139,6 +143,94 @@ fn blobs(emit: &mut Emit) {
             }
         }
     }
+}
+
+/// tuple("s" string32, "y" yson32).
+pub fn schema_of_blobs() -> Vec<Plan> {
+    vec![Plan::new(19, 2), Plan::named(13, 0, b"s"), Plan::named(14, 0, b"y")]
+}
+
+fn blob(length: usize) -> Vec<u8> {
+    [&(length as u32).to_le_bytes()[..], &vec![0x42; length]].concat()
+}
+
+/// A row of them that has so many bytes in each.
+pub fn row_of_blobs(lengths: [usize; 2]) -> Vec<u8> {
+    let [string, yson] = lengths.map(blob);
+    [&[0, 0][..], &string, &yson].concat()
+}
+
+/// Tables that have blobs of both types, of one, or of none, and a stream of each, in whose rows the blobs have so
+/// many bytes.
+fn streams_of_blobs(lengths: [usize; 2]) -> Vec<(Case, Vec<u8>)> {
+    let column = |plans: &[Plan]| format(&[table_of(plans)]);
+    let (strings, ysons) = ([Plan::new(13, 0)], [Plan::new(14, 0)]);
+    let turned = vec![Plan::new(19, 2), Plan::named(14, 0, b"y"), Plan::named(13, 0, b"s")];
+    let [s, y] = &lengths.map(blob);
+    let row = [0, 0];
+    vec![
+        (format(&[schema_of_blobs()]), row_of_blobs(lengths)),
+        (format(&[turned]), [&row[..], y, s].concat()),
+        (column(&over(19, &[14, 13, 14])), [&row[..], y, s, y].concat()),
+        (column(&over(15, &[13, 14])), [&row[..], &[0], s, &row, &[1], y].concat()),
+        (column(&over(18, &[14, 13])), [&row[..], &[0, 0], y, &[1, 0], s, &[0, 0], y, &[255; 2]].concat()),
+        (format(&[table_of(&strings), table_of(&ysons)]), [&row[..], s, &[1, 0], y, &row, s].concat()),
+        (column(&strings), [&row[..], s].concat()),
+        (column(&ysons), [&row[..], y].concat()),
+        (format(&[schema_b()]), [&row[..], &[255]].concat()),
+    ]
+}
+
+/// Settings with these limits for string32 and yson32.
+pub fn blob_limits([max_string32_bytes, max_yson32_bytes]: [u64; 2]) -> Settings {
+    Settings { max_string32_bytes, max_yson32_bytes, ..usual() }
+}
+
+/// How long a string32 and a yson32 are whose limits are tried in pairs.
+pub const BLOB_LENGTHS: [[usize; 2]; 5] = [[2, 3], [3, 2], [1, 1], [0, 2], [2, 0]];
+
+/// Each limit at its blob's length, one below it and one above, at 0, at its largest and past it, with each of the
+/// other.
+pub fn limits_around(lengths: [usize; 2]) -> Vec<[u64; 2]> {
+    let [strings, ysons] = lengths.map(|length| {
+        let length = length as u64;
+        BTreeSet::from([length.saturating_sub(1), length, length + 1, 0, MOST, MOST + 1])
+    });
+    strings.iter().flat_map(|string32| ysons.iter().map(|yson32| [*string32, *yson32])).collect()
+}
+
+/// Two limits in all pairs; then the limits of rows, which come after those of blobs, and cuts, which come after both.
+fn two_blob_limits(emit: &mut Emit) {
+    for lengths in BLOB_LENGTHS {
+        for (case, input) in streams_of_blobs(lengths) {
+            for limits in limits_around(lengths) {
+                read(&case.clone().with_settings(blob_limits(limits)), &input, emit);
+            }
+        }
+    }
+    let (both, input) = (format(&[schema_of_blobs()]), row_of_blobs([2, 3]));
+    let cost = 3 * usual().node_charge + 5;
+    let near = [[2, 3], [1, 3], [3, 2], [1, 2], [0, MOST], [MOST, 0]];
+    let far = [[(1 << 32) + 2, 3], [2, (1 << 32) + 3], [u64::MAX, 3], [2, u64::MAX]];
+    for limits in near.into_iter().chain(far) {
+        for max_row_bytes in [cost - 4, cost - 3, cost - 1, cost] {
+            let case = both.clone().with_settings(Settings { max_row_bytes, ..blob_limits(limits) });
+            (0..=input.len()).for_each(|length| read(&case, &input[..length], emit));
+        }
+    }
+}
+
+/// What a sample has to have of two limits beside their bounds: each at its blob's length, with the other at 0 too,
+/// one below it, and past its largest where no such blob can occur.
+fn few_blob_limits(emit: &mut Emit) {
+    let both = format(&[schema_of_blobs()]);
+    for (lengths, limits) in
+        [([2, 3], [2, 3]), ([2, 3], [1, 3]), ([2, 3], [3, 2]), ([2, 0], [2, 0]), ([0, 3], [0, 3])]
+    {
+        read(&both.clone().with_settings(blob_limits(limits)), &row_of_blobs(lengths), emit);
+    }
+    let ysons = format(&[table_of(&[Plan::new(14, 0)])]);
+    read(&ysons.with_settings(blob_limits([MOST + 1, 3])), &[&[0, 0][..], &blob(3)].concat(), emit);
 }
 
 /// The largest tags, the end tags, and tags just past the children.
@@ -267,7 +359,7 @@ fn large(emit: &mut Emit) {
     read(&nothings, &list(70_000), emit);
     read(&nothings, &[list(70_000), list(3), list(0)].concat(), emit);
     // Root, list and elements at 4,096 each: 1,048,575 of them are just within the largest limit.
-    let dear = Settings { node_charge: 4_096, max_blob_bytes: MOST, max_row_bytes: MOST };
+    let dear = Settings { node_charge: 4_096, ..limits(MOST, MOST) };
     for nodes in [1_048_574, 1_048_575, 1_048_576, 1_048_577] {
         read(&nothings.clone().with_settings(dear), &list(nodes - 2), emit);
     }
@@ -292,6 +384,7 @@ pub fn fixed(emit: &mut Emit) {
     format_bounds(emit);
     settings_and_positions(emit);
     blobs(emit);
+    two_blob_limits(emit);
     tags(emit);
     depths(emit);
     many_tables(emit);
@@ -310,6 +403,7 @@ pub fn few(emit: &mut Emit) {
     };
     document_rows(&mut at_start);
     bounds(&mut at_start);
+    few_blob_limits(&mut at_start);
     let mut skipped = |kind, case: Case| {
         if case.op == op::SKIP {
             at_start(kind, case);

@@ -93,9 +93,9 @@ fn settings(turn: usize) -> Settings {
     match turn % 8 {
         0..=3 => usual,
         4 => Settings { max_row_bytes: near, ..usual },
-        5 => Settings { max_row_bytes: near.saturating_sub(1), max_blob_bytes: 1, ..usual },
-        6 => Settings { max_blob_bytes: (step % 3) as u64, ..usual },
-        _ => Settings { node_charge: 1, max_row_bytes: (step % 8) as u64, max_blob_bytes: 2 },
+        5 => Settings { max_row_bytes: near.saturating_sub(1), ..usual }.with_max_blob_bytes(1),
+        6 => usual.with_max_blob_bytes((step % 3) as u64),
+        _ => Settings { node_charge: 1, max_row_bytes: (step % 8) as u64, ..usual }.with_max_blob_bytes(2),
     }
 }
 

@@ -10,7 +10,7 @@ pub mod values;
 
 use plain::settings::Settings;
 
-use super::{Emit, Kind};
+use super::{Emit, Kind, TWO_BLOB_LIMITS};
 use crate::case::{op, Case};
 use crate::original::node_charge;
 use crate::rng::Rng;
@@ -23,7 +23,7 @@ pub fn fixed(emit: &mut Emit) {
 
 /// One random case.
 pub fn random(rng: &mut Rng) -> (Kind, Case) {
-    match rng.below(100) {
+    match rng.below(110) {
         0..=24 => ("random rows", values::random_rows(rng)),
         25..=44 => ("limits at equality", limits::at_equality(rng)),
         45..=49 => ("odd settings", limits::odd_settings(rng)),
@@ -32,7 +32,8 @@ pub fn random(rng: &mut Rng) -> (Kind, Case) {
         80..=84 => ("random bytes", damage::random_bytes(rng)),
         85..=89 => ("positions", damage::positions(rng)),
         90..=96 => ("bad formats", damage::bad_format(rng)),
-        _ => ("names not UTF-8", damage::not_utf8(rng)),
+        97..=99 => ("names not UTF-8", damage::not_utf8(rng)),
+        _ => (TWO_BLOB_LIMITS, limits::two_blob_limits(rng)),
     }
 }
 

@@ -2,24 +2,30 @@
 
 use plain::format::table_block;
 use plain::tables::{schema_record, Block};
-use plain::wire_type::fixed_width;
+use plain::wire_type::{fixed_width, STRING32, YSON32};
 
 use super::{either, usual};
 use crate::case::{op, Case};
 use crate::generate::formats::{format, random_name};
+use crate::generate::trees::with_blobs;
 use crate::judge::tables;
 use crate::original;
 use crate::rng::Rng;
 
-/// What a row costs: nodes, and the bytes of its blobs, of which the longest.
+/// What a row costs: nodes, and the bytes of its blobs, of which the longest of each type.
 #[derive(Debug, Clone, Copy, Default, PartialEq, Eq)]
 pub struct Cost {
     pub nodes: u64,
     pub blob_bytes: u64,
-    pub longest: u64,
+    pub longest_string32: u64,
+    pub longest_yson32: u64,
 }
 
 impl Cost {
+    pub fn longest(&self) -> u64 {
+        self.longest_string32.max(self.longest_yson32)
+    }
+
     pub fn under(&self, node_charge: u64) -> u64 {
         self.nodes * node_charge + self.blob_bytes
     }
@@ -79,7 +85,7 @@ impl Writer<'_> {
         let record = schema_record(self.records, self.block.first + index);
         let child = |tag: usize| record.first_child + tag as u64;
         match record.code {
-            13 | 14 => self.blob(),
+            code @ (STRING32 | YSON32) => self.blob(code),
             15 | 16 => {
                 // Without children no tag is right; some tag is written all the same.
                 let tag = (self.taste.tag)(self.rng, (record.child_count as usize).max(1));
@@ -118,7 +124,7 @@ impl Writer<'_> {
         self.out.extend_from_slice(if code == 15 || code == 17 { &bytes[..1] } else { &bytes });
     }
 
-    fn blob(&mut self) {
+    fn blob(&mut self, code: u8) {
         let length = (self.taste.blob_bytes)(self.rng);
         self.out.extend((length as u32).to_le_bytes());
         for _ in 0..length {
@@ -126,7 +132,11 @@ impl Writer<'_> {
             self.out.push(byte);
         }
         self.cost.blob_bytes += length as u64;
-        self.cost.longest = self.cost.longest.max(length as u64);
+        let longest = match code {
+            STRING32 => &mut self.cost.longest_string32,
+            _ => &mut self.cost.longest_yson32,
+        };
+        *longest = (*longest).max(length as u64);
     }
 }
 
@@ -167,17 +177,35 @@ pub fn fill(rng: &mut Rng, case: &mut Case, rows: usize) -> Stream {
     stream
 }
 
-/// A good format with usual settings and a few rows.
-pub fn good(rng: &mut Rng) -> (Case, Stream) {
+/// A good format with usual settings.
+pub fn good_format(rng: &mut Rng) -> Case {
     loop {
         // So seldom wrong that it is drawn again where it is.
-        let mut case = format(rng, 1_000, &mut random_name).with_settings(usual());
+        let case = format(rng, 1_000, &mut random_name).with_settings(usual());
         if original::ask_format(&case).is_some_and(|said| said.number == 0) {
-            let rows = [0, 1, 1, 1, 2, 3, 5][rng.below(7)];
-            let stream = fill(rng, &mut case, rows);
-            return (Case { op: either(rng), ..case }, stream);
+            return case;
         }
     }
+}
+
+/// A call over a few rows of a format.
+fn with_rows(rng: &mut Rng, mut case: Case) -> (Case, Stream) {
+    let rows = [0, 1, 1, 1, 2, 3, 5][rng.below(7)];
+    let stream = fill(rng, &mut case, rows);
+    (Case { op: either(rng), ..case }, stream)
+}
+
+/// A good format with usual settings and a few rows.
+pub fn good(rng: &mut Rng) -> (Case, Stream) {
+    let case = good_format(rng);
+    with_rows(rng, case)
+}
+
+/// The same with many blobs of both types.
+pub fn good_with_blobs(rng: &mut Rng) -> (Case, Stream) {
+    let case = good_format(rng);
+    let case = with_blobs(rng, case);
+    with_rows(rng, case)
 }
 
 /// Good rows, skipped from the start of one of them or from the end.
@@ -206,7 +234,12 @@ mod tests {
             let (case, stream) = good(&mut Rng::for_case(5, number));
             for (start, cost) in stream.starts.iter().zip(&stream.costs) {
                 let at = |max_row_bytes| {
-                    let settings = Settings { max_row_bytes, max_blob_bytes: cost.longest, ..usual() };
+                    let settings = Settings {
+                        max_row_bytes,
+                        max_string32_bytes: cost.longest_string32,
+                        max_yson32_bytes: cost.longest_yson32,
+                        ..usual()
+                    };
                     let case = Case { op: op::SKIP, a: *start, ..case.clone() }.with_settings(settings);
                     plain_report(&case).number
                 };

@@ -2,7 +2,7 @@
 
 use plain::decoding::{kind, ValueTable};
 use plain::tables::{schema_record, Block};
-use plain::wire_type::fixed_width;
+use plain::wire_type::{fixed_width, STRING32, YSON32};
 
 use crate::generate::rows::values::DOUBLES;
 use crate::rng::Rng;
@@ -50,11 +50,17 @@ impl Node {
         }
     }
 
-    /// The longest string32 or yson32.
-    pub fn longest(&self) -> u64 {
+    /// The longest string32 and the longest yson32.
+    pub fn longest(&self) -> [u64; 2] {
+        [STRING32, YSON32].map(|kind| self.longest_of(kind))
+    }
+
+    fn longest_of(&self, kind: u8) -> u64 {
         match &self.body {
-            Body::Payload(bytes) if self.kind > 7 => bytes.len() as u64,
-            Body::Children(children) => children.iter().map(Node::longest).max().unwrap_or(0),
+            Body::Payload(bytes) if self.kind == kind => bytes.len() as u64,
+            Body::Children(children) => {
+                children.iter().map(|child| child.longest_of(kind)).max().unwrap_or(0)
+            }
             _ => 0,
         }
     }

@@ -7,6 +7,7 @@ use plain::wire_type::fixed_width;
 
 use super::draw::{lay_out, leaf, Body, Node};
 use super::{schema_of, Emit};
+use crate::generate::rows::edges::{blob_limits, limits_around, BLOB_LENGTHS};
 use crate::generate::rows::usual;
 use crate::generate::rows::values::DOUBLES;
 use crate::generate::Kind;
@@ -20,6 +21,7 @@ pub fn fixed(emit: &mut Emit) {
     tags(emit);
     counts(emit);
     limits(emit);
+    two_blob_limits(emit);
     depths(emit);
     widths(emit);
     every_byte(emit);
@@ -45,11 +47,32 @@ pub fn few(emit: &mut Emit) {
     let charges = [0, 1, MOST_NODE_CHARGE, MOST_NODE_CHARGE + 1];
     let charges = charges.map(|node_charge| Settings { node_charge, ..usual() });
     let limits = [0, MOST, MOST + 1];
-    let blobs = limits.map(|max_blob_bytes| Settings { max_blob_bytes, ..usual() });
+    let strings = limits.map(|max_string32_bytes| Settings { max_string32_bytes, ..usual() });
+    let ysons = limits.map(|max_yson32_bytes| Settings { max_yson32_bytes, ..usual() });
     let rows = limits.map(|max_row_bytes| Settings { max_row_bytes, ..usual() });
-    for settings in charges.into_iter().chain(blobs).chain(rows) {
-        let blob = Node::new(13, Body::Payload(b"a".to_vec()));
-        few_with(emit, "odd settings", &[Plan::new(13, 0)], blob, settings);
+    for settings in charges.into_iter().chain(strings).chain(ysons).chain(rows) {
+        few_with(emit, "odd settings", &[Plan::new(13, 0)], blob(13, 1), settings);
+    }
+    few_blob_limits(emit);
+}
+
+/// Each of two limits at its blob's length, with the other at 0 too, one below it, and past its largest where no such
+/// blob can occur.
+fn few_blob_limits(emit: &mut Emit) {
+    for (code, length, limits) in [
+        (13, 2, [2, 0]),
+        (13, 2, [1, MOST]),
+        (13, 0, [0, MOST]),
+        (14, 2, [0, 2]),
+        (14, 2, [MOST, 1]),
+        (14, 0, [MOST, 0]),
+        (14, 2, [MOST + 1, 2]),
+    ] {
+        few_with(emit, "limits", &[Plan::new(code, 0)], blob(code, length), blob_limits(limits));
+    }
+    for limits in [[1, 2], [0, 2], [2, 1]] {
+        let both = tuple(vec![blob(13, 1), blob(14, 2)]);
+        few_with(emit, "limits", &over(19, &[13, 14]), both, blob_limits(limits));
     }
 }
 
@@ -62,7 +85,7 @@ fn few_tags(emit: &mut Emit, code: u8, of: u8, count: u32, tag: u32) {
 /// With room on both sides of the row.
 fn few_with(emit: &mut Emit, what: Kind, column: &[Plan], value: Node, settings: Settings) {
     let schema = schema_of(&table_of(column)).with_settings(settings);
-    emit(what, WriteCase { schema, value: lay_out(&tuple(vec![value])), output: 12, position: 2 });
+    emit(what, WriteCase { schema, value: lay_out(&tuple(vec![value])), output: 16, position: 2 });
 }
 
 fn tuple(children: Vec<Node>) -> Node {
@@ -191,22 +214,50 @@ fn counts(emit: &mut Emit) {
     }
 }
 
+fn blob(code: u8, length: usize) -> Node {
+    Node::new(code, Body::Payload(vec![0x61; length]))
+}
+
 /// Blobs around the limit; int128 and int256 have none.
 fn limits(emit: &mut Emit) {
     for length in [0_usize, 1, 2, 31, 32, 255, 256, 65_535, 65_536] {
         for limit in [0, 1, length as u64, length as u64 + 1, (length as u64).saturating_sub(1)] {
-            let settings = Settings { max_blob_bytes: limit, ..usual() };
+            let settings = usual().with_max_blob_bytes(limit);
             for code in [13, 14] {
-                let blob = Node::new(code, Body::Payload(vec![0x61; length]));
-                one_with(emit, "limits", &[Plan::new(code, 0)], blob.clone(), settings);
-                one_with(emit, "limits", &[Plan::new(27 - code, 0)], blob, settings);
+                one_with(emit, "limits", &[Plan::new(code, 0)], blob(code, length), settings);
+                one_with(emit, "limits", &[Plan::new(27 - code, 0)], blob(code, length), settings);
             }
         }
     }
     for (code, width) in [(6, 16), (7, 32)] {
-        let settings = Settings { max_blob_bytes: 0, max_row_bytes: 0, ..usual() };
+        let settings = Settings { max_row_bytes: 0, ..usual() }.with_max_blob_bytes(0);
         let wide = Node::new(code, Body::Payload(vec![0x80; width]));
         one_with(emit, "limits", &[Plan::new(code, 0)], wide, settings);
+    }
+}
+
+/// Two limits in all pairs, over blobs of both types in one row, of one, and of none; and over a value of the other
+/// type, which is refused before its length is.
+fn two_blob_limits(emit: &mut Emit) {
+    for lengths in BLOB_LENGTHS {
+        let (s, y) = (blob(13, lengths[0]), blob(14, lengths[1]));
+        let items = [(&y, 1), (&s, 0), (&y, 1)].map(|(item, tag)| item.clone().chosen(tag, 2));
+        let chosen = s.clone().chosen(0, 2);
+        let rows = [
+            (over(19, &[13, 14]), tuple(vec![s.clone(), y.clone()])),
+            (over(19, &[14, 13, 14]), tuple(vec![y.clone(), s.clone(), y.clone()])),
+            (over(17, &[13, 14]), Node::new(kind::REPEATED, Body::Children(items.into()))),
+            (over(16, &[13, 14]), Node::new(kind::VARIANT, Body::Children(vec![chosen]))),
+            (over(19, &[14, 13]), tuple(vec![s.clone(), y.clone()])),
+            (vec![Plan::new(13, 0)], s),
+            (vec![Plan::new(14, 0)], y),
+            (vec![Plan::new(0, 0)], Node::nothing()),
+        ];
+        for (column, value) in rows {
+            for limits in limits_around(lengths) {
+                one_with(emit, "limits", &column, value.clone(), blob_limits(limits));
+            }
+        }
     }
 }
 

@@ -7,9 +7,10 @@ pub mod tables;
 
 use plain::settings::{Settings, MOST, MOST_NODE_CHARGE};
 
+use super::rows::limits::two_limits;
 use super::rows::usual;
-use super::trees::{random_case, random_size, random_table_plans, widened};
-use super::{damage as schema_damage, Kind};
+use super::trees::{random_case, random_size, random_table_plans, widened, with_blobs};
+use super::{damage as schema_damage, Kind, TWO_BLOB_LIMITS};
 use crate::case::{op, Case};
 use crate::judge::lone_block;
 use crate::original::writing::accepts;
@@ -43,8 +44,20 @@ fn random_schema(rng: &mut Rng) -> Case {
 
 /// A schema and a value of it.
 fn good(rng: &mut Rng) -> (Case, Node) {
-    loop {
+    good_of(rng, random_schema)
+}
+
+/// The same with many blobs of both types.
+fn good_with_blobs(rng: &mut Rng) -> (Case, Node) {
+    good_of(rng, |rng| {
         let schema = random_schema(rng);
+        with_blobs(rng, schema)
+    })
+}
+
+fn good_of(rng: &mut Rng, draw_schema: fn(&mut Rng) -> Case) -> (Case, Node) {
+    loop {
+        let schema = draw_schema(rng);
         let block = lone_block(&schema);
         if accepts(&schema) == Some(Ok(())) {
             let value = draw(rng, &schema.records, block);
@@ -78,9 +91,20 @@ fn bad_schema(rng: &mut Rng) -> WriteCase {
 /// The blob limit at the longest blob, one over it or one under it.
 fn at_the_limit(rng: &mut Rng) -> WriteCase {
     let (schema, value) = good(rng);
-    let longest = value.longest();
+    let [string32, yson32] = value.longest();
+    let longest = string32.max(yson32);
     let limit = [longest, longest + 1, longest.saturating_sub(1), 0][rng.below(4)];
-    let settings = Settings { max_blob_bytes: limit, ..usual() };
+    case(schema.with_settings(usual().with_max_blob_bytes(limit)), &value)
+}
+
+/// Values with blobs of both types, mostly right ones, under a limit for each.
+fn two_blob_limits(rng: &mut Rng) -> WriteCase {
+    let (schema, mut value) = good_with_blobs(rng);
+    let [max_string32_bytes, max_yson32_bytes] = two_limits(rng, value.longest());
+    if rng.one_in(6) {
+        damage::value(rng, &mut value);
+    }
+    let settings = Settings { max_string32_bytes, max_yson32_bytes, ..usual() };
     case(schema.with_settings(settings), &value)
 }
 
@@ -89,14 +113,14 @@ fn odd_settings(rng: &mut Rng) -> WriteCase {
     let (schema, value) = good(rng);
     let limit = |rng: &mut Rng| *rng.pick(&[0, 1, 5, MOST - 1, MOST, MOST + 1, 1 << 32 | 300, u64::MAX]);
     let charges = [0, 1, 48, MOST_NODE_CHARGE, MOST_NODE_CHARGE + 1, u64::MAX];
-    let settings =
-        Settings { node_charge: *rng.pick(&charges), max_blob_bytes: limit(rng), max_row_bytes: limit(rng) };
-    case(schema.with_settings(settings), &value)
+    let blob_bytes = limit(rng);
+    let settings = Settings { node_charge: *rng.pick(&charges), max_row_bytes: limit(rng), ..usual() };
+    case(schema.with_settings(settings.with_max_blob_bytes(blob_bytes)), &value)
 }
 
 /// One random case.
 pub fn random(rng: &mut Rng) -> (Kind, WriteCase) {
-    match rng.below(100) {
+    match rng.below(110) {
         0..=34 => {
             let (schema, value) = good(rng);
             ("drawn values", case(schema, &value))
@@ -130,7 +154,8 @@ pub fn random(rng: &mut Rng) -> (Kind, WriteCase) {
             }
             ("names not UTF-8", case(schema, &value))
         }
-        _ => ("odd settings", odd_settings(rng)),
+        98..=99 => ("odd settings", odd_settings(rng)),
+        _ => (TWO_BLOB_LIMITS, two_blob_limits(rng)),
     }
 }
 

@@ -1,4 +1,5 @@
 use borrow.Author.Tests.{not-true, not-false}
+use Rattle.rules.specs.Reading.{limits}
 use Rattle.leaves.specs.Shapes.{shapeOf}
 use Rattle.judge.specs.Table.{wholeEnd, valueStandingAt}
 use Rattle.judge.specs.Judging.{judgePos, judgedAt}
@@ -12,12 +13,12 @@ use Rattle.judge.proofs.walk.+judge_children+judge_value.Lts-judge_chil
 use Rattle.judge.proofs.walk.+judge_children+judge_value.Proof.Setup.{judge-children-at, judge-children-calls}
 
 abbrev pub Inv-loop : lts.InvT-loop
-Inv-loop block node code depth max-blob-bytes records payload size first count own q₀ i₀ q i =
+Inv-loop block node code depth settings records payload size first count own q₀ i₀ q i =
     let p = judgePos own (q₀ .from) (q₀ .bytes) in
-    Going block max-blob-bytes node records payload (shapeOf code) (depth - 1) size (wholeEnd (valueStandingAt records payload depth own (q₀ .from))) (judgedAt block max-blob-bytes node depth records payload p) q i
+    Going block (limits settings) node records payload (shapeOf code) (depth - 1) size (wholeEnd (valueStandingAt records payload depth own (q₀ .from))) (judgedAt block (limits settings) node depth records payload p) q i
 
 abbrev pub μ-loop : lts.MeasureT-loop
-μ-loop block node code depth max-blob-bytes records payload size first count own q₀ i₀ q i = size - i
+μ-loop block node code depth settings records payload size first count own q₀ i₀ q i = size - i
 
 module _ (t : ℕ) where
   pub node-first-requires : lts.Need-node-first-requires (judge-children-calls t) (judge-children-at t) judge-children.Post Inv-loop μ-loop
@@ -87,7 +88,7 @@ module _ (t : ℕ) where
   loop-again c = goes-on _ _ _ _ _ _ _ (c .before .before .before .before .before .before .before .before .before .before .before .before .before .before .before .before .before .before .before .pre .1 .0) _ _ (c .before .before .before .before .before .before .before .before .before .before .before .before .before .before .before .before .before .before .before .pre .1 .1) _ _ (c .before .before .before .before .before .before .before .before .before .before .before .before .before .before .before .node-first .ensures) (c .before .before .before .before .before .before .before .before .before .before .before .before .before .before .node-children .ensures) _ (c .before .before .before .before .before .before .before .before .before .before .before .before .before .count-fits .ensures) (not-false (c .before .before .before .before .before .before .before .before .before .before .before .before .before .count-fits .result) (c .before .before .before .before .before .before .before .before .before .before .before .before .if1 .left)) (c .before .before .before .before .before .before .before .before .before .before .before .loop .inv) (c .before .before .before .before .before .before .before .before .before .before .loop-test .taken) _ (c .before .before .before .before .before .before .before .before .before .value-record-at .ensures) _ (c .before .before .before .before .before .before .before .before .next-child .ensures) _ _ (c .before .before .before .before .before .before .pick .given .1) _ (c .before .before .before .judge-value .ensures) _ (c .before .j .given .1)
 
   pub closing-requires : lts.Need-closing-requires (judge-children-calls t) (judge-children-at t) judge-children.Post Inv-loop μ-loop
-  closing-requires c κs = (c .before .before .before .before .before .before .before .before .before .pre .1 .1 .compound, known _ 0 _ _ _ _ _ (c .before .before .before .before .before .before .before .before .before .pre .1 .0) _ _ (c .before .before .before .before .before .before .before .before .before .pre .1 .1) _ _ (c .before .before .before .before .before .node-first .ensures) (c .before .before .before .before .node-children .ensures))
+  closing-requires c κs = (c .before .before .before .before .before .before .before .before .before .pre .1 .1 .compound, known _ (limits (c .before .before .before .before .before .before .before .before .before .args .settings)) _ _ _ _ _ (c .before .before .before .before .before .before .before .before .before .pre .1 .0) _ _ (c .before .before .before .before .before .before .before .before .before .pre .1 .1) _ _ (c .before .before .before .before .before .node-first .ensures) (c .before .before .before .before .node-children .ensures))
 
   pub add-t33 : lts.Need-add-t33 (judge-children-calls t) (judge-children-at t) judge-children.Post Inv-loop μ-loop
   add-t33 c = omega (arith, bounds _ _ _ _ _ _ _ (c .before .before .before .before .before .before .before .before .before .before .before .pre .1 .0) _ _ (c .before .before .before .before .before .before .before .before .before .before .before .pre .1 .1) _ _ (c .before .before .before .before .before .before .before .node-first .ensures) (c .before .before .before .before .before .before .node-children .ensures) _ (c .before .before .before .before .before .count-fits .ensures) (not-false (c .before .before .before .before .before .count-fits .result) (c .before .before .before .before .if1 .left)) (c .before .before .before .loop .inv), closing-short (c .before .before .before .before .before .before .before .before .before .before .before .args .code), c .before .closing .ensures)

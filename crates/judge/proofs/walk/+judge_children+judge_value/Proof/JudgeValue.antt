@@ -16,13 +16,13 @@ module _ (t : ℕ) where
   node-code-requires c κs = search needs
 
   pub kind-of-requires : lts.Need-kind-of-requires (judge-value-calls t) (judge-value-at t) judge-value.Post
-  kind-of-requires c κs = code-known _ 0 _ _ _ _ _ (c .before .before .before .before .before .pre .1) _ (c .before .value-record-at .ensures) _ (c .node-code .ensures)
+  kind-of-requires c κs = code-known _ _ _ _ _ _ (c .before .before .before .before .before .pre .1) _ (c .before .value-record-at .ensures) _ (c .node-code .ensures)
 
   pub returns : lts.Need-returns (judge-value-calls t) (judge-value-at t) judge-value.Post
-  returns c = other-kind _ _ _ _ _ _ _ (c .before .before .before .before .before .before .before .pre .1) _ (c .before .before .before .value-record-at .ensures) _ (c .before .before .node-code .ensures) _ (c .before .kind-of .ensures) (c .if1 .taken)
+  returns c = other-kind _ _ _ _ _ _ (c .before .before .before .before .before .before .before .pre .1) _ (c .before .before .before .value-record-at .ensures) _ (c .before .before .node-code .ensures) _ (c .before .kind-of .ensures) _ (c .if1 .taken)
 
   pub judge-leaf-requires : lts.Need-judge-leaf-requires (judge-value-calls t) (judge-value-at t) judge-value.Post
-  judge-leaf-requires c κs = let k = leaf-bounds _ 0 _ _ _ _ _ (c .before .before .before .before .before .before .before .before .pre .1) _ (c .before .before .before .before .value-record-at .ensures) in (c .if2 .taken, k .0, k .1 .0, k .1 .1 .0, k .1 .1 .1)
+  judge-leaf-requires c κs = let k = leaf-bounds _ _ _ _ _ _ (c .before .before .before .before .before .before .before .before .pre .1) _ (c .before .before .before .before .value-record-at .ensures) in (c .if2 .taken, k .0, k .1 .0, k .1 .1 .0, k .1 .1 .1)
 
   pub enum-known-j : lts.Need-enum-known-j (judge-value-calls t) (judge-value-at t) judge-value.Post
   enum-known-j c = search needs
@@ -31,13 +31,13 @@ module _ (t : ℕ) where
   enum-told c = search needs
 
   pub returns-2 : lts.Need-returns-2 (judge-value-calls t) (judge-value-at t) judge-value.Post
-  returns-2 c = c .before .before .judge-leaf .ensures ∙ leaf-answer _ _ _ _ _ _ _ (c .before .before .before .before .before .before .before .before .before .before .before .pre .1) _ (c .before .before .before .before .before .before .before .value-record-at .ensures) _ (c .before .before .before .before .before .before .node-code .ensures) _ (c .before .before .before .before .before .kind-of .ensures) (c .before .before .before .before .if1 .left) (c .before .before .before .if2 .taken)
+  returns-2 c = c .before .before .judge-leaf .ensures ∙ leaf-answer _ _ _ _ _ _ (c .before .before .before .before .before .before .before .before .before .before .before .pre .1) _ (c .before .before .before .before .before .before .before .value-record-at .ensures) _ (c .before .before .before .before .before .before .node-code .ensures) _ (c .before .before .before .before .before .kind-of .ensures) _ (c .before .before .before .before .if1 .left) (c .before .before .before .if2 .taken)
 
   pub returns-3 : lts.Need-returns-3 (judge-value-calls t) (judge-value-at t) judge-value.Post
-  returns-3 c = sym (c .before .j .given .1) ∙ c .before .before .before .judge-leaf .ensures ∙ leaf-answer _ _ _ _ _ _ _ (c .before .before .before .before .before .before .before .before .before .before .before .before .pre .1) _ (c .before .before .before .before .before .before .before .before .value-record-at .ensures) _ (c .before .before .before .before .before .before .before .node-code .ensures) _ (c .before .before .before .before .before .before .kind-of .ensures) (c .before .before .before .before .before .if1 .left) (c .before .before .before .before .if2 .taken)
+  returns-3 c = sym (c .before .j .given .1) ∙ c .before .before .before .judge-leaf .ensures ∙ leaf-answer _ _ _ _ _ _ (c .before .before .before .before .before .before .before .before .before .before .before .before .pre .1) _ (c .before .before .before .before .before .before .before .before .value-record-at .ensures) _ (c .before .before .before .before .before .before .before .node-code .ensures) _ (c .before .before .before .before .before .before .kind-of .ensures) _ (c .before .before .before .before .before .if1 .left) (c .before .before .before .before .if2 .taken)
 
   pub judge-at-once-requires : lts.Need-judge-at-once-requires (judge-value-calls t) (judge-value-at t) judge-value.Post
-  judge-at-once-requires c κs = (c .before .before .before .before .before .before .before .before .pre .1, opened _ 0 _ _ _ _ _ (c .before .before .before .before .before .before .before .before .pre .1) _ (c .before .before .before .before .value-record-at .ensures) _ (c .before .before .before .node-code .ensures) _ (c .before .before .kind-of .ensures) (c .before .if1 .left) (c .if2 .left))
+  judge-at-once-requires c κs = (c .before .before .before .before .before .before .before .before .pre .1, opened _ _ _ _ _ _ (c .before .before .before .before .before .before .before .before .pre .1) _ (c .before .before .before .before .value-record-at .ensures) _ (c .before .before .before .node-code .ensures) _ (c .before .before .kind-of .ensures) (c .before .if1 .left) (c .if2 .left))
 
   pub enum-known-now : lts.Need-enum-known-now (judge-value-calls t) (judge-value-at t) judge-value.Post
   enum-known-now c = search needs
@@ -49,7 +49,7 @@ module _ (t : ℕ) where
   enum-told-2 c = search needs
 
   pub judge-children-requires : lts.Need-judge-children-requires (judge-value-calls t) (judge-value-at t) judge-value.Post
-  judge-children-requires c κs = (omega (arith, c .before .before .before .before .before .before .before .before .before .before .before .pre .0), (c .before .before .before .before .before .before .before .before .before .before .before .pre .1, opened _ 0 _ _ _ _ _ (c .before .before .before .before .before .before .before .before .before .before .before .pre .1) _ (c .before .before .before .before .before .before .before .value-record-at .ensures) _ (c .before .before .before .before .before .before .node-code .ensures) _ (c .before .before .before .before .before .kind-of .ensures) (c .before .before .before .before .if1 .left) (c .before .before .before .if2 .left)))
+  judge-children-requires c κs = (omega (arith, c .before .before .before .before .before .before .before .before .before .before .before .pre .0), (c .before .before .before .before .before .before .before .before .before .before .before .pre .1, opened _ _ _ _ _ _ (c .before .before .before .before .before .before .before .before .before .before .before .pre .1) _ (c .before .before .before .before .before .before .before .value-record-at .ensures) _ (c .before .before .before .before .before .before .node-code .ensures) _ (c .before .before .before .before .before .kind-of .ensures) (c .before .before .before .before .if1 .left) (c .before .before .before .if2 .left)))
 
   pub enum-known-j-2 : lts.Need-enum-known-j-2 (judge-value-calls t) (judge-value-at t) judge-value.Post
   enum-known-j-2 c = search needs

@@ -103,7 +103,7 @@ module _ (t : ℕ) where
   add-i c =
       let m = child (c .before .before .before .before .before) in
       let k = inside (c .before .before .before .before .before .before .before .before .before .before .before) in
-      omega (arith, k, m .counts, m .within, c .before .before .before .before .before .before .before .before .before .before .loop .inv .1 .0 .stands .short)
+      omega (arith, k, m .counts, m .within, c .before .before .before .before .before .before .before .before .before .before .loop .inv .1 .0 .stands .short, c .before .before .before .before .before .before .before .before .before .before .before .before .before .before .before .good)
 
   pub loop-less : lts.Need-loop-less (skip-children-calls t) (skip-children-at t) skip-children.Post Inv-loop μ-loop
   loop-less c =

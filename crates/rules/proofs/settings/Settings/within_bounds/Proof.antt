@@ -20,7 +20,11 @@ returns-3 c = rw (le-leb _ _ (c .before .before .if1 .left), le-leb _ _ (c .befo
 
 returns-4 : tie.Need-returns-4
 unfolding settingsOk _and_
-returns-4 c = rw (le-leb _ _ (c .before .before .if1 .left), le-leb _ _ (c .before .if2 .left), le-leb _ _ (c .if3 .left))
+returns-4 c = rw (le-leb _ _ (c .before .before .before .if1 .left), le-leb _ _ (c .before .before .if2 .left), le-leb _ _ (c .before .if3 .left), lt-leb _ _ (c .if4 .taken))
+
+returns-5 : tie.Need-returns-5
+unfolding settingsOk _and_
+returns-5 c = rw (le-leb _ _ (c .before .before .before .if1 .left), le-leb _ _ (c .before .before .if2 .left), le-leb _ _ (c .before .if3 .left), le-leb _ _ (c .if4 .left))
 
 pub within-bounds-spec : {M : Type 1} → statement M
-within-bounds-spec = tie.close (tie.spec returns returns-2 returns-3 returns-4)
+within-bounds-spec = tie.close (tie.spec returns returns-2 returns-3 returns-4 returns-5)
