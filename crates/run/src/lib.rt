@@ -6,10 +6,13 @@ ghost use Rattle.rules.specs.Reading.{limits, runFrom, runRule, ranOf};
 ghost use Rattle.schema.specs.Slices.{slices};
 ghost use Rattle.row.specs.Steps.{ThroughDoor};
 use row::door::door;
-use row::steps::row_at;
+use row::steps::RowBlock;
+use row::steps::block_at;
+use row::steps::row_of;
 use rules::Door;
 use rules::Ran;
 use rules::Read;
+use rules::Refusal;
 use rules::Settings;
 use rules::Stop;
 
@@ -21,6 +24,16 @@ fn ran_to(rows: u64, at: usize, stop: Stop) -> Ran
         rows,
         bytes: at as u64,
         stop,
+    }
+}
+
+// Why no block was found, as the reason that the run stops. It is called where that is known, so that its other arm is never met.
+fn stop_refused_by_block(found: RowBlock) -> Stop
+    ensures { λ r. ⌜ ((why : Refusal) → found ≡ RowBlock.Refused why → r ≡ Stop.Refused why) ⌝ }
+{
+    match found {
+        RowBlock::Refused(why) => Stop::Refused(why),
+        RowBlock::Block(_, _, _) => Stop::Refused(Refusal::SETTING),
     }
 }
 
@@ -40,7 +53,12 @@ pub fn run_rows(
     let mut rows: u64 = 0;
     let mut at: usize = 0;
     while at < input.len() {
-        let read = row_at(table, names, references, registry, input, at, settings);
+        // `row_at`'s two steps, made here: a call of it would hand each row's answer through memory once more.
+        let found = block_at(names, references, registry, input, at);
+        let RowBlock::Block(tag, first, count) = found else {
+            return ran_to(rows, at, stop_refused_by_block(found));
+        };
+        let read = row_of(table, input, at, tag, first, count, settings);
         match read {
             Read::Row(row) => {
                 at += row.bytes as usize;
