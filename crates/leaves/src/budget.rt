@@ -6,8 +6,8 @@ use rules::Refusal;
 use rules::Why;
 use rules::limit_of_type;
 
-// The longest string32 and the longest yson32, what is left of the row's allowance, and what the whole row may cost. (Whatever a walk hands
-// to a step and back goes through memory; in this order it costs no more with two blob limits than with one.)
+// The longest string32 and the longest yson32, what is left of the row's allowance, and what the whole row may cost. (A walk hands them
+// through memory to each children step and back: of all orders this was the fastest.)
 pub struct RowBudget {
     pub max_string32_bytes: u64,
     pub max_yson32_bytes: u64,
