@@ -64,7 +64,8 @@ enum skiff_refusal {
     SKIFF_NO_OUTPUT_ROOM = 21,                 /* carries needed: output bytes, or a text's */
     SKIFF_NO_INDEX_ROOM = 30,                  /* more rows than an index slice has room for */
     SKIFF_INDEX_MISMATCH = 31,                 /* an index, or a record of it, is not the stream's */
-    SKIFF_NO_SUCH_ROW = 32                     /* the index has no record of that number */
+    SKIFF_NO_SUCH_ROW = 32,                    /* the index has no record of that number */
+    SKIFF_NAME_NOT_UTF8 = 33                   /* a name of a format or a schema is no well-formed UTF-8 */
 };
 
 /* What a stream was cut in. A type of fixed width has its own wire code, 1 to 12. */
@@ -109,8 +110,8 @@ enum skiff_answer {
 };
 
 enum skiff_what {
-    SKIFF_WHAT_ROW = 0,     /* a row was skipped, decoded or written; or a format, a schema or a value
-                               table was accepted, and then all other numbers are 0 too; or a name is
+    SKIFF_WHAT_ROW = 0,     /* a row was skipped, decoded or written; or a format, a schema, a value table
+                               or a name was accepted, and then all other numbers are 0 too; or a name is
                                that of a wire type; or a record has a value, or what else was asked of it;
                                or an integer has its text */
     SKIFF_WHAT_END = 1,     /* the position is the input's length, or the run came to it */
@@ -454,7 +455,10 @@ static inline uint32_t skiff_integer_text(const uint8_t *bytes, size_t bytes_len
 
 /*
  * Whether the four tables are a format. The calls that read a stream check it by themselves at every call,
- * and refuse it as this does, but for settings and positions, which come first.
+ * and refuse it as this does, but for settings and positions, which come first. Every name in use is UTF-8,
+ * else SKIFF_NAME_NOT_UTF8, which comes after SKIFF_BAD_SCHEMA_TABLE and SKIFF_TOO_DEEP and before all others:
+ * names of nodes in the schemas of tables and of the registry, the registry's own names, used or not, and the
+ * names by which tables refer to it. It does not say which name that is; skiff_check_name tells of each.
  */
 static inline uint32_t skiff_check_format(const uint8_t *records, size_t records_len,
                                           const uint8_t *names, size_t names_len,
@@ -464,12 +468,20 @@ static inline uint32_t skiff_check_format(const uint8_t *records, size_t records
 
 /*
  * Whether `count` records of the record table from record `first` on are a schema to write by. skiff_encode
- * checks it by itself at every call.
+ * checks it by itself at every call. The names of its nodes are UTF-8, as in a format.
  */
 static inline uint32_t skiff_check_encoder_schema(const uint8_t *records, size_t records_len,
                                                   const uint8_t *names, size_t names_len,
                                                   uint64_t first, uint64_t count,
                                                   uint8_t *answer, size_t answer_len);
+
+/*
+ * Whether one string may be a name: well-formed UTF-8 by the Unicode Standard, so without overlong forms, surrogates
+ * and numbers above U+10FFFF; SKIFF_NAME_NOT_UTF8 where it is not. An empty one is, and so are U+0000,
+ * noncharacters and a leading U+FEFF. SKIFF_SETTING where it has more than 4,294,967,295 bytes.
+ */
+static inline uint32_t skiff_check_name(const uint8_t *name, size_t name_len,
+                                        uint8_t *answer, size_t answer_len);
 
 /*
  * The wire type that has this very name, as "int8" or "repeated_variant16": its code, 0 to 19, in

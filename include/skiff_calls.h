@@ -237,6 +237,14 @@ static inline uint32_t skiff_check_encoder_schema(const uint8_t *records, size_t
                                        SKIFF_WRITTEN(answer));
 }
 
+uint32_t skiff2_check_name(const uint8_t *, size_t, uint8_t *, size_t);
+
+static inline uint32_t skiff_check_name(const uint8_t *name, size_t name_len, uint8_t *answer,
+                                        size_t answer_len)
+{
+    return skiff2_check_name(SKIFF_READ(name), SKIFF_WRITTEN(answer));
+}
+
 uint32_t skiff2_parse(const uint8_t *, size_t, uint8_t *, size_t);
 
 static inline uint32_t skiff_parse(const uint8_t *name, size_t name_len, uint8_t *answer,

@@ -50,6 +50,7 @@ static inline struct skiff_words skiff_refusal_words(uint64_t refusal)
         {30, {"NoIndexRoom", {NULL}}},
         {31, {"IndexMismatch", {NULL}}},
         {32, {"NoSuchRow", {NULL}}},
+        {33, {"NameNotUtf8", {NULL}}},
     };
     static const struct skiff_words none = {NULL, {NULL}};
     for (size_t i = 0; i < sizeof all / sizeof *all; i++)

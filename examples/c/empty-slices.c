@@ -35,6 +35,7 @@ int main(void)
 {
     const uint8_t int8[4] = {'i', 'n', 't', '8'};
     const uint8_t minus_255[2] = {0x01, 0xff};
+    const uint8_t overlong[2] = {0xc0, 0x80};
     uint8_t text[SKIFF_INTEGER_TEXT_BYTES];
     memset(answer, 255, sizeof answer);
 
@@ -63,6 +64,10 @@ int main(void)
     says("skiff_check_format", skiff_check_format(FORMAT, ANSWER), SKIFF_EMPTY_TABLE_SCHEMAS, SKIFF_WHAT_REFUSAL);
     says("skiff_check_encoder_schema", skiff_check_encoder_schema(NONE, NONE, 0, 0, ANSWER), SKIFF_BAD_SCHEMA_TABLE,
          SKIFF_WHAT_REFUSAL);
+    /* An empty name is well-formed UTF-8; a zero byte in two bytes is not. */
+    says("skiff_check_name", skiff_check_name(NONE, ANSWER), SKIFF_NO_REFUSAL, SKIFF_WHAT_ROW);
+    says("skiff_check_name, two bytes", skiff_check_name(overlong, sizeof overlong, ANSWER), SKIFF_NAME_NOT_UTF8,
+         SKIFF_WHAT_REFUSAL);
     says("skiff_parse", skiff_parse(NONE, ANSWER), SKIFF_NO_REFUSAL, SKIFF_WHAT_NO_TYPE);
     says("skiff_value", skiff_value(NONE, 0, ANSWER), SKIFF_SETTING, SKIFF_WHAT_REFUSAL);
     says("skiff_kind", skiff_kind(NONE, 0, ANSWER), SKIFF_SETTING, SKIFF_WHAT_REFUSAL);
@@ -84,6 +89,7 @@ int main(void)
     short_answer("skiff_integer_text", skiff_integer_text(NONE, NONE, NONE));
     short_answer("skiff_check_format", skiff_check_format(FORMAT, NONE));
     short_answer("skiff_check_encoder_schema", skiff_check_encoder_schema(NONE, NONE, 0, 0, NONE));
+    short_answer("skiff_check_name", skiff_check_name(NONE, NONE));
     short_answer("skiff_parse", skiff_parse(NONE, NONE));
     short_answer("skiff_value", skiff_value(NONE, 0, NONE));
     short_answer("skiff_kind", skiff_kind(NONE, 0, NONE));

@@ -5,3 +5,4 @@ pub mod Depth
 pub mod Level
 pub mod Stands
 pub mod Passing
+pub mod Spans

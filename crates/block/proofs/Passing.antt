@@ -12,7 +12,7 @@ use Rattle.rules.specs.Choice.{pick, _and_}
 use Rattle.rules.specs.Refusals.{inOrder}
 use Rattle.rules.specs.Block.{records, wholeNodes, block, blockOk}
 use Rattle.rules.specs.SchemaRules.{ruleAt}
-use Rattle.rules.specs.Format.{blockFormOk, blockRule, oneBlock}
+use Rattle.rules.specs.Format.{blockFormOk, blockUtf8, blockRule, oneBlock}
 use Rattle.rules.specs.declared.refusal.Refusal.{Refusal}
 use Rattle.rules.specs.declared.answer.Checked.{Checked}
 use Rattle.rules.specs.declared.answer.Checked.the-variants.{Accepted, Refused}
@@ -54,16 +54,17 @@ module _ (table names : List ℕ) (first n : ℕ) (p : passesAtOnce table names 
       let c = and-both _ _ (b .0) in
       (c .0, (leb-true n 64 (c .1), (b .1, and-both _ _ (a .1))))
 
-  form : blockFormOk table (length names) first n ≡ true
+  pub form : blockFormOk table (length names) first n ≡ true
   unfolding blockFormOk
   form = and-true _ _ (whole .1 .1 .0) (whole .1 .1 .1 .1)
 
-  sound : SoundBlock table first n
+  pub sound : SoundBlock table first n
   sound = form-sound table first n (length names) form
 
-  pub at-once-stands : Accepted ≡ oneBlock table names first n Accepted
+  -- its names are asked apart
+  pub at-once-stands : blockUtf8 table names first n ≡ true → Accepted ≡ oneBlock table names first n Accepted
   unfolding oneBlock pick _and_
-  at-once-stands = rw (whole .0, form, ← few-records table first n sound (whole .1 .0))
+  at-once-stands named = rw (whole .0, form, ← few-records table first n sound (whole .1 .0), named)
 
   pub at-once-keeps : Accepted ≡ blockRule table first n
   at-once-keeps = level-passes table first n sound (whole .1 .0) (block table first n) refl _ refl (accepted _ (whole .1 .1 .1 .0))

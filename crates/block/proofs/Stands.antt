@@ -1,4 +1,4 @@
--- One block by itself: form and depth first, then what the rules say of it.
+-- One block by itself: form, depth and names first, then what the rules say of it.
 -- Assumes nothing.
 use Prim.Native.Nat.{ℕ}
 use mathlib.Core.Path.{_≡_, refl, sym, _∙_}
@@ -7,7 +7,7 @@ use mathlib.Core.List.{List}
 use lib.ListN.{length}
 use Rattle.rules.specs.Choice.{pick, _and_}
 use Rattle.rules.specs.Refusals.{_then_}
-use Rattle.rules.specs.Format.{blockFormOk, blockDepthOk, oneBlock}
+use Rattle.rules.specs.Format.{blockFormOk, blockDepthOk, blockUtf8, oneBlock}
 use Rattle.rules.specs.declared.answer.Checked.{Checked}
 use Rattle.rules.specs.declared.answer.Checked.the-variants.{Accepted}
 use Rattle.rules.proofs.Tests.{and-both}
@@ -19,12 +19,14 @@ use Rattle.block.proofs.Parts.{form-sound}
 module _ (table names : List ℕ) (first n : ℕ) where
   pub one-then : (rules : Checked) → oneBlock table names first n rules ≡ oneBlock table names first n Accepted then rules
   unfolding oneBlock pick _then_
-  one-then rules = by (wholeNodes table and blockFormOk table (length names) first n) (blockDepthOk table first n) refl refl
+  one-then rules = by (wholeNodes table and blockFormOk table (length names) first n) (blockDepthOk table first n) (blockUtf8 table names first n) refl refl refl
     where
-      by : (a b : Bool) → wholeNodes table and blockFormOk table (length names) first n ≡ a → blockDepthOk table first n ≡ b → oneBlock table names first n rules ≡ oneBlock table names first n Accepted then rules
-      by false b p q = rw p
-      by true false p q = rw (p, q)
-      by true true p q = rw (p, q)
+      by : (a b c : Bool) → wholeNodes table and blockFormOk table (length names) first n ≡ a → blockDepthOk table first n ≡ b → blockUtf8 table names first n ≡ c →
+          oneBlock table names first n rules ≡ oneBlock table names first n Accepted then rules
+      by false b c p q r = rw p
+      by true false c p q r = rw (p, q)
+      by true true false p q r = rw (p, q, r)
+      by true true true p q r = rw (p, q, r)
 
   -- a block that stands is sound
   pub one-sound : (a : Checked) → a ≡ oneBlock table names first n Accepted → a ≡ Accepted → SoundBlock table first n

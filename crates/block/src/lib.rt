@@ -1,4 +1,5 @@
-// Flat schema blocks: records in level order, their depth, the schema rules, and a block as a part of the record table.
+// Flat schema blocks: records in level order, their depth, their names, the schema rules, and a block as a part of the record table.
 pub mod form;
+pub mod names;
 pub mod table;
 pub mod validation;

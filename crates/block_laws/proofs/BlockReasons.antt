@@ -4,16 +4,16 @@ use Prim.Native.Nat.{ℕ, zero, suc, _+_, _-_, _%_, _≤_, _<_, max}
 use mathlib.Core.Path.{_≡_, refl}
 use mathlib.Core.Bool.{Bool, true, false}
 use mathlib.Core.List.{List}
-use mathlib.Core.Logic.{_⊎_, inl, inr}
+use mathlib.Core.Logic.{_⊎_, inl, inr, ⊎-elim}
 use native.Mathlib.Omega.{arith}
 use borrow.Author.Tests.{le-leb, eq-eqb, eqb-false}
 use lib.ListN.{length}
-use Rattle.rules.specs.Choice.{pick}
-use Rattle.rules.specs.Refusals.{lineOf, refusalNumber, inOrder, Setting, BadSchemaTable, TooDeep, TableSchemaMustBeTuple, TableSchemaChildMissingName}
+use Rattle.rules.specs.Choice.{pick, _and_, all}
+use Rattle.rules.specs.Refusals.{lineOf, refusalNumber, inOrder, Setting, BadSchemaTable, TooDeep, NameNotUtf8, TableSchemaMustBeTuple, TableSchemaChildMissingName}
 use Rattle.rules.specs.Schema.{deep, NonEmpty}
-use Rattle.rules.specs.Block.{nodeSize, block, nodeAt, nameIn, blockTree}
+use Rattle.rules.specs.Block.{nodeSize, records, block, nodeAt, nameIn, nodeName, NameUtf8, namesUtf8, blockTree}
 use Rattle.rules.specs.SchemaRules.{notTuple, rootRule, nameRule, childRule, tableRule}
-use Rattle.rules.specs.Format.{blockDepthOk, blockRule, oneBlock, schemaAnswer, encoderRule}
+use Rattle.rules.specs.Format.{blockDepthOk, blockUtf8, blockRule, oneBlock, schemaAnswer, encoderRule}
 use Rattle.rules.specs.declared.table_record.Node.{Node}
 use Rattle.rules.specs.declared.refusal.Refusal.{Refusal}
 use Rattle.rules.specs.declared.answer.Purpose.{Purpose}
@@ -24,7 +24,13 @@ use Rattle.rules.proofs.Checks.{pick-accepted}
 use Rattle.block_laws.proofs.Levels.{block-denotes, deep-shallow}
 use Rattle.block_laws.proofs.Honest.{Broken, unexpected, too-many, CheckSays, silent, says, said as reason, says-then, honest}
 use Rattle.block_laws.proofs.Roots.{name-rule}
-use Rattle.block_laws.proofs.Good.{FormedBlock, form-accepts, depth-accepts, encoder-is}
+use Rattle.block_laws.proofs.Good.{FormedBlock, name-accepts, form-accepts, depth-accepts, encoder-is}
+
+-- A name of a block that is not well-formed UTF-8.
+pub record BadName (s store : List ℕ) : Type 0 where
+  pub node : ℕ
+  pub inside : node < records s
+  pub bad : NameUtf8 (nodeName s store node) → ⊥
 
 module _ (table names : List ℕ) (first n : ℕ) where
   -- What each refusal of the check of a schema says.
@@ -38,6 +44,9 @@ module _ (table names : List ℕ) (first n : ℕ) where
     -- 3: the block is more than 64 deep
     too-deep : 64 < deep (blockTree (block table first n) names) →
         SchemaReason TooDeep
+    -- 33: a name of the block is not well-formed UTF-8
+    bad-name : BadName (block table first n) names →
+        SchemaReason NameNotUtf8
     -- 4 and 5: a record of the block breaks the schema rules
     broken : {r : Refusal} →
         Broken (block table first n) first r →
@@ -45,7 +54,7 @@ module _ (table names : List ℕ) (first n : ℕ) where
 
   -- What each refusal of the encoder's check says.
   pub data TableReason : Refusal → Type 0 where
-    -- 1 to 5: as the check of the schema
+    -- 1 to 5 and 33: as the check of the schema
     of-schema : {r : Refusal} →
         SchemaReason r →
         TableReason r
@@ -65,6 +74,20 @@ refuted b g e a =
     let t = g a in
     let z : _≡_ {A = ℕ} 0 1 = cc in
     omega arith
+
+pub and-fails : (a b : Bool) → (a and b) ≡ false → (a ≡ false) ⊎ (b ≡ false)
+unfolding _and_
+and-fails true b e = inr e
+and-fails false b e = inl refl
+
+-- some test among n fails
+pub all-fails : (test : ℕ → Bool) (n : ℕ) → all test n ≡ false → (i : ℕ) × ((i < n) × (test i ≡ false))
+unfolding all
+all-fails test zero e = absurd (refuted {A = Unit} _ (λ h. refl) e tt)
+all-fails test (suc n) e = ⊎-elim
+    (λ (p : all test n ≡ false). let r = all-fails test n p in (r .0, (omega (arith, r .1 .0), r .1 .1)))
+    (λ (p : test n ≡ false). (n, (omega arith, p)))
+    (and-fails _ _ e)
 
 pub says-map : {P Q : Refusal → Type 0} {c : Checked} → ((r : Refusal) → P r → Q r) → CheckSays P c → CheckSays Q c
 says-map g silent = silent
@@ -104,6 +127,10 @@ block-says table names first n g b =
 pub deep-says : (table names : List ℕ) (first n : ℕ) → blockDepthOk table first n ≡ false → 64 < deep (blockTree (block table first n) names)
 deep-says table names first n e = let h = refuted _ (depth-accepts table names first n .1) e in omega arith
 
+pub names-say : (table names : List ℕ) (first n : ℕ) → blockUtf8 table names first n ≡ false → BadName (block table first n) names
+unfolding blockUtf8 namesUtf8
+names-say table names first n e = let r = all-fails _ _ e in record { node = r .0; inside = r .1 .0; bad = refuted _ (name-accepts _ .1) (r .1 .1) }
+
 name-says : (P : Refusal → Type 0) (store : List ℕ) (place index : ℕ) (n : Node) → ((NonEmpty (nameIn store n) → ⊥) → P (TableSchemaChildMissingName index place)) → CheckSays P (nameRule place index n)
 unfolding nameRule
 name-says P store place index n g = says-else _ _ _ _ (λ e. silent) (λ e. g (refuted _ (λ h. pick-accepted _ _ _ (name-rule store place index n h) .0) e))
@@ -126,7 +153,9 @@ module _ (table names : List ℕ) (first n : ℕ) where
   schema-says = says-else _ _ _ _
       (λ s. says-else _ _ _ _
       (λ form. says-else _ _ _ _
-      (λ depth. says-map (λ r b. broken b) (block-says table names first n (form-accepts table names first n .0 (and-both _ _ form .1)) depth))
+      (λ depth. says-else _ _ _ _
+      (λ named. says-map (λ r b. broken b) (block-says table names first n (form-accepts table names first n .0 (and-both _ _ form .1)) depth))
+      (λ e. bad-name (names-say table names first n e)))
       (λ e. too-deep (deep-says table names first n e)))
       (λ e. bad-form (λ w g. refuted _ (λ (h : FormedBlock table names first n). and-true _ _ (eq-eqb (length table % nodeSize) 0 w) (form-accepts table names first n .1 h)) e g)))
       (λ e.
@@ -148,24 +177,27 @@ module _ (table names : List ℕ) (first n : ℕ) where
 
 -- ---- the numbers alone
 module _ (table names : List ℕ) (first n : ℕ) where
-  schema-number : (r : Refusal) → SchemaReason table names first n r → refusalNumber r ≤ 5
+  schema-number : (r : Refusal) → SchemaReason table names first n r → (refusalNumber r ≤ 5) ⊎ (refusalNumber r ≡ 33)
   unfolding lineOf
-  schema-number _ (too-long h) = omega arith
-  schema-number _ (bad-form h) = omega arith
-  schema-number _ (too-deep h) = omega arith
-  schema-number _ (broken (unexpected i m h)) = omega arith
-  schema-number _ (broken (too-many i m h)) = omega arith
+  schema-number _ (too-long h) = inl (omega arith)
+  schema-number _ (bad-form h) = inl (omega arith)
+  schema-number _ (too-deep h) = inl (omega arith)
+  schema-number _ (bad-name h) = inr refl
+  schema-number _ (broken (unexpected i m h)) = inl (omega arith)
+  schema-number _ (broken (too-many i m h)) = inl (omega arith)
 
-  table-number : (r : Refusal) → TableReason table names first n r → (refusalNumber r ≤ 5) ⊎ ((refusalNumber r ≡ 9) ⊎ (refusalNumber r ≡ 10))
+  table-number : (r : Refusal) → TableReason table names first n r →
+      ((refusalNumber r ≤ 5) ⊎ (refusalNumber r ≡ 33)) ⊎ ((refusalNumber r ≡ 9) ⊎ (refusalNumber r ≡ 10))
   unfolding lineOf
   table-number r (of-schema h) = inl (schema-number r h)
   table-number _ (not-tuple h) = inr (inl refl)
   table-number _ (no-name l h) = inr (inr refl)
 
-  -- A schema is refused by 1 to 5 alone.
-  pub schema-numbers : (r : Refusal) → schemaAnswer table names first n ≡ Refused r → refusalNumber r ≤ 5
+  -- A schema is refused by 1 to 5 and 33 alone.
+  pub schema-numbers : (r : Refusal) → schemaAnswer table names first n ≡ Refused r → (refusalNumber r ≤ 5) ⊎ (refusalNumber r ≡ 33)
   schema-numbers r e = schema-number r (schema-honest table names first n r e)
 
-  -- The encoder's block is refused by 1 to 5, 9 and 10 alone.
-  pub encoder-numbers : (r : Refusal) → encoderRule table names first n ≡ Refused r → (refusalNumber r ≤ 5) ⊎ ((refusalNumber r ≡ 9) ⊎ (refusalNumber r ≡ 10))
+  -- The encoder's block is refused by 1 to 5, 33, 9 and 10 alone.
+  pub encoder-numbers : (r : Refusal) → encoderRule table names first n ≡ Refused r →
+      ((refusalNumber r ≤ 5) ⊎ (refusalNumber r ≡ 33)) ⊎ ((refusalNumber r ≡ 9) ⊎ (refusalNumber r ≡ 10))
   encoder-numbers r e = table-number r (encoder-honest table names first n r e)

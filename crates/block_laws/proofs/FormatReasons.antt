@@ -1,8 +1,9 @@
--- What the refusals of a format say is so, and a format is refused by 1 to 8 and 10 alone.
+-- What the refusals of a format say is so, and a format is refused by 1 to 8, 10 and 33 alone.
 -- Assumes nothing.
 use Prim.Native.Nat.{ℕ, zero, suc, _+_, _≤_, _<_, max}
 use mathlib.Core.Path.{_≡_, refl}
 use mathlib.Core.Bool.{Bool, true, false}
+use mathlib.Core.List.{List}
 use mathlib.Core.Logic.{_⊎_, inl, inr, ⊎-elim}
 use native.Mathlib.Omega.{arith}
 use borrow.Author.Tests.{lt-ltb, le-leb, eqb-true, eq-eqb, ne-eqb}
@@ -10,11 +11,12 @@ use lib.ListN.{length}
 use lib.Dec.{eqb}
 use Rattle.rules.specs.Choice.{pick, _and_, all}
 use Rattle.rules.specs.Bytes.{part}
-use Rattle.rules.specs.Refusals.{lineOf, refusalNumber, _then_, inOrder, Setting, BadSchemaTable, TooDeep, EmptyTableSchemas, UnknownRegistryReference, TableSchemaRootMustBeTuple, TableSchemaChildMissingName}
+use Rattle.rules.specs.Refusals.{lineOf, refusalNumber, _then_, inOrder, Setting, BadSchemaTable, TooDeep, NameNotUtf8, EmptyTableSchemas, UnknownRegistryReference, TableSchemaRootMustBeTuple, TableSchemaChildMissingName}
+use Rattle.rules.specs.Utf8.{Utf8, isUtf8}
 use Rattle.rules.specs.Schema.{deep, NonEmpty}
 use Rattle.rules.specs.Block.{block, nodeAt, nameIn}
 use Rattle.rules.specs.SchemaRules.{notTuple}
-use Rattle.rules.specs.Format.{entryCount, Format, blockDepthOk, referenceAt, entryAt, entryName, resolved, tables, tableSchema, entryDepthOk, referenceDepthOk, depthsOk, entryRule, rootOf, inlineRule, referenceRule, rulesOrder, sizesOk, formatRules, formatRule}
+use Rattle.rules.specs.Format.{entryCount, Format, blockDepthOk, blockUtf8, referenceAt, entryAt, entryName, resolved, tables, tableSchema, entryDepthOk, referenceDepthOk, depthsOk, entryUtf8, referenceUtf8, formatUtf8, entryRule, rootOf, inlineRule, referenceRule, rulesOrder, sizesOk, formatRules, formatRule}
 use Rattle.rules.specs.Good.{schemaFrom}
 use Rattle.rules.specs.declared.table_record.Located.{Located}
 use Rattle.rules.specs.declared.table_record.Located.the-variants.{Block, NoTable, NoEntry}
@@ -23,7 +25,8 @@ use Rattle.rules.specs.declared.answer.Purpose.{Purpose}
 use Rattle.rules.specs.declared.answer.Checked.the-variants.{Refused}
 use Rattle.rules.proofs.Tests.{and-both, and-true, all-each}
 use Rattle.block_laws.proofs.Honest.{Broken, unexpected, too-many, CheckSays, silent, says, said as reason, says-then}
-use Rattle.block_laws.proofs.BlockReasons.{refuted, says-map, says-else, says-each, block-says, deep-says, root-says}
+use Rattle.block_laws.proofs.BlockReasons.{BadName, refuted, and-fails, all-fails, says-map, says-else, says-each, block-says, deep-says, names-say, root-says}
+use Rattle.block_laws.proofs.Utf8.{utf8-exactly}
 use Rattle.block_laws.proofs.Lookup.{lookup-there, lookup-misses}
 use Rattle.block_laws.proofs.Forms.{FormedInline, FormedName, FormedReference, Forms, forms-accept}
 
@@ -49,6 +52,16 @@ module _ (f : Format) where
     too-deep : {first n : ℕ} →
         BlockOf first n → 64 < deep (schemaFrom f first n) →
         FormatReason TooDeep
+    -- 33: a name of a block, of an entry, or that a reference gives is not well-formed UTF-8
+    bad-node-name : {first n : ℕ} →
+        BlockOf first n → BadName (block (f .table) first n) (f .names) →
+        FormatReason NameNotUtf8
+    bad-entry-name : {j : ℕ} →
+        j < entryCount (f .registry) → (Utf8 (entryName (f .names) (f .registry) j) → ⊥) →
+        FormatReason NameNotUtf8
+    bad-reference-name : {t : ℕ} →
+        t < tables f → referenceAt (f .references) t .kind ≡ 1 → (Utf8 (part (f .names) (referenceAt (f .references) t .start) (referenceAt (f .references) t .len)) → ⊥) →
+        FormatReason NameNotUtf8
     -- 4 and 5: a record of a block breaks the schema rules
     broken : {first n : ℕ} {r : Refusal} →
         BlockOf first n → Broken (block (f .table) first n) first r →
@@ -71,20 +84,6 @@ module _ (f : Format) where
         (NonEmpty (nameIn (f .names) (nodeAt (block (f .table) first n) (nodeAt (block (f .table) first n) 0 .first + k))) → ⊥) →
         FormatReason (TableSchemaChildMissingName k (first + (nodeAt (block (f .table) first n) 0 .first + k)))
 
-and-fails : (a b : Bool) → (a and b) ≡ false → (a ≡ false) ⊎ (b ≡ false)
-unfolding _and_
-and-fails true b e = inr e
-and-fails false b e = inl refl
-
--- some test among n fails
-all-fails : (test : ℕ → Bool) (n : ℕ) → all test n ≡ false → (i : ℕ) × ((i < n) × (test i ≡ false))
-unfolding all
-all-fails test zero e = absurd (refuted {A = Unit} _ (λ h. refl) e tt)
-all-fails test (suc n) e = ⊎-elim
-    (λ (p : all test n ≡ false). let r = all-fails test n p in (r .0, (omega (arith, r .1 .0), r .1 .1)))
-    (λ (p : test n ≡ false). (n, (omega arith, p)))
-    (and-fails _ _ e)
-
 module _ (f : Format) where
   depths-reason : depthsOk f ≡ false → FormatReason f TooDeep
   unfolding depthsOk entryDepthOk referenceDepthOk pick
@@ -96,6 +95,26 @@ module _ (f : Format) where
       by : (t : ℕ) → t < tables f → (b : Bool) → eqb (referenceAt (f .references) t .kind) 0 ≡ b → pick b (blockDepthOk (f .table) (referenceAt (f .references) t .start) (referenceAt (f .references) t .len)) true ≡ false → FormatReason f TooDeep
       by t l true k e = too-deep (of-table {t = t} l (eqb-true _ _ k)) (deep-says _ _ _ _ e)
       by t l false k e = absurd (refuted {A = Unit} _ (λ h. refl) e tt)
+
+  not-utf8 : (s : List ℕ) → isUtf8 s ≡ false → Utf8 s → ⊥
+  not-utf8 s = refuted _ (utf8-exactly s .1)
+
+  reference-name-reason : (t : ℕ) → t < tables f → FormedReference f (referenceAt (f .references) t) → referenceUtf8 f t ≡ false → FormatReason f NameNotUtf8
+  unfolding referenceUtf8 pick
+  reference-name-reason t h w e = ⊎-elim
+      (λ (i : FormedInline f (referenceAt (f .references) t)). bad-node-name (of-table {t = t} h (i .kind)) (names-say _ _ _ _ (rw (eq-eqb (referenceAt (f .references) t .kind) 0 (i .kind)) at e)))
+      (λ (n : FormedName f (referenceAt (f .references) t)). bad-reference-name {t = t} h (n .kind) (not-utf8 _ (rw (ne-eqb (referenceAt (f .references) t .kind) 0 (λ z. omega (arith, n .kind))) at e)))
+      (w .either)
+
+  names-reason : Forms f → formatUtf8 f ≡ false → FormatReason f NameNotUtf8
+  unfolding formatUtf8 entryUtf8
+  names-reason w e = ⊎-elim
+      (λ (p : all (entryUtf8 f) (entryCount (f .registry)) ≡ false). let r = all-fails _ _ p in ⊎-elim
+      (λ (q : isUtf8 (entryName (f .names) (f .registry) (r .0)) ≡ false). bad-entry-name {j = r .0} (r .1 .0) (not-utf8 _ q))
+      (λ (q : blockUtf8 (f .table) (f .names) (entryAt (f .registry) (r .0) .first) (entryAt (f .registry) (r .0) .count) ≡ false). bad-node-name (of-entry {j = r .0} (r .1 .0)) (names-say _ _ _ _ q))
+      (and-fails _ _ (r .1 .1)))
+      (λ (p : all (referenceUtf8 f) (tables f) ≡ false). let r = all-fails _ _ p in reference-name-reason (r .0) (r .1 .0) (w .references (r .0) (r .1 .0)) (r .1 .1))
+      (and-fails _ _ e)
 
   sizes-reason : sizesOk f ≡ false → FormatReason f Setting
   unfolding sizesOk
@@ -140,7 +159,9 @@ module _ (f : Format) where
 
   rules-says : CheckSays (FormatReason f) (formatRules f)
   unfolding formatRules
-  rules-says = says-else _ _ _ _ (λ form. says-else _ _ _ _ (order-says (forms-accept f .0 form)) depths-reason) (λ e. bad-form (refuted _ (forms-accept f .1) e))
+  rules-says = says-else _ _ _ _
+      (λ form. let w = forms-accept f .0 form in says-else _ _ _ _ (λ depth. says-else _ _ _ _ (λ names. order-says w depth) (names-reason w)) depths-reason)
+      (λ e. bad-form (refuted _ (forms-accept f .1) e))
 
   format-says : CheckSays (FormatReason f) (formatRule f)
   unfolding formatRule
@@ -150,20 +171,23 @@ module _ (f : Format) where
   pub format-honest : (r : Refusal) → formatRule f ≡ Refused r → FormatReason f r
   format-honest r e = reason (rw e at format-says)
 
-  number : (r : Refusal) → FormatReason f r → (refusalNumber r ≤ 8) ⊎ (refusalNumber r ≡ 10)
+  number : (r : Refusal) → FormatReason f r → (refusalNumber r ≤ 8) ⊎ ((refusalNumber r ≡ 10) ⊎ (refusalNumber r ≡ 33))
   unfolding lineOf
   number _ (too-long h) = inl (omega arith)
   number _ (bad-form h) = inl (omega arith)
   number _ (too-deep b h) = inl (omega arith)
+  number _ (bad-node-name b h) = inr (inr refl)
+  number _ (bad-entry-name l h) = inr (inr refl)
+  number _ (bad-reference-name l k h) = inr (inr refl)
   number _ (broken b (unexpected i m h)) = inl (omega arith)
   number _ (broken b (too-many i m h)) = inl (omega arith)
   number _ (no-tables h) = inl (omega arith)
   number _ (unknown h k n) = inl (omega arith)
   number _ (not-tuple h s c) = inl (omega arith)
-  number _ (no-name h s k c) = inr refl
+  number _ (no-name h s k c) = inr (inl refl)
 
-  -- So a format is refused by 1 to 8 and 10 alone.
-  pub format-numbers : (r : Refusal) → formatRule f ≡ Refused r → (refusalNumber r ≤ 8) ⊎ (refusalNumber r ≡ 10)
+  -- So a format is refused by 1 to 8, 10 and 33 alone.
+  pub format-numbers : (r : Refusal) → formatRule f ≡ Refused r → (refusalNumber r ≤ 8) ⊎ ((refusalNumber r ≡ 10) ⊎ (refusalNumber r ≡ 33))
   format-numbers r e = number r (format-honest r e)
 
   stays : (r : Refusal) → FormatReason f r → lineOf (r .why) .moves ≡ false
@@ -171,6 +195,9 @@ module _ (f : Format) where
   stays _ (too-long h) = refl
   stays _ (bad-form h) = refl
   stays _ (too-deep b h) = refl
+  stays _ (bad-node-name b h) = refl
+  stays _ (bad-entry-name l h) = refl
+  stays _ (bad-reference-name l k h) = refl
   stays _ (broken b (unexpected i m h)) = refl
   stays _ (broken b (too-many i m h)) = refl
   stays _ (no-tables h) = refl

@@ -13,3 +13,9 @@ pub mod Formats
 pub mod Tables
 pub mod BlockReasons
 pub mod FormatReasons
+pub mod FirstBytes
+pub mod Characters
+pub mod Utf8
+pub mod Nowhere
+pub mod Ascii
+pub mod NameTurn

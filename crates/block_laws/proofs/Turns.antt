@@ -39,17 +39,20 @@ in-order-iff check n = (
   λ h. in-order-all check 0 n (λ k l. let z : 0 + k ≡ k = omega arith in rw z (h k l)),
 )
 
--- forms, depths and rules all pass
-pub record Passes (form depth : Bool) (rules : Checked) : Type 0 where
+-- forms, depths, names and rules all pass
+pub record Passes (form depth names : Bool) (rules : Checked) : Type 0 where
   pub form-ok : form ≡ true
   pub depth-ok : depth ≡ true
+  pub names-ok : names ≡ true
   pub rules-ok : rules ≡ Accepted
 
-pub in-turn : (form depth : Bool) (rules : Checked) (r q : Refusal) → (pick form (pick depth rules (Refused q)) (Refused r) ≡ Accepted) ↔ Passes form depth rules
-in-turn form depth rules r q = (
+pub in-turn : (form depth names : Bool) (rules : Checked) (x y z : Refusal) →
+    (pick form (pick depth (pick names rules (Refused z)) (Refused y)) (Refused x) ≡ Accepted) ↔ Passes form depth names rules
+in-turn form depth names rules x y z = (
   λ e.
       let a = pick-accepted _ _ _ e in
       let b = pick-accepted _ _ _ (a .1) in
-      record { form-ok = a .0; depth-ok = b .0; rules-ok = b .1 },
-  λ p. accepted-pick _ _ _ (p .form-ok) (accepted-pick _ _ _ (p .depth-ok) (p .rules-ok)),
+      let c = pick-accepted _ _ _ (b .1) in
+      record { form-ok = a .0; depth-ok = b .0; names-ok = c .0; rules-ok = c .1 },
+  λ p. accepted-pick _ _ _ (p .form-ok) (accepted-pick _ _ _ (p .depth-ok) (accepted-pick _ _ _ (p .names-ok) (p .rules-ok))),
 )

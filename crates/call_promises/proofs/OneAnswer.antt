@@ -20,6 +20,7 @@ use Rattle.wire.proofs.types.from_code as from-code
 use Rattle.wire.proofs.types.code_of as code-of
 use Rattle.wire.proofs.types.fixed_width as fixed-width
 use Rattle.wire.proofs.codes.maximum_of as maximum-of
+use Rattle.schema.proofs.check_name as check-name
 use Rattle.schema.proofs.check_schema as check-schema
 use Rattle.schema.proofs.check_encoder_schema as check-encoder-schema
 use Rattle.schema.proofs.check_format as check-format
@@ -38,6 +39,7 @@ use Rattle.skiff.proofs.writing.skiff2_encode as skiff2-encode
 use Rattle.skiff.proofs.writing.skiff2_check_value_table as skiff2-check-value-table
 use Rattle.skiff.proofs.checking.skiff2_check_format as skiff2-check-format
 use Rattle.skiff.proofs.checking.skiff2_check_encoder_schema as skiff2-check-encoder-schema
+use Rattle.skiff.proofs.checking.skiff2_check_name as skiff2-check-name
 use Rattle.skiff.proofs.checking.skiff2_parse as skiff2-parse
 use Rattle.skiff.proofs.querying.skiff2_value as skiff2-value
 use Rattle.skiff.proofs.viewing.skiff2_kind as skiff2-kind
@@ -93,6 +95,9 @@ pub maximum-of-one-answer : OneAnswer maximum-of.Kinds.ps maximum-of.Kinds.r max
 maximum-of-one-answer κs a x y s t p q = p ∙ sym q
 
 -- ---- schemas and formats
+pub check-name-one-answer : OneAnswer check-name.Kinds.ps check-name.Kinds.r check-name.Reads.Post
+check-name-one-answer κs a x y s t p q = p ∙ sym q
+
 pub check-schema-one-answer : OneAnswer check-schema.Kinds.ps check-schema.Kinds.r check-schema.Reads.Post
 check-schema-one-answer κs a x y s t p q = p ∙ sym q
 
@@ -149,6 +154,9 @@ skiff2-check-format-one-answer κs a x y s t p q = (ap (λ g. g .number) (p ∙ 
 
 pub skiff2-check-encoder-schema-one-answer : OneOutcome skiff2-check-encoder-schema.Kinds.ps skiff2-check-encoder-schema.Kinds.r (λ κs (table, (names, (first, (count, (answer, _))))). answer .now ∷ []) skiff2-check-encoder-schema.Reads.Post
 skiff2-check-encoder-schema-one-answer κs a x y s t p q = (ap (λ g. g .number) (p ∙ sym q), ap (λ g. g .answer ∷ []) (p ∙ sym q))
+
+pub skiff2-check-name-one-answer : OneOutcome skiff2-check-name.Kinds.ps skiff2-check-name.Kinds.r (λ κs (name, (answer, _)). answer .now ∷ []) skiff2-check-name.Reads.Post
+skiff2-check-name-one-answer κs a x y s t p q = (ap (λ g. g .number) (p ∙ sym q), ap (λ g. g .answer ∷ []) (p ∙ sym q))
 
 pub skiff2-parse-one-answer : OneOutcome skiff2-parse.Kinds.ps skiff2-parse.Kinds.r (λ κs (name, (answer, _)). answer .now ∷ []) skiff2-parse.Reads.Post
 skiff2-parse-one-answer κs a x y s t p q = (ap (λ g. g .number) (p ∙ sym q), ap (λ g. g .answer ∷ []) (p ∙ sym q))

@@ -54,7 +54,7 @@ accepted-formed table names first n e = form-accepts table names first n .0 (and
 accepted-tuple : (table names : List ℕ) (first n : ℕ) → encoderRules table names first n ≡ Accepted → nodeAt (block table first n) 0 .code ≡ 19
 unfolding encoderRules oneBlock tableRule rootRule
 accepted-tuple table names first n e =
-    let rules = pick-accepted _ _ _ (pick-accepted _ _ _ e .1) .1 in
+    let rules = pick-accepted _ _ _ (pick-accepted _ _ _ (pick-accepted _ _ _ e .1) .1) .1 in
     eqb-true _ _ (pick-accepted _ _ _ (then-both _ _ (then-both _ _ rules .1) .0) .0)
 
 -- the row of a whole one

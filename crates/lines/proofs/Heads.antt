@@ -8,7 +8,7 @@ use Rattle.rules.specs.Names.{ascii}
 use Rattle.rules.specs.Refusals.{lineOf, labelsOf, inBytes, reportOf}
 use Rattle.rules.specs.Lines.{decimal, word, carried, stoppedAt, endLine, refusedLine, runLineOf, runLine}
 use Rattle.rules.specs.declared.refusal.Why.{Why}
-use Rattle.rules.specs.declared.refusal.Why.the-variants.{Setting, BadSchemaTable, TooDeep, UnexpectedChildren, TooManyChildren, EmptyTableSchemas, UnknownRegistryReference, TableSchemaRootMustBeTuple, TableSchemaMustBeTuple, TableSchemaChildMissingName, MissingTableSchema, Truncated, RowTooLarge, BlobTooLarge, ValueDoesNotMatchSchema, TupleLength, InvalidVariantTag, BadValueTable, NoNodeRoom, NoPayloadRoom, NoOutputRoom, NoIndexRoom, IndexMismatch, NoSuchRow}
+use Rattle.rules.specs.declared.refusal.Why.the-variants.{Setting, BadSchemaTable, TooDeep, UnexpectedChildren, TooManyChildren, EmptyTableSchemas, UnknownRegistryReference, TableSchemaRootMustBeTuple, TableSchemaMustBeTuple, TableSchemaChildMissingName, MissingTableSchema, Truncated, RowTooLarge, BlobTooLarge, ValueDoesNotMatchSchema, TupleLength, InvalidVariantTag, BadValueTable, NoNodeRoom, NoPayloadRoom, NoOutputRoom, NoIndexRoom, IndexMismatch, NoSuchRow, NameNotUtf8}
 use Rattle.rules.specs.declared.refusal.Refusal.{Refusal}
 use Rattle.rules.specs.declared.refusal.RefusalLine.{RefusalLine}
 use Rattle.rules.specs.declared.answer.Ran.{Ran}
@@ -42,6 +42,7 @@ name-word (NoOutputRoom needed) = refl
 name-word NoIndexRoom = refl
 name-word IndexMismatch = refl
 name-word NoSuchRow = refl
+name-word NameNotUtf8 = refl
 
 module _ (r : Refusal) (rows bytes : ℕ) where
   abbrev number : List ℕ

@@ -48,7 +48,7 @@ cases a b c =
 
 -- and those of document 02, from 30 on
 later : List Why
-later = why.NoIndexRoom ∷ why.IndexMismatch ∷ why.NoSuchRow ∷ []
+later = why.NoIndexRoom ∷ why.IndexMismatch ∷ why.NoSuchRow ∷ why.NameNotUtf8 ∷ []
 
 -- the one of a number and what it carries
 back : ℕ → List ℕ → Why
@@ -80,6 +80,7 @@ back-line (why.NoOutputRoom needed) = refl
 back-line why.NoIndexRoom = refl
 back-line why.IndexMismatch = refl
 back-line why.NoSuchRow = refl
+back-line why.NameNotUtf8 = refl
 
 pub refusals-apart : (r r′ : Refusal) → said r ≡ said r′ → r ≡ r′
 unfolding said

@@ -8,13 +8,14 @@ use mathlib.Core.List.{List, [], _∷_, _++_, map}
 use mathlib.Core.Logic.{_↔_}
 use lib.IntN.{ℤ}
 use lib.ListN.{length, getD, take, drop}
-use Rattle.rules.specs.Bytes.{Bytes, Stands, le, leAt, part, over}
+use Rattle.rules.specs.Bytes.{Bytes, Stands, le, leAt, part, over, longestSlice}
 use Rattle.rules.specs.Answers.{Said, said, rowSaid, readSaid, stopSaid, writtenSaid, textSaid, checkedSaid}
 use Rattle.rules.specs.Wire.{codeOf}
 use Rattle.rules.specs.Schema.{Schema, deep, nodes}
 use Rattle.rules.specs.Block.{records, blockTree, Denotes, Formed, blockOk, Ordered}
 use Rattle.rules.specs.SchemaRules.{schemaRule, ruleAt, firstOf, preorder}
-use Rattle.rules.specs.Format.{Format, tables, tableSchema, formatRule, formatRules, schemaAnswer, encoderRule}
+use Rattle.rules.specs.Utf8.{ScalarValue, byteForm, roomOf, shortest, encodings, ScalarValues, Utf8, isUtf8, goodStrings, badStrings}
+use Rattle.rules.specs.Format.{Format, tables, tableSchema, formatRule, formatRules, schemaAnswer, encoderRule, sizesOk, formsOk, depthsOk, formatUtf8, nameAnswer}
 use Rattle.rules.specs.Good.{GoodSchema, GoodTable, GoodFormat, TableSchema}
 use Rattle.rules.specs.Value.{Value, tuple, Values, values, recordsOf}
 use Rattle.rules.specs.ValueRecord.{valueRecordStart}
@@ -47,6 +48,10 @@ use Rattle.rules.proofs.Limits.{string32-limit, yson32-limit, equal-limits, lim
 use Rattle.rules.proofs.Listing.{listing-holds}
 use Rattle.rules.proofs.Integers.{integers-hold}
 use Rattle.rules.proofs.Answers.{check-number}
+use Rattle.block_laws.proofs.Utf8 as utf8
+use Rattle.block_laws.proofs.Nowhere as nowhere
+use Rattle.block_laws.proofs.Ascii as ascii
+use Rattle.block_laws.proofs.NameTurn as name-turn
 use Rattle.block_laws.proofs.Form.{formed}
 use Rattle.block_laws.proofs.Levels.{block-denotes, deep-shallow}
 use Rattle.block_laws.proofs.Trees.{denotes-one}
@@ -100,6 +105,10 @@ the-documents-listing = listing-holds
 -- integers as text, -1, 0 and the ends of int128 and int256 among them
 pub the-integers-texts : map integerText exampleIntegers ≡ exampleTexts
 the-integers-texts = integers-hold
+
+-- names: strings that are well-formed UTF-8 and strings that are not
+pub the-utf8-examples : (map isUtf8 goodStrings ≡ map (λ s. Bool.true) goodStrings) × (map isUtf8 badStrings ≡ map (λ s. Bool.false) badStrings)
+the-utf8-examples = ascii.examples
 
 -- ---- answers: number, place and values fix each
 pub refusal-by-numbers : (r r′ : Refusal) → said r ≡ said r′ → r ≡ r′
@@ -156,6 +165,39 @@ every-table = table-schema
 pub every-table-encodes : (f : Format) → formatRule f ≡ Accepted → (t first n : ℕ) → tableSchema f t ≡ Block first n →
     encoderRule (f .table) (f .names) first n ≡ Accepted
 every-table-encodes = table-encodes
+
+-- ---- names
+
+-- the check of a string byte by byte accepts just the encodings of scalar values, one after another
+pub utf8-check : (s : List ℕ) → (isUtf8 s ≡ Bool.true) ↔ Utf8 s
+utf8-check = utf8.utf8-exactly
+
+-- which are those of one list of scalar values only
+pub utf8-decodes-once : (cs ds : List ℕ) → ScalarValues cs → ScalarValues ds → encodings cs ≡ encodings ds → cs ≡ ds
+utf8-decodes-once = utf8.decodes-once
+
+-- wherever in a good string a form of two to four bytes stands, it is that of a scalar value, and its shortest:
+pub utf8-scalar-values-only : (xs ys : List ℕ) (n c : ℕ) → 0 < n → n ≤ 3 → c < roomOf n → Utf8 (xs ++ (byteForm n c ++ ys)) → ScalarValue c × (shortest c ≡ n)
+utf8-scalar-values-only = nowhere.only-scalars
+
+-- never a longer form than need be, never a surrogate, never what is above 10FFFF
+pub no-overlong-form : (xs ys : List ℕ) (n c : ℕ) → 0 < n → n ≤ 3 → c < roomOf n → shortest c < n → Utf8 (xs ++ (byteForm n c ++ ys)) → ⊥
+no-overlong-form = nowhere.no-overlong
+
+pub no-surrogate : (xs ys : List ℕ) (n c : ℕ) → 0 < n → n ≤ 3 → c < roomOf n → 0xD800 ≤ c → c ≤ 0xDFFF → Utf8 (xs ++ (byteForm n c ++ ys)) → ⊥
+no-surrogate = nowhere.no-surrogate
+
+pub none-above : (xs ys : List ℕ) (c : ℕ) → 0x10FFFF < c → c < roomOf 3 → Utf8 (xs ++ (byteForm 3 c ++ ys)) → ⊥
+none-above = nowhere.none-above
+
+-- a name by itself is refused by nothing just if it is good, and not too long for a slice
+pub name-check : (name : List ℕ) → (checkedSaid (nameAnswer name) .number ≡ 0) ↔ ((length name ≤ longestSlice) × Utf8 name)
+name-check name = check-number _ (name-turn.one-name name)
+
+-- a format is refused by 33 just where sizes, all forms and all depths stand and a name is not good, whatever else is wrong with it
+pub names-in-their-turn : (f : Format) →
+    (checkedSaid (formatRule f) .number ≡ 33) ↔ ((sizesOk f ≡ Bool.true) × (formsOk f ≡ Bool.true) × (depthsOk f ≡ Bool.true) × (formatUtf8 f ≡ Bool.false))
+names-in-their-turn = name-turn.turn-of-names
 
 -- ---- rows
 

@@ -41,6 +41,7 @@ line-number (why.NoOutputRoom needed) e = omega arith
 line-number why.NoIndexRoom e = omega arith
 line-number why.IndexMismatch e = omega arith
 line-number why.NoSuchRow e = omega arith
+line-number why.NameNotUtf8 e = omega arith
 
 pub refusal-number : (r : Refusal) → said r .number ≡ 0 → ⊥
 unfolding said

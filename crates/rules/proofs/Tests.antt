@@ -30,6 +30,11 @@ unfolding _and_
 and-all true = refl
 and-all false = refl
 
+pub and-assoc : (a b c : Bool) → a and (b and c) ≡ (a and b) and c
+unfolding _and_
+and-assoc true b c = refl
+and-assoc false b c = refl
+
 -- a test that fails does not hold
 pub false-not : {A : Type 0} → false ≡ true → A
 false-not e = let z : _≡_ {A = ℕ} 0 1 = cc in absurd (omega arith)

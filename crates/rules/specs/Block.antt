@@ -2,12 +2,13 @@
 -- Assumes nothing: these are definitions.
 use Prim.Native.Nat.{ℕ, zero, suc, _+_, _*_, _/_, _%_, _≤_, _<_}
 use mathlib.Core.Path.{_≡_}
-use mathlib.Core.Bool.{Bool}
+use mathlib.Core.Bool.{Bool, true}
 use mathlib.Core.List.{List, []}
 use lib.ListN.{length, getD, take, drop}
 use lib.Dec.{ltb, leb, eqb}
 use Rattle.rules.specs.Choice.{pick, _and_, all}
 use Rattle.rules.specs.Bytes.{leAt, part}
+use Rattle.rules.specs.Utf8.{Utf8, isUtf8}
 use Rattle.rules.specs.Schema.{Name, unnamed, named, Schema, node, Schemas, nil, cons, noSchema, deep}
 use Rattle.rules.specs.declared.table_record.Node.{Node}
 
@@ -98,10 +99,30 @@ pub record Formed (s : List ℕ) (store : ℕ) : Type 0 where
   pub codes : (i : ℕ) → i < records s → nodeAt s i .code ≤ 19
   pub names : (i : ℕ) → i < records s → Named (nodeAt s i) store
 
--- ---- the tree that a block denotes
+-- ---- the names of a block, and the tree that it denotes
 
 unfoldable pub nameIn : List ℕ → Node → Name
 nameIn store n = pick (eqb (n .named) 1) (named (part store (n .start) (n .len))) unnamed
+
+-- the name of node i
+abbrev pub nodeName : List ℕ → List ℕ → ℕ → Name
+nodeName s store i = nameIn store (nodeAt s i)
+
+-- a name, where there is one, is well-formed UTF-8: as a test and as a fact
+unfoldable pub isNameUtf8 : Name → Bool
+isNameUtf8 unnamed = true
+isNameUtf8 (named s) = isUtf8 s
+
+unfoldable pub NameUtf8 : Name → Type 0
+NameUtf8 unnamed = Unit
+NameUtf8 (named s) = Utf8 s
+
+-- so is the name of each node
+unfoldable pub namesUtf8 : List ℕ → List ℕ → Bool
+namesUtf8 s store = all (λ i. isNameUtf8 (nodeName s store i)) (records s)
+
+abbrev pub NamesUtf8 : List ℕ → List ℕ → Type 0
+NamesUtf8 s store = (i : ℕ) → i < records s → NameUtf8 (nodeName s store i)
 
 -- the trees of n nodes from i on
 unfoldable pub treesFrom : (ℕ → Schema) → ℕ → ℕ → Schemas

@@ -1,4 +1,4 @@
--- A format: record table, name store, table references and registry. Its forms, its depths, and the order of its refusals.
+-- A format: record table, name store, table references and registry. Its forms, its depths, its names, and the order of its refusals.
 -- Assumes nothing: these are definitions.
 use Prim.Native.Nat.{ℕ, zero, suc, _+_, _*_, _/_, _%_, _≤_}
 use mathlib.Core.Bool.{Bool, true}
@@ -7,8 +7,9 @@ use lib.ListN.{length, getD}
 use lib.Dec.{ltb, leb, eqb}
 use Rattle.rules.specs.Choice.{pick, _and_, all}
 use Rattle.rules.specs.Bytes.{leAt, part, order, isLess, isEqual, longestSlice}
-use Rattle.rules.specs.Refusals.{_then_, inOrder, Setting, BadSchemaTable, TooDeep, EmptyTableSchemas, UnknownRegistryReference}
-use Rattle.rules.specs.Block.{records, wholeNodes, block, spanOk, blockOk, depthOf}
+use Rattle.rules.specs.Refusals.{_then_, inOrder, Setting, BadSchemaTable, TooDeep, NameNotUtf8, EmptyTableSchemas, UnknownRegistryReference}
+use Rattle.rules.specs.Utf8.{isUtf8}
+use Rattle.rules.specs.Block.{records, wholeNodes, block, spanOk, blockOk, depthOf, namesUtf8}
 use Rattle.rules.specs.SchemaRules.{schemaRule, tableRule}
 use Rattle.rules.specs.declared.table_record.Reference.{Reference}
 use Rattle.rules.specs.declared.table_record.Entry.{Entry}
@@ -38,6 +39,10 @@ blockFormOk table store first n = leb (first + n) (records table) and blockOk (b
 -- it is at most 64 deep (3)
 unfoldable pub blockDepthOk : List ℕ → ℕ → ℕ → Bool
 blockDepthOk table first n = leb (depthOf (block table first n)) 64
+
+-- its names are well-formed UTF-8 (33)
+unfoldable pub blockUtf8 : List ℕ → List ℕ → ℕ → ℕ → Bool
+blockUtf8 table names first n = namesUtf8 (block table first n) names
 
 -- the rules 4 and 5
 unfoldable pub blockRule : List ℕ → ℕ → ℕ → Checked
@@ -158,6 +163,20 @@ module _ (f : Format) where
   unfoldable pub depthsOk : Bool
   depthsOk = all entryDepthOk (entryCount (f .registry)) and all referenceDepthOk tables
 
+  -- ---- all names (33): of each entry and of the records of its block; of the records of an inline block, or the name that a reference gives
+  unfoldable pub entryUtf8 : ℕ → Bool
+  entryUtf8 j =
+      isUtf8 (entryName (f .names) (f .registry) j)
+      and blockUtf8 (f .table) (f .names) (entryAt (f .registry) j .first) (entryAt (f .registry) j .count)
+
+  unfoldable pub referenceUtf8 : ℕ → Bool
+  referenceUtf8 t =
+      let r = referenceAt (f .references) t in
+      pick (eqb (r .kind) 0) (blockUtf8 (f .table) (f .names) (r .start) (r .len)) (isUtf8 (part (f .names) (r .start) (r .len)))
+
+  unfoldable pub formatUtf8 : Bool
+  formatUtf8 = all entryUtf8 (entryCount (f .registry)) and all referenceUtf8 tables
+
   -- ---- the Rust's order: no tables; registry schemas in name order; then each table in turn: reference or inline schema, root, names
   unfoldable pub entryRule : ℕ → Checked
   entryRule j = blockRule (f .table) (entryAt (f .registry) j .first) (entryAt (f .registry) j .count)
@@ -184,18 +203,24 @@ module _ (f : Format) where
 
   -- what the check of a format answers, its sizes left aside
   unfoldable pub formatRules : Checked
-  formatRules = pick formsOk (pick depthsOk rulesOrder (Refused TooDeep)) (Refused BadSchemaTable)
+  formatRules =
+      pick formsOk (pick depthsOk (pick formatUtf8 rulesOrder (Refused NameNotUtf8)) (Refused TooDeep))
+      (Refused BadSchemaTable)
 
   -- what the check of a format answers
   unfoldable pub formatRule : Checked
   formatRule = pick sizesOk formatRules (Refused Setting)
 
--- ---- one block by itself, given by numbers: form, depth, and what the rules say of it
+-- ---- one block by itself, given by numbers: form, depth, names, and what the rules say of it
 unfoldable pub oneBlock : List ℕ → List ℕ → ℕ → ℕ → Checked → Checked
 oneBlock table names first n rules =
     pick (wholeNodes table and blockFormOk table (length names) first n)
-    (pick (blockDepthOk table first n) rules (Refused TooDeep))
+    (pick (blockDepthOk table first n) (pick (blockUtf8 table names first n) rules (Refused NameNotUtf8)) (Refused TooDeep))
     (Refused BadSchemaTable)
+
+-- what the check of one name answers
+unfoldable pub nameAnswer : List ℕ → Checked
+nameAnswer name = pick (shortOk name) (pick (isUtf8 name) Accepted (Refused NameNotUtf8)) (Refused Setting)
 
 -- what the check of a schema alone answers
 unfoldable pub schemaAnswer : List ℕ → List ℕ → ℕ → ℕ → Checked

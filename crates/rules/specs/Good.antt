@@ -6,8 +6,9 @@ use mathlib.Core.List.{List}
 use mathlib.Core.Logic.{_⊎_}
 use lib.ListN.{length}
 use Rattle.rules.specs.Bytes.{part, order, longestSlice}
+use Rattle.rules.specs.Utf8.{Utf8}
 use Rattle.rules.specs.Schema.{Schema, deep, Valid, TableRoot}
-use Rattle.rules.specs.Block.{nodeSize, records, block, Formed, blockTree, Denotes, Closed}
+use Rattle.rules.specs.Block.{nodeSize, records, block, Formed, NamesUtf8, blockTree, Denotes, Closed}
 use Rattle.rules.specs.Format.{referenceSize, entrySize, entryCount, Format, referenceAt, entryAt, entryName, tables, tableSchema}
 use Rattle.rules.specs.Reading.{schemaOf}
 use Rattle.rules.specs.declared.answer.Order.the-variants.{Less}
@@ -16,11 +17,13 @@ use Rattle.rules.specs.declared.table_record.Located.the-variants.{Block
 
 -- ---- one block, given by first record and record count
 
--- A good block lies in the record table, has the form of a schema, is at most 64 deep, and its schema keeps the rules.
+-- A good block lies in the record table, has the form of a schema, is at most 64 deep, its names are well-formed UTF-8, and its schema
+-- keeps the rules.
 pub record GoodBlock (table names : List ℕ) (first n : ℕ) : Type 0 where
   pub inside : first + n ≤ records table
   pub formed : Formed (block table first n) (length names)
   pub depth : deep (blockTree (block table first n) names) ≤ 64
+  pub utf8 : NamesUtf8 (block table first n) names
   pub valid : Valid (blockTree (block table first n) names)
 
 -- Slices that are not too long, a table of whole records, and a good block in it.
@@ -46,9 +49,10 @@ module _ (f : Format) where
   abbrev pub schemaFrom : ℕ → ℕ → Schema
   schemaFrom first n = blockTree (block (f .table) first n) (f .names)
 
-  -- A registry entry: its name lies in the store, and its block is good.
+  -- A registry entry: its name lies in the store and is well-formed UTF-8, and its block is good.
   pub record GoodEntry (j : ℕ) : Type 0 where
     pub name : entryAt (f .registry) j .start + entryAt (f .registry) j .len ≤ length (f .names)
+    pub utf8 : Utf8 (entryName (f .names) (f .registry) j)
     pub good : GoodBlock (f .table) (f .names) (entryAt (f .registry) j .first) (entryAt (f .registry) j .count)
 
   -- An inline reference: kind 0, and a good block that is fit for a table.
@@ -57,7 +61,8 @@ module _ (f : Format) where
     pub good : GoodBlock (f .table) (f .names) (r .start) (r .len)
     pub root : TableRoot (schemaFrom (r .start) (r .len))
 
-  -- A reference by name: kind 1, a name that lies in the store and that an entry of the registry has, whose schema is fit for a table.
+  -- A reference by name: kind 1, a name that lies in the store and that an entry of the registry has (so that it is UTF-8, as that is),
+  -- whose schema is fit for a table.
   pub record ByName (r : Reference) : Type 0 where
     pub kind : r .kind ≡ 1
     pub name : r .start + r .len ≤ length (f .names)

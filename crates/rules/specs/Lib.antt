@@ -4,6 +4,7 @@ pub mod Wire
 pub mod Names
 pub mod Refusals
 pub mod Schema
+pub mod Utf8
 pub mod Block
 pub mod SchemaRules
 pub mod Format

@@ -58,6 +58,7 @@ lineOf (why.NoOutputRoom needed) = stays 21 "NoOutputRoom" (needed ∷ []) (labe
 lineOf why.NoIndexRoom = stays 30 "NoIndexRoom" [] []
 lineOf why.IndexMismatch = stays 31 "IndexMismatch" [] []
 lineOf why.NoSuchRow = stays 32 "NoSuchRow" [] []
+lineOf why.NameNotUtf8 = stays 33 "NameNotUtf8" [] []
 
 abbrev pub refusalNumber : Refusal → ℕ
 refusalNumber r = lineOf (r .why) .number
@@ -152,6 +153,9 @@ IndexMismatch = record { why = why.IndexMismatch; place = 0 }
 
 abbrev pub NoSuchRow : Refusal
 NoSuchRow = record { why = why.NoSuchRow; place = 0 }
+
+abbrev pub NameNotUtf8 : Refusal
+NameNotUtf8 = record { why = why.NameNotUtf8; place = 0 }
 
 -- ---- checks one after another
 

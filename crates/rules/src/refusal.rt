@@ -71,6 +71,7 @@ pub enum Why {
     NoIndexRoom,
     IndexMismatch,
     NoSuchRow,
+    NameNotUtf8,
 }
 
 // A refusal: why, and at what place, 0 where there is none.
@@ -234,6 +235,8 @@ const INDEX_MISMATCH_NAME: [u8; 28] = *b"IndexMismatch               ";
 
 const NO_SUCH_ROW_NAME: [u8; 28] = *b"NoSuchRow                   ";
 
+const NAME_NOT_UTF8_NAME: [u8; 28] = *b"NameNotUtf8                 ";
+
 impl Why {
     // The line of the table that all else goes by: a new refusal is an arm here.
     pub fn line(self) -> RefusalLine
@@ -390,6 +393,7 @@ impl Why {
             Why::NoIndexRoom => no_value(30, NO_INDEX_ROOM_NAME),
             Why::IndexMismatch => no_value(31, INDEX_MISMATCH_NAME),
             Why::NoSuchRow => no_value(32, NO_SUCH_ROW_NAME),
+            Why::NameNotUtf8 => no_value(33, NAME_NOT_UTF8_NAME),
         }
     }
 }
@@ -433,6 +437,11 @@ impl Refusal {
 
     pub const NO_SUCH_ROW: Refusal = Refusal {
         why: Why::NoSuchRow,
+        place: 0,
+    };
+
+    pub const NAME_NOT_UTF8: Refusal = Refusal {
+        why: Why::NameNotUtf8,
         place: 0,
     };
 

@@ -1,6 +1,6 @@
 -- What the forms of a format give, and its parts over the slices that each looks at.
 -- Assumes nothing.
-use Prim.Native.Nat.{ℕ, zero, suc, _+_, _-_, _≤_}
+use Prim.Native.Nat.{ℕ, zero, suc, _+_, _-_, _≤_, _<_}
 use mathlib.Core.Path.{_≡_, refl}
 use mathlib.Core.Bool.{Bool, true}
 use mathlib.Core.List.{List, []}
@@ -11,7 +11,7 @@ use lib.Dec.{eqb}
 use Rattle.rules.specs.Choice.{pick, _and_, all}
 use Rattle.rules.specs.Bytes.{part, order, isLess}
 use Rattle.rules.specs.Block.{wholeNodes}
-use Rattle.rules.specs.Format.{wholeReferences, entryCount, wholeEntries, blockDepthOk, blockRule, entryAt, referenceAt, entryName, referenceOk, ascending, entryOk, referenceFormOk, formsOk, entryDepthOk, referenceDepthOk, depthsOk, entryRule}
+use Rattle.rules.specs.Format.{referenceCount, wholeReferences, entryCount, wholeEntries, blockFormOk, blockDepthOk, blockRule, entryAt, referenceAt, entryName, referenceOk, ascending, entryOk, referenceFormOk, formsOk, entryDepthOk, referenceDepthOk, depthsOk, entryRule}
 use Rattle.rules.specs.declared.table_record.Entry.{Entry}
 use Rattle.rules.specs.declared.table_record.Reference.{Reference}
 use Rattle.rules.specs.declared.answer.Order.{Order}
@@ -77,11 +77,13 @@ module _ (table references : List ℕ) (t : ℕ) (r : Reference) (is : r ≡ ref
 
 -- ---- what the forms give
 module _ (table names registry : List ℕ) where
-  pub entry-gives : (j : ℕ) → entryOk (slices table names [] registry) j ≡ true → (entryAt registry j .start + entryAt registry j .len ≤ length names) × SoundBlock table (entryAt registry j .first) (entryAt registry j .count)
+  pub entry-form : (j : ℕ) → entryOk (slices table names [] registry) j ≡ true →
+      (entryAt registry j .start + entryAt registry j .len ≤ length names) × (blockFormOk table (length names) (entryAt registry j .first) (entryAt registry j .count) ≡ true)
   unfolding entryOk
-  entry-gives j e =
-      let p = and-both _ _ (and-both _ _ e .0) in
-      (leb-true _ _ (p .0), form-sound _ _ _ _ (p .1))
+  entry-form j e = let p = and-both _ _ (and-both _ _ e .0) in (leb-true _ _ (p .0), p .1)
+
+  pub entry-gives : (j : ℕ) → entryOk (slices table names [] registry) j ≡ true → (entryAt registry j .start + entryAt registry j .len ≤ length names) × SoundBlock table (entryAt registry j .first) (entryAt registry j .count)
+  entry-gives j e = let p = entry-form j e in (p .0, form-sound _ _ _ _ (p .1))
 
   entry-ascends : (j : ℕ) → entryOk (slices table names [] registry) j ≡ true → ascending (slices table names [] registry) j ≡ true
   unfolding entryOk
@@ -96,15 +98,22 @@ module _ (table names registry : List ℕ) where
   pub entries-sound : entriesOk table names registry ≡ true → EntriesSound table registry
   entries-sound e j h = entry-gives j (all-each _ _ j e h) .1
 
+module _ (table names : List ℕ) (r : Reference) (ok : referenceOk (slices table names [] []) r ≡ true) where
+  pub inline-form : r .kind ≡ 0 → blockFormOk table (length names) (r .start) (r .len) ≡ true
+  unfolding referenceOk pick
+  inline-form z = rw (eq-eqb _ _ z) at (and-both _ _ ok .1)
+
+  pub name-inside : (r .kind ≡ 0 → ⊥) → r .start + r .len ≤ length names
+  unfolding referenceOk pick
+  name-inside z = leb-true _ _ (and-both _ _ (rw (ne-eqb _ _ z) at (and-both _ _ ok .1)) .1)
+
 module _ (table names references : List ℕ) (ok : referencesOk table names references ≡ true) where
+  pub each-reference : (t : ℕ) → t < referenceCount references → referenceOk (slices table names [] []) (referenceAt references t) ≡ true
+  unfolding referenceFormOk referenceOk
+  each-reference t h = all-each _ _ t ok h
+
   pub inline-sound : InlineSound table references
-  unfolding referenceFormOk referenceOk pick
-  inline-sound t h z =
-      let p = and-both _ _ (all-each _ _ t ok h) in
-      form-sound _ _ _ (length names) (rw (eq-eqb _ _ z) at (p .1))
+  inline-sound t h z = form-sound _ _ _ (length names) (inline-form table names _ (each-reference t h) z)
 
   pub references-named : ReferencesNamed names references
-  unfolding referenceFormOk referenceOk pick
-  references-named t h z =
-      let p = and-both _ _ (all-each _ _ t ok h) in
-      leb-true _ _ (and-both _ _ (rw (ne-eqb _ _ z) at (p .1)) .1)
+  references-named t h z = name-inside table names _ (each-reference t h) z

@@ -2,3 +2,4 @@ pub mod Lookups
 pub mod Given
 pub mod Tables
 pub mod Accepted
+pub mod Naming

@@ -9,7 +9,7 @@ use lib.ListN.{length}
 use Rattle.rules.specs.Choice.{all}
 use Rattle.rules.specs.Refusals.{inOrder}
 use Rattle.rules.specs.Bytes.{order}
-use Rattle.rules.specs.Format.{referenceCount, entryCount, Format, entryAt, entryName, referenceAt, entryOk, referenceFormOk, entryDepthOk, referenceDepthOk, entryRule}
+use Rattle.rules.specs.Format.{referenceCount, entryCount, Format, entryAt, entryName, referenceAt, entryOk, referenceFormOk, entryDepthOk, referenceDepthOk, entryUtf8, referenceUtf8, entryRule}
 use Rattle.rules.specs.declared.answer.Checked.{Checked}
 use Rattle.rules.specs.declared.answer.Order.the-variants.{Less}
 use Rattle.block.specs.Sound.{SoundBlock}
@@ -30,6 +30,12 @@ entriesShallow table registry = all (entryDepthOk (slices table [] [] registry))
 
 abbrev pub referencesShallow : List ℕ → List ℕ → Bool
 referencesShallow table references = all (referenceDepthOk (slices table [] references [])) (referenceCount references)
+
+abbrev pub entriesUtf8 : List ℕ → List ℕ → List ℕ → Bool
+entriesUtf8 table names registry = all (entryUtf8 (slices table names [] registry)) (entryCount registry)
+
+abbrev pub referencesUtf8 : List ℕ → List ℕ → List ℕ → Bool
+referencesUtf8 table names references = all (referenceUtf8 (slices table names references [])) (referenceCount references)
 
 abbrev pub entriesRule : List ℕ → List ℕ → Checked
 entriesRule table registry = inOrder (entryRule (slices table [] [] registry)) 0 (entryCount registry)

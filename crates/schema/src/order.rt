@@ -1,4 +1,4 @@
-// The third pass: the rules in the Rust's order, over forms that were checked.
+// The fourth pass: the rules in the Rust's order, over forms that were checked.
 ghost use mathlib.Core.Path.{_≡_};
 ghost use mathlib.Core.List.{[]};
 ghost use Prim.Native.Nat.{ℕ, _<_};

@@ -7,7 +7,7 @@ use lib.Dec.{leb}
 use Rattle.rules.specs.Choice.{pick}
 use Rattle.rules.specs.Bytes.{over}
 use Rattle.rules.specs.Names.{parsed}
-use Rattle.rules.specs.Format.{Format, formatRule, encoderRule}
+use Rattle.rules.specs.Format.{Format, nameAnswer, formatRule, encoderRule}
 use Rattle.rules.specs.Reading.{skipRule, runRule, ranOf, Decoded, decodeRule}
 use Rattle.rules.specs.Writing.{encodeRule}
 use Rattle.rules.specs.Numerals.{integerTextRule}
@@ -48,6 +48,9 @@ checkFormatGiven f slice = given slice (answerOfChecked (formatRule f))
 -- a block of so many records of the table, from its first one on
 unfoldable pub checkEncoderSchemaGiven : List ℕ → List ℕ → ℕ → ℕ → List ℕ → Given
 checkEncoderSchemaGiven table names first n slice = given slice (answerOfChecked (encoderRule table names first n))
+
+unfoldable pub checkNameGiven : List ℕ → List ℕ → Given
+checkNameGiven name slice = given slice (answerOfChecked (nameAnswer name))
 
 unfoldable pub parseGiven : List ℕ → List ℕ → Given
 parseGiven name slice = given slice (answerOfKnown (parsed name))

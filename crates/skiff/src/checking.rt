@@ -1,7 +1,7 @@
-// The calls that check: a format, a block that an encoder writes by, and the name of a wire type.
+// The calls that check: a format, a block that an encoder writes by, a name, and the name of a wire type.
 ghost use mathlib.Core.Path.{_≡_};
 ghost use Rattle.schema.specs.Slices.{slices};
-ghost use Rattle.skiff.specs.Calls.{checkFormatGiven, checkEncoderSchemaGiven, parseGiven};
+ghost use Rattle.skiff.specs.Calls.{checkFormatGiven, checkEncoderSchemaGiven, checkNameGiven, parseGiven};
 use super::ANSWER;
 use answers::answer_of_checked;
 use answers::answer_of_known;
@@ -43,6 +43,18 @@ pub extern "C" fn skiff2_check_encoder_schema(
         return 1;
     }
     let checked = schema::check_encoder_schema(table, names, first, count);
+    give(answer, answer_of_checked(checked))
+}
+
+// Whether bytes may be a name.
+#[no_mangle]
+pub extern "C" fn skiff2_check_name(name: &[u8], answer: &mut [u8]) -> u32
+    ensures { λ r. ⌜ record { number = r; answer = now (answer .exit) } ≡ checkNameGiven (now (name .entry)) (now (answer .entry)) ⌝ }
+{
+    if answer.len() < ANSWER {
+        return 1;
+    }
+    let checked = schema::check_name(name);
     give(answer, answer_of_checked(checked))
 }
 

@@ -1,10 +1,12 @@
 //! bench: what skiff_run costs beside a driver over the original's skip_row, skiff_decode beside its
 //! next_row and, with the feature `encode`, skiff_encode beside its write, on the same bytes; with the feature `index`,
-//! what the index calls cost beside those that do without one; and what the check of a format costs by its records.
+//! what the index calls cost beside those that do without one; and what the check of a format costs by its records and
+//! by its names.
 
 #[cfg(feature = "index")]
 mod indexing;
 mod ledger;
+mod names;
 mod same;
 mod schemas;
 mod timing;
@@ -15,12 +17,12 @@ use std::process::ExitCode;
 
 use schemas::{ALL, LEDGER};
 use timing::{
-    best_of, best_of_each, check_library, check_original, decode_bare, decode_library, decode_original, original,
-    run_library, run_original,
+    best_of, best_of_each, check_library, check_original, decode_bare, decode_library, decode_original,
+    original, run_library, run_original,
 };
 
 const USAGE: &str = "\
-usage: bench [rows|growth|decode|ledger|encode|index|format] [--runs N] [--rows N]
+usage: bench [rows|growth|decode|ledger|encode|index|format|names] [--runs N] [--rows N]
   rows    each schema, 1,000,000 rows of A and N (300,000) of the others
   growth  10,000 to 1,000,000 rows of schema A
   decode  1,000,000 rows of schema A decoded one by one
@@ -31,6 +33,8 @@ usage: bench [rows|growth|decode|ledger|encode|index|format] [--runs N] [--rows 
   index   an index of 100,000 rows of schema A built and checked, and rows decoded by it; only with the feature of
           that name
   format  the check of formats of 1,024 to 131,072 records
+  names   the check of schema A with column names of 1, 16 and 255 bytes, of ASCII and of characters of two bytes, and
+          N (300,000) of its rows decoded one by one
   all of them without a word. Times are the best of N (15) runs, in processor time";
 
 const CLIENT_ROWS: u64 = 1_000_000;
@@ -48,7 +52,7 @@ fn options() -> Option<Options> {
         match word.as_str() {
             "--runs" => options.runs = given.next()?.parse().ok()?,
             "--rows" => options.rows = given.next()?.parse().ok()?,
-            "rows" | "growth" | "decode" | "ledger" | "format" => options.words.push(word),
+            "rows" | "growth" | "decode" | "ledger" | "format" | "names" => options.words.push(word),
             "encode" if cfg!(feature = "encode") => options.words.push(word),
             "index" if cfg!(feature = "index") => options.words.push(word),
             _ => return None,
@@ -89,6 +93,9 @@ fn main() -> ExitCode {
     }
     if wants("format") {
         format(&options);
+    }
+    if wants("names") {
+        names_checked(&options);
     }
     ExitCode::SUCCESS
 }
@@ -288,4 +295,21 @@ fn format(options: &Options) {
         println!("{records:8} {:12.1} {library:10.2} {growth:7.2} {tree:22.2}", best.library / 1_000.0);
     }
     println!("(the original checks trees that stand already; the library checks the flat tables themselves)");
+}
+
+/// A call's check of the format and a row's decoding, the same rows under each pair of names.
+fn names_checked(options: &Options) {
+    const CHECKS: u32 = 100_000;
+    println!("\n{:46} {:>10} {:>16}", "schema A, by the names of its columns", "check, ns", "decode, ns/row");
+    for (bytes, letters) in names::NAMES {
+        let case = names::stream(bytes, letters, options.rows);
+        let room = same::check(&case, &original(&case), options.rows);
+        let [check, decode] = best_of_each(
+            options.runs,
+            [&mut || names::check(&case, CHECKS), &mut || decode_bare(&case, room, options.rows)],
+        );
+        let title = format!("{bytes:3} bytes of {}", letters.in_words());
+        println!("{title:46} {check:10.1} {:16.1}", decode / options.rows as f64);
+    }
+    println!("(each decode call checks the format; built with an older archive, the same lines say what it took there)");
 }

@@ -35,7 +35,8 @@ pub const ALL: [Timed; 6] = [
 ];
 
 /// A ledger's table: eight int256 columns and two int128, and no tag but its own.
-pub const LEDGER: Timed = Timed { name: "ledger: eight int256, two int128", taste: &EVEN, plans: wide_integers };
+pub const LEDGER: Timed =
+    Timed { name: "ledger: eight int256, two int128", taste: &EVEN, plans: wide_integers };
 
 fn leaves(codes: &[u8]) -> Vec<Plan> {
     codes.iter().map(|code| Plan::new(*code, 0)).collect()

@@ -9,8 +9,7 @@ use skiff::{Format, Row, Schema, Value, ValueRef, Variant, WireType};
 use crate::wide;
 
 pub const ABOUT: &str = "\
-A row is a line of JSON: an object of its columns; where two columns have one name, or one is no UTF-8, an \
-array of them. Where the format has several tables, it is {\"table\": N, \"row\": ...}.
+A row is a line of JSON: an object of its columns; where two columns have one name, an array of them. Where the format has several tables, it is {\"table\": N, \"row\": ...}.
 
   nothing             null
   boolean             true, false
@@ -40,9 +39,12 @@ pub struct Shape {
 }
 
 impl Shape {
+    /// Of a schema that was checked.
     pub fn of(schema: &Schema) -> Self {
         let children: Vec<Shape> = schema.children.iter().map(Self::of).collect();
-        let names = schema.children.iter().map(|child| String::from_utf8(child.name.clone()?).ok());
+        let text =
+            |name: &Vec<u8>| String::from_utf8(name.clone()).expect("a checked schema's names are UTF-8");
+        let names = schema.children.iter().map(|child| child.name.as_ref().map(text));
         let names = names
             .collect::<Option<Vec<String>>>()
             .filter(|names| !names.is_empty() && names.iter().collect::<BTreeSet<_>>().len() == names.len());

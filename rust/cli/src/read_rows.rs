@@ -6,7 +6,7 @@ use std::sync::mpsc;
 use std::thread;
 
 use clap::ArgMatches;
-use skiff::{Decoder, Error, Format, FromReader, Refused, Row, Settings, Stop};
+use skiff::{Decoder, Error, Format, FromReader, Refusal, Refused, Row, Settings, Stop};
 
 use crate::files::{self, Input, STANDARD_INPUT};
 use crate::json;
@@ -41,6 +41,11 @@ pub fn check(given: &ArgMatches) -> Result<Status, Failure> {
         Ok(()) => say("accepted").map(|()| Status::Accepted),
         Err(refusal) => say(&tables.format().explain(refusal).to_string()).map(|()| Status::Refused),
     }
+}
+
+/// Which name it is that is no UTF-8, where a format is refused for one: the refusal carries nothing to tell it by.
+fn bad_name(format: &Format, refusal: Refusal) -> Option<String> {
+    (refusal == Refusal::NameNotUtf8).then(|| format.bad_name().map(|bad| bad.to_string()))?
 }
 
 /// A decoder over an opened stream; a format that is none is told as a run over it would be.
@@ -94,7 +99,8 @@ pub fn run(given: &ArgMatches) -> Result<Status, Failure> {
     }
     let tables = files::format(word(given, "format"))?;
     if let Err(refusal) = tables.format().check() {
-        return say(&format!("{refusal} after 0 rows, 0 bytes")).map(|()| Status::Refused);
+        let name = bad_name(&tables.format(), refusal).map_or(String::new(), |words| format!(": {words}"));
+        return say(&format!("{refusal} after 0 rows, 0 bytes{name}")).map(|()| Status::Refused);
     }
     let jobs = usize::from(*given.get_one::<u16>("jobs").expect("it has a default")).min(names.len());
     let lengths = names.iter().map(|name| std::fs::metadata(name).ok().map(|about| about.len()));
@@ -200,7 +206,11 @@ fn each_row(
 pub fn list(given: &ArgMatches) -> Result<Status, Failure> {
     let tables = files::format(word(given, "format"))?;
     if let Err(refusal) = tables.format().check() {
-        return say(&format!("refused {} {}", refusal.number(), refusal.place())).map(|()| Status::Refused);
+        say(&format!("refused {} {}", refusal.number(), refusal.place()))?;
+        return match bad_name(&tables.format(), refusal) {
+            Some(words) => Err(Failure::Refused(format!("{}: {words}", word(given, "format")))),
+            None => Ok(Status::Refused),
+        };
     }
     each_row(
         given,

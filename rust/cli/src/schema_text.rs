@@ -15,12 +15,13 @@ folder: prints the text.
       int64
       tuple
         x: double
-        \"any bytes \\xff\": boolean
+        \"two words\": boolean
   table shared              # a table whose schema is in the registry
   schema shared             # a schema of the registry
     id: uint64
 
-Each level stands two spaces further in, or more. A node may have a name, the columns of a table have to.";
+Each level stands two spaces further in, or more. A node may have a name, the columns of a table have to. Names are \
+UTF-8; in quotes a byte may be given as \\x and two digits.";
 
 /// What is wrong with a text.
 type Words = String;

@@ -106,7 +106,7 @@ fn list() {
 const EVERY_FORM: &str = r#"table
   nothing: nothing
   truth: boolean
-  small: int8
+  "two words": int8
   long: int64
   longer: uint64
   wide: int128
@@ -131,14 +131,14 @@ const EVERY_FORM: &str = r#"table
   pair: tuple
     int8
     int8
-  "\xff": optional boolean
+  truth: optional boolean
 "#;
 
 /// Every form of value, there and back.
 #[test]
 fn json_there_and_back() {
     let schema = file(&folder("json"), "all.txt", EVERY_FORM);
-    // A column's name is no UTF-8, so that a row is an array. `deep` is a variant whose second choice may be
+    // Two columns have one name, so that a row is an array. `deep` is a variant whose second choice may be
     // null itself, so that it has a tag.
     let lines = [
         r#"[null,true,-8,"-9223372036854775808",9007199254740992,"#,

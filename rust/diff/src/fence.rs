@@ -199,6 +199,27 @@ impl Drop for Held {
     }
 }
 
+/// Memory between fences that short slices are laid in one after another, where they are too many for each to have its
+/// own.
+pub struct Spot(Fenced);
+
+impl Spot {
+    pub fn new() -> Self {
+        Self(Fenced::new(FENCE).expect("there is memory for short slices"))
+    }
+
+    /// These bytes at a place of it.
+    pub fn hold(&mut self, bytes: &[u8], place: Place) -> &mut [u8] {
+        let range = place.of(self.0.room, bytes.len());
+        let mut counted = COUNTED.get();
+        counted.count(self.0.room, &range);
+        COUNTED.set(counted);
+        let held = &mut self.0.bytes()[range];
+        held.copy_from_slice(bytes);
+        held
+    }
+}
+
 /// A slice that can't be written while it lives, and that threads may share.
 pub struct ReadOnly(Held);
 
@@ -271,6 +292,18 @@ mod tests {
         let counted = counted();
         assert_eq!(counted.all, 27);
         assert!(counted.at_end >= 9 && counted.at_start >= 9 && counted.odd >= 9);
+    }
+
+    #[test]
+    fn a_spot_is_used_again_and_again() {
+        let mut spot = Spot::new();
+        for (place, length) in [(Start, 3), (End, 12), (Odd, 4), (Odd, 5), (End, 0)] {
+            let bytes = vec![7; length];
+            assert!(*spot.hold(&bytes, place) == *bytes);
+        }
+        let Slices { all, at_end, at_start, odd } = counted();
+        assert_eq!((all, at_start), (5, 1));
+        assert!(at_end >= 3 && odd >= 2);
     }
 
     #[test]

@@ -77,7 +77,7 @@ impl Tally {
     /// What every run has to meet: an end, each refusal that a delivery can have, a value of each kind.
     /// No row has more payload than the stream has bytes, so 20 is not among them.
     fn unmet(&self) -> Vec<String> {
-        let numbers = [0, 1, 2, 3, 4, 5, 8, 10, 11, 12, 13, 14, 17, 19];
+        let numbers = [0, 1, 2, 3, 4, 5, 8, 10, 11, 12, 13, 14, 17, 19, 33];
         let numbers = numbers.iter().filter(|number| !self.numbers.contains_key(number));
         let kinds = (0..18).filter(|kind| self.lines[usize::from(*kind)] == 0);
         numbers

@@ -4,16 +4,18 @@
 mod wanted;
 mod wanted_indexes;
 mod wanted_limits;
+mod wanted_names;
 mod wanted_writes;
 
 use std::collections::BTreeMap;
 
 use crate::case::{op, Case, MOST_INPUT};
 use crate::compare::{Expected, Tally};
-use crate::generate::{self, edges, indexes, rows, words, writes, Kind, TWO_BLOB_LIMITS};
+use crate::generate::{self, edges, indexes, named_edges, rows, words, writes, Kind, NAMES, TWO_BLOB_LIMITS};
 use crate::indexing::IndexCase;
 use crate::judge::plain_answer;
 use crate::rng::Rng;
+use crate::room::Room;
 use crate::writing::{run, WriteCase};
 use plain::answer::number::{BLOB_TOO_LARGE, SETTING};
 use plain::decoding::ValueTable;
@@ -68,7 +70,7 @@ fn most_kept(answered: Answered, kind: Kind) -> usize {
         // What has nothing to do with the limits is met in other kinds.
         ((_, number, _), TWO_BLOB_LIMITS) if ![0, SETTING, BLOB_TOO_LARGE].contains(&number) => 0,
         ((op::ENCODE, 0, column), TWO_BLOB_LIMITS) if ![13, 14, NO_COLUMN].contains(&column) => 0,
-        ((op::DECODE, 0, IS_ROW), _) => 4,
+        ((op::DECODE, 0, IS_ROW), _) => 2,
         ((op::SKIP | op::RUN | op::DECODE, _, _), _) => 1,
         ((op::ENCODE, 0, 12), "scalars") => 12,
         ((op::ENCODE, 0, _), "scalars" | "limits") => 3,
@@ -79,7 +81,7 @@ fn most_kept(answered: Answered, kind: Kind) -> usize {
         ((op::ENCODE, _, _), _) => 1,
         ((op::CHECK_TABLE, _, _), _) => 2,
         ((op::BUILD_INDEX.., _, _), _) => 1,
-        _ => 2,
+        _ => 1,
     }
 }
 
@@ -100,8 +102,11 @@ struct Sample {
 }
 
 impl Sample {
-    /// Keeps a fair choice of all cases that come for one place.
+    /// Keeps a fair choice of all cases that come for one place. What there is to show of names is chosen by hand.
     fn offer(&mut self, rng: &mut Rng, kind: Kind, case: Case) {
+        if kind == NAMES {
+            return;
+        }
         let answered = answered(&case, &plain_answer(&case));
         let most = most_kept(answered, kind);
         let (met, kept) = self.kept.entry((answered, kind_told(answered, kind))).or_default();
@@ -178,6 +183,7 @@ fn schema(seed: u64) -> Vec<(Kind, Case)> {
     let mut chosen = sample.chosen();
     words::few(&mut |kind, case| chosen.push((kind, case)));
     edges::few(&mut |kind, case| chosen.push((kind, case)));
+    named_edges::few(&mut |kind, case| chosen.push((kind, case)));
     chosen
 }
 
@@ -196,6 +202,12 @@ fn reading(seed: u64) -> Vec<(Kind, Case)> {
     let mut chosen = sample.chosen();
     rows::edges::few(&mut |kind, case| chosen.push((kind, case)));
     rows::decoding::few(LONGEST_ROWS, &mut |kind, case| chosen.push((kind, case)));
+    named_edges::few_rows(&mut |kind, case| {
+        if case.op == op::SKIP {
+            chosen.push((kind, Room::EXACT.lend(Case { op: op::DECODE, ..case.clone() })));
+        }
+        chosen.push((kind, case));
+    });
     chosen
 }
 

@@ -65,6 +65,12 @@ fn building() {
     );
 }
 
+/// A name that is no text: every call is refused, and building comes first.
+#[test]
+fn names() {
+    each_is_found("build", &["rows_are_read_whatever_the_names"]);
+}
+
 /// A limit for string32 and another for yson32: every call takes both, and building comes first.
 #[test]
 fn blob_limits() {

@@ -46,6 +46,13 @@ fn a_format_that_is_none() {
     found("passes_every_format", 0, &["THE CHECK OF THE FORMAT IS ANSWERED OTHERWISE"]);
 }
 
+/// Names that are no text, in every call that reads by a format.
+#[test]
+fn names_that_are_not_looked_at() {
+    found("rows_are_read_whatever_the_names", 64, &["plain:    returned 33", "original: outside"]);
+    found("names_come_before_settings", 64, &["library:  returned 33", "plain:    returned 1:"]);
+}
+
 #[test]
 fn a_name_in_capitals() {
     let (code, text) = run("reads_names_in_capitals", "1000000");

@@ -71,6 +71,8 @@ fn each_fault_is_found() {
         "accepts_a_second_tree",
         "accepts_a_start_off_by_one",
         "passes_a_column_without_a_name",
+        "encoder_does_not_look_at_names",
+        "encoder_looks_at_names_after_its_rules",
         "value_loses_its_sign",
     ] {
         let (code, text) = run(fault, "60000");

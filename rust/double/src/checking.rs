@@ -2,21 +2,24 @@
 
 use plain::answer::number::TABLE_SCHEMA_CHILD_MISSING_NAME;
 use plain::answer::Checked;
-use plain::format::{validate_encoder, validate_format};
 use plain::report::Report;
 use plain::tables::{Block, FormatTables};
 use plain::value_table::{case, value, value_record};
 use plain::wire_type::parse;
 
 use crate::fault::{looks_past, named};
+use crate::naming::{checked_encoder, checked_format};
 
 pub fn format_answer(tables: &FormatTables, answer: &mut [u8]) -> u32 {
-    let checked: Checked = if named() == "passes_every_format" { Ok(()) } else { validate_format(tables) };
+    let checked: Checked = match named() {
+        "passes_every_format" => Ok(()),
+        _ => checked_format(tables),
+    };
     Report::of_checked(&checked).write_to(answer)
 }
 
 pub fn block_answer(records: &[u8], names: &[u8], block: Block, answer: &mut [u8]) -> u32 {
-    let mut checked = validate_encoder(records, names, block);
+    let mut checked = checked_encoder(records, names, block);
     if named() == "passes_a_column_without_a_name"
         && checked.is_err_and(|refusal| refusal.number == TABLE_SCHEMA_CHILD_MISSING_NAME)
     {

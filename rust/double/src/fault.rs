@@ -6,6 +6,8 @@ use std::sync::atomic::{AtomicU64, Ordering::SeqCst};
 use std::sync::OnceLock;
 use std::thread::yield_now;
 
+use plain::answer::number::NAME_NOT_UTF8;
+use plain::format::validate_format;
 use plain::report::{what, Report, REPORT_BYTES};
 use plain::settings::{numbers_are_good, Settings, MOST};
 use plain::wire_type::{STRING32, YSON32};
@@ -104,8 +106,12 @@ fn report(fault: &str, call: &Call) -> Report {
             let report = Call { settings: higher, ..*call }.report();
             with_own_limits(report, &settings)
         }
+        "names_come_before_settings" if right.number == 1 => match validate_format(&call.tables) {
+            Err(refusal) if refusal.number == NAME_NOT_UTF8 => Report::of_checked(&Err(refusal)),
+            _ => right,
+        },
         "end_before_the_format" if at_end(call) => Report { what: what::END, ..Report::default() },
-        "place_counts_from_the_row" if refused && right.number > 10 => {
+        "place_counts_from_the_row" if refused && (11..=17).contains(&right.number) => {
             let start = if call.is_run { right.bytes } else { call.position };
             Report { place: right.place - start, ..right }
         }

@@ -10,6 +10,7 @@ mod encoding;
 mod fault;
 mod indexing;
 mod integer;
+mod naming;
 mod viewing;
 
 use std::slice;
@@ -46,7 +47,7 @@ impl Call<'_> {
             return Report { what: what::REFUSAL, number: 1, ..Report::default() };
         }
         let ran = self.report();
-        let start = if ran.number > 10 { bytes } else { 0 };
+        let start = if (11..=17).contains(&ran.number) { bytes } else { 0 };
         Report {
             place: ran.place + start,
             rows: ran.rows + rows,
@@ -81,9 +82,11 @@ macro_rules! reading_call {
             answer: *mut u8,
             answer_len: usize,
         ) -> u32 {
+            let names = slice::from_raw_parts(names, names_len);
+            let taken = naming::taken_store("rows_are_read_whatever_the_names", names);
             let tables = FormatTables {
                 records: slice::from_raw_parts(records, records_len),
-                names: slice::from_raw_parts(names, names_len),
+                names: taken.as_deref().unwrap_or(names),
                 references: slice::from_raw_parts(references, references_len),
                 registry: slice::from_raw_parts(registry, registry_len),
             };
@@ -210,10 +213,12 @@ pub unsafe extern "C" fn skiff_encode(
     answer_len: usize,
 ) -> u32 {
     let settings = Settings { node_charge, max_string32_bytes, max_yson32_bytes, max_row_bytes };
+    let names = slice::from_raw_parts(names, names_len);
+    let taken = naming::taken_store("encoder_does_not_look_at_names", names);
     let given = Given {
         settings: fault::taken(settings),
         records: slice::from_raw_parts(records, records_len),
-        names: slice::from_raw_parts(names, names_len),
+        names: taken.as_deref().unwrap_or(names),
         block: Block { first, count },
         value_records: slice::from_raw_parts(value_records, value_records_len),
         payload: slice::from_raw_parts(payload, payload_len),

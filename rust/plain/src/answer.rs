@@ -26,6 +26,7 @@ pub mod number {
     pub const NO_INDEX_ROOM: u64 = 30;
     pub const INDEX_MISMATCH: u64 = 31;
     pub const NO_SUCH_ROW: u64 = 32;
+    pub const NAME_NOT_UTF8: u64 = 33;
 }
 
 /// What a stream was cut in, as 12 carries it. A fixed type's context is its own wire code, 1 to 12.

@@ -4,7 +4,7 @@
 //! It is meant to be compared with the document by eye. Every check runs over everything before the
 //! next check begins, which is the order of refusals as it is written, and nothing is clever.
 //!
-//! The format side: [`wire_type`], [`tables`], [`forms`], [`depth`], [`rules`] and the calls in
+//! The format side: [`wire_type`], [`tables`], [`forms`], [`depth`], [`names`], [`rules`] and the calls in
 //! [`format`]. Reading: [`settings`], the [`walk`] over a row, the calls in [`reading`] and
 //! [`decoding`], and the [`report`] that the C functions write. Writing: [`value_table`] and
 //! [`encoding`]. Row starts beside a stream: [`indexing`]. What a host sees of a decoded row, record by record:
@@ -19,6 +19,7 @@ pub mod forms;
 pub mod indexing;
 pub mod integer;
 pub mod listing;
+pub mod names;
 pub mod reading;
 pub mod report;
 pub mod rules;

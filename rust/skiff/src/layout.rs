@@ -51,7 +51,7 @@ impl<'a> SchemaBlock<'a> {
         Some(Node { wire_type, name, first_child: number(record, 8, 4), children: number(record, 12, 4) })
     }
 
-    /// The names of the columns, in order.
+    /// The names of the columns, in order; UTF-8 where the library has accepted the schema.
     pub fn columns(&self) -> Columns<'a> {
         Columns { block: *self, root: self.node(0), next: 0 }
     }

@@ -213,10 +213,12 @@ impl Walk<'_> {
 }
 
 /// To the schema record that a refusal of a format is about: the table or the schema of the registry, and the
-/// way from its root.
+/// way from its root. Of a name that is no text, which one it is.
 pub(crate) fn in_format(format: &Format, refusal: &Refusal) -> Option<String> {
-    if let Refusal::UnknownRegistryReference { table, .. } = refusal {
-        return Some(format!("table {table}"));
+    match refusal {
+        Refusal::UnknownRegistryReference { table, .. } => return Some(format!("table {table}")),
+        Refusal::NameNotUtf8 => return format.bad_name().map(|bad| bad.to_string()),
+        _ => {}
     }
     let tables = (0..=u16::MAX).take(format.tables());
     let tables = tables.map_while(|table| Some((format!("table {table}"), format.table_schema(table)?)));
@@ -238,6 +240,9 @@ fn join(owner: String, path: String) -> String {
 
 /// From a block's root to the schema record that a refusal is about. None where it is about none of the block's.
 pub(crate) fn in_block(block: &SchemaBlock, refusal: &Refusal) -> Option<String> {
+    if *refusal == Refusal::NameNotUtf8 {
+        return block.bad_name().map(|bad| bad.to_string());
+    }
     if !is_about_a_record(refusal) {
         return None;
     }

@@ -217,6 +217,9 @@ pub enum Refusal {
     IndexMismatch,
     /// The index has no record of that number.
     NoSuchRow,
+    /// A name of a format or of a schema is not well-formed UTF-8. [`crate::Format::bad_name`] and
+    /// [`crate::SchemaBlock::bad_name`] say which one.
+    NameNotUtf8,
     /// A number that this crate does not know, or not with these values.
     Unknown {
         /// The number.
@@ -230,7 +233,7 @@ pub enum Refusal {
 
 /// The words of the refusals: the number, the name, and what each carried value is. include/check-refusals
 /// compares them with the rules' and with the header's.
-const WORDS: [(u64, &str, &[&str]); 24] = [
+const WORDS: [(u64, &str, &[&str]); 25] = [
     (1, "Setting", &[]),
     (2, "BadSchemaTable", &[]),
     (3, "TooDeep", &[]),
@@ -255,6 +258,7 @@ const WORDS: [(u64, &str, &[&str]); 24] = [
     (30, "NoIndexRoom", &[]),
     (31, "IndexMismatch", &[]),
     (32, "NoSuchRow", &[]),
+    (33, "NameNotUtf8", &[]),
 ];
 
 impl Refusal {
@@ -298,6 +302,7 @@ impl Refusal {
                 30 => Self::NoIndexRoom,
                 31 => Self::IndexMismatch,
                 32 => Self::NoSuchRow,
+                33 => Self::NameNotUtf8,
                 _ => return None,
             })
         };
@@ -345,6 +350,7 @@ impl Refusal {
             Self::NoIndexRoom => (30, 0, [0; 3]),
             Self::IndexMismatch => (31, 0, [0; 3]),
             Self::NoSuchRow => (32, 0, [0; 3]),
+            Self::NameNotUtf8 => (33, 0, [0; 3]),
             Self::Unknown { number, place, carried } => (number, place, carried),
         }
     }
@@ -420,7 +426,7 @@ impl std::error::Error for Refusal {}
 mod tests {
     use super::*;
 
-    const WITHOUT_PLACE: [u64; 8] = [1, 2, 3, 6, 18, 30, 31, 32];
+    const WITHOUT_PLACE: [u64; 9] = [1, 2, 3, 6, 18, 30, 31, 32, 33];
 
     /// One of each. Wire code 3 is also a context. A refusal that carries less has zeros, and one without a
     /// place 0.
@@ -460,6 +466,8 @@ mod tests {
             (13, 0, [1, 1, 0]),
             (30, 1, [0; 3]),
             (31, 0, [1, 0, 0]),
+            (33, 2, [0; 3]),
+            (33, 0, [2, 0, 0]),
         ];
         for (number, place, carried) in all.into_iter().chain(more) {
             let refusal = Refusal::from_numbers(number, place, carried);
@@ -492,6 +500,7 @@ mod tests {
         assert_eq!(words(12, [8, 0, 0]), "refused 12 Truncated (context 8 uint8) at 7");
         assert_eq!(words(16, [2, 3, 0]), "refused 16 TupleLength (expected 2, actual 3) at 7");
         assert_eq!(Refusal::NoSuchRow.to_string(), "refused 32 NoSuchRow at 0");
+        assert_eq!(Refusal::NameNotUtf8.to_string(), "refused 33 NameNotUtf8 at 0");
         assert_eq!(words(1, [0; 3]), "refused 1 Unknown (first 0, second 0, third 0) at 7");
     }
 

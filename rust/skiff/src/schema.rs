@@ -22,7 +22,7 @@ use crate::{Format, SchemaBlock, WireType};
 pub struct Schema {
     /// How it is written on the wire.
     pub wire_type: WireType,
-    /// Any bytes; a table's columns need one.
+    /// UTF-8, which the calls that read or write by it check; a table's columns need one.
     pub name: Option<Vec<u8>>,
     /// What stands below it.
     pub children: Vec<Schema>,

@@ -143,6 +143,8 @@ extern "C" {
         answer: *mut u8,
         answer_len: usize,
     ) -> u32;
+    #[link_name = "skiff2_check_name"]
+    fn skiff_check_name(name: *const u8, name_len: usize, answer: *mut u8, answer_len: usize) -> u32;
     #[link_name = "skiff2_parse"]
     fn skiff_parse(name: *const u8, name_len: usize, answer: *mut u8, answer_len: usize) -> u32;
     #[link_name = "skiff2_value"]
@@ -398,6 +400,13 @@ pub fn check_encoder_schema(records: &[u8], names: &[u8], first: u64, count: u64
         lend!(skiff_check_encoder_schema: read records; read names; number first; number count;
             written answer;)
     }
+}
+
+/// `skiff_check_name`: the refusal's number, 0 where the string is well-formed UTF-8.
+#[inline]
+pub fn check_name(name: &[u8], answer: &mut [u8]) -> u32 {
+    // SAFETY: as in `skip`.
+    unsafe { lend!(skiff_check_name: read name; written answer;) }
 }
 
 /// `skiff_parse`: 0, the wire type's code being in the answer; 1 where the answer slice is too short.

@@ -14,7 +14,7 @@ fn snippets(text: &str) -> Vec<&str> {
 #[test]
 fn the_projects_snippets_are_compiled() {
     let own = include_str!("../README.md");
-    assert_eq!(snippets(own).len(), 4);
+    assert_eq!(snippets(own).len(), 5);
     let project = std::fs::read_to_string(format!("{FOLDER}/../../README.md")).expect("it is there");
     assert!(!snippets(&project).is_empty());
     for snippet in snippets(&project) {

@@ -133,7 +133,8 @@ fn table_counts(emit: &mut Emit) {
     for entries in [255_u16, 256, 257, 2000] {
         let mut case = good.clone();
         for number in 0..entries {
-            case.names.extend(number.to_be_bytes());
+            // In order, and text: two digits of seven bits.
+            case.names.extend([(number >> 7) as u8, (number % 128) as u8]);
             case.registry.extend(words([2 * u32::from(number), 2, 0, 1]));
         }
         for number in [0, entries / 2, entries - 1] {
@@ -209,10 +210,10 @@ pub fn fixed(emit: &mut Emit) {
     long_names(emit);
 }
 
-/// The bounds again in a few cases small enough to be kept in a file: both sides by one call, and what every
-/// call refuses.
+/// The bounds again in a few cases small enough to be kept in a file: both sides by one call, of the repeated ones in
+/// the rows' sample, and what every call refuses.
 pub fn few(emit: &mut Emit) {
-    for (code, count) in [(15, 256), (15, 257), (17, 255)] {
+    for (code, count) in [(15, 256), (15, 257)] {
         emit("child count edge", in_call(op::VALIDATE, 3, &table_of(&fan(code, count, 2))));
     }
     for op in [op::VALIDATE, op::ENCODER, op::FORMAT, op::TABLE_SCHEMA] {

@@ -28,7 +28,7 @@ impl Pool {
     }
 }
 
-fn registry_entry(names: &mut Vec<u8>, name: &[u8], block: Block) -> [u8; 16] {
+pub(super) fn registry_entry(names: &mut Vec<u8>, name: &[u8], block: Block) -> [u8; 16] {
     let start = put_name(names, name);
     words([start, name.len() as u32, block.first as u32, block.count as u32])
 }
@@ -114,7 +114,7 @@ pub fn random_table(rng: &mut Rng) -> Case {
     Case { op: op::TABLE_SCHEMA, a: table, ..case }
 }
 
-/// Names of any bytes, which the original can't hold: high bytes, cut characters, zeros.
+/// Names of any bytes, most of which the original can't hold: high bytes, cut characters, zeros.
 pub fn not_utf8(rng: &mut Rng) -> Case {
     let mut name = |rng: &mut Rng| -> Vec<u8> {
         (0..rng.below(4)).map(|_| *rng.pick(&[0, 1, b'a', 0x7F, 0x80, 0xC3, 0xA9, 0xFE, 0xFF])).collect()

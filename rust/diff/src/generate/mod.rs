@@ -7,6 +7,9 @@ pub mod exhaustive;
 pub mod formats;
 pub mod indexes;
 pub mod integers;
+pub mod named_edges;
+pub mod named_formats;
+pub mod names;
 pub mod rows;
 pub mod small_formats;
 pub mod trees;
@@ -22,6 +25,9 @@ pub type Kind = &'static str;
 /// Random cases with a limit for string32 and another for yson32.
 pub const TWO_BLOB_LIMITS: Kind = "two blob limits";
 
+/// Fixed cases with names that are no text, or are in an unusual way.
+pub const NAMES: Kind = "names";
+
 /// Takes the cases one by one.
 pub type Emit<'a> = dyn FnMut(Kind, Case) + 'a;
 
@@ -31,6 +37,7 @@ pub fn fixed(emit: &mut Emit) {
     exhaustive::fixed(emit);
     small_formats::fixed(emit);
     edges::fixed(emit);
+    named_edges::fixed(emit);
 }
 
 /// One random case.

@@ -10,7 +10,7 @@ pub mod values;
 use std::collections::BTreeSet;
 use std::fmt;
 
-use plain::answer::number::{NO_NODE_ROOM, NO_PAYLOAD_ROOM};
+use plain::answer::number::{NAME_NOT_UTF8, NO_NODE_ROOM, NO_PAYLOAD_ROOM};
 use plain::report::Report;
 use plain::settings::Settings;
 use skiff::sys::{self, Numbers};
@@ -99,7 +99,7 @@ impl Given<'_> {
 }
 
 /// What an answer slice of so many bytes holds before a call.
-fn unanswered(bytes: usize) -> Vec<u8> {
+pub(crate) fn unanswered(bytes: usize) -> Vec<u8> {
     (0..bytes).map(filling).collect()
 }
 
@@ -227,7 +227,11 @@ impl Verdict {
 /// What every run has to meet: each refusal of reading, each context of a cut, and blobs under two limits.
 fn unmet(call: &str, tally: &Tally, more: &[u64]) -> Vec<String> {
     let numbers: BTreeSet<u64> = (0..=17).filter(|number| ![9, 15, 16].contains(number)).collect();
-    let numbers = numbers.iter().chain(more).filter(|number| !tally.numbers.contains_key(number));
+    let numbers = numbers
+        .iter()
+        .chain(&[NAME_NOT_UTF8])
+        .chain(more)
+        .filter(|number| !tally.numbers.contains_key(number));
     let contexts = (1..=17).filter(|context| !tally.contexts.contains_key(context));
     numbers
         .map(|number| format!("{call} answer {number}"))

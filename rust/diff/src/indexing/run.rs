@@ -3,9 +3,7 @@
 use std::collections::BTreeMap;
 use std::fmt;
 
-use plain::answer::number::{
-    INDEX_MISMATCH, NO_INDEX_ROOM, NO_NODE_ROOM, NO_PAYLOAD_ROOM, NO_SUCH_ROW, SETTING,
-};
+use plain::answer::number::{INDEX_MISMATCH, NO_INDEX_ROOM, NO_NODE_ROOM, NO_PAYLOAD_ROOM, NO_SUCH_ROW};
 
 use super::{filled_lent, left_over, Call, IndexCase, Left, CALLS};
 use crate::blob_limits::BlobLimits;
@@ -58,7 +56,7 @@ impl fmt::Display for Tally {
 }
 
 /// What the format and the rows are refused by, in every call.
-const OF_STREAMS: [u64; 14] = [0, 1, 2, 3, 4, 5, 6, 7, 8, 10, 11, 13, 14, 17];
+const OF_STREAMS: [u64; 15] = [0, 1, 2, 3, 4, 5, 6, 7, 8, 10, 11, 13, 14, 17, 33];
 
 fn own(call: Call) -> &'static [u64] {
     match call {
@@ -137,7 +135,7 @@ fn verdict(case: &IndexCase, number: u64, tally: &mut Tally) -> Result<(), Strin
     }
     // What the original does not know is refused where it has to be; all else it is asked about.
     let unknown = laid::index_refusal(case);
-    if unknown.map_or([SETTING, 2, 3].contains(&answer), |unknown| unknown != answer) {
+    if unknown.map_or(laid::UNKNOWN.contains(&answer), |unknown| unknown != answer) {
         return Err(format!("plain: {:?}; for what the original does not know: {unknown:?}", plain.report));
     }
     let original = original::ask(case, lent.clone());

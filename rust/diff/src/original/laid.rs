@@ -1,9 +1,10 @@
 //! What the original has no rules for: numbers out of their bounds (1), flat tables that were laid out from no tree
-//! (2, and 18 for values), trees that are too deep (3). Where none of that is so the original is asked, whatever the
-//! plain reading says. Tables were laid out from trees where laying out again what they seem to hold gives the same
-//! bytes.
+//! (2, and 18 for values), trees that are too deep (3), names that its strings can't hold (33). Where none of that is
+//! so the original is asked, whatever the plain reading says. Tables were laid out from trees where laying out again
+//! what they seem to hold gives the same bytes; which names are UTF-8 the standard library says.
 
 use oracle::Value;
+use plain::answer::number::{BAD_SCHEMA_TABLE, NAME_NOT_UTF8, SETTING, TOO_DEEP};
 use plain::decoding::ValueTable;
 use plain::settings::{Settings, MOST, MOST_NODE_CHARGE};
 use plain::tables::Block;
@@ -15,6 +16,9 @@ use crate::indexing::{Call, IndexCase};
 use crate::judge::lone_block;
 use crate::plan::{inline, record, words};
 use crate::writing::WriteCase;
+
+/// The refusals of formats and settings that the original does not know.
+pub const UNKNOWN: [u64; 4] = [SETTING, BAD_SCHEMA_TABLE, TOO_DEEP, NAME_NOT_UTF8];
 
 /// Levels of a tree, nodes of a block.
 const MOST_LEVELS: usize = 64;
@@ -29,13 +33,35 @@ fn name(names: &[u8], start: u32, length: u32) -> Option<&[u8]> {
     names.get(start as usize..start as usize + length as usize)
 }
 
-/// How many levels the tree has that a block was laid out from; none where it was laid out from no tree.
-fn levels(records: &[u8], names: &[u8], block: Block) -> Option<usize> {
+/// What trees were laid out, of which the deepest has so many levels.
+#[derive(Debug, Clone, Copy)]
+struct Trees {
+    levels: usize,
+    /// Whether a string of the original can hold each of their names.
+    are_text: bool,
+}
+
+impl Trees {
+    const NONE: Self = Self { levels: 0, are_text: true };
+
+    fn meet(&mut self, more: Self) {
+        self.levels = self.levels.max(more.levels);
+        self.are_text &= more.are_text;
+    }
+
+    fn meet_name(&mut self, name: &[u8]) {
+        self.are_text &= std::str::from_utf8(name).is_ok();
+    }
+}
+
+/// The tree that a block was laid out from; none where it was laid out from no tree.
+fn tree(records: &[u8], names: &[u8], block: Block) -> Option<Trees> {
     let [first, count] = [block.first, block.count].map(|number| usize::try_from(number).ok());
     let (first, count) = (first?, count.filter(|count| (1..=MOST_NODES).contains(count))?);
     let given = records.get(first.checked_mul(16)?..first.checked_add(count)?.checked_mul(16)?)?;
     // The level of each node that was met as a child, in the order in which they were.
     let mut levels = vec![1];
+    let mut tree = Trees::NONE;
     for (index, given) in given.chunks_exact(16).enumerate() {
         let level = *levels.get(index)?;
         let children = word(given, 12);
@@ -48,19 +74,22 @@ fn levels(records: &[u8], names: &[u8], block: Block) -> Option<usize> {
             0 => record(given[0], 0, 0, 0, first_child, children),
             _ => record(given[0], 1, length, start, first_child, children),
         };
-        if given[0] > 19 || *given != again || name(names, start, u32::from(length)).is_none() {
+        if given[0] > 19 || *given != again {
             return None;
         }
+        tree.meet_name(name(names, start, u32::from(length))?);
         levels.resize(levels.len() + children as usize, level + 1);
     }
-    (levels.len() == count).then(|| levels.into_iter().max().unwrap_or(0))
+    let levels = (levels.len() == count).then(|| levels.into_iter().max())??;
+    Some(Trees { levels, ..tree })
 }
 
-/// The refusal that a tree's levels stand for, if they do for one.
-fn by_levels(levels: Option<usize>) -> Option<u64> {
-    match levels {
-        None => Some(2),
-        Some(levels) => (levels > MOST_LEVELS).then_some(3),
+/// The refusal that trees stand for, if they do for one.
+fn refusal_of(trees: Option<Trees>) -> Option<u64> {
+    match trees {
+        None => Some(BAD_SCHEMA_TABLE),
+        Some(trees) if trees.levels > MOST_LEVELS => Some(TOO_DEEP),
+        Some(trees) => (!trees.are_text).then_some(NAME_NOT_UTF8),
     }
 }
 
@@ -68,43 +97,45 @@ fn is_whole(table: &[u8]) -> bool {
     table.len() % 16 == 0
 }
 
-/// 2 or 3, where a lone block is to be refused so.
+/// 2, 3 or 33, where a lone block is to be refused so.
 pub fn block_refusal(case: &Case, block: Block) -> Option<u64> {
-    let levels = levels(&case.records, &case.names, block);
-    by_levels(levels.filter(|_| is_whole(&case.records)))
+    let tree = tree(&case.records, &case.names, block);
+    refusal_of(tree.filter(|_| is_whole(&case.records)))
 }
 
-/// The same of a format. All forms come before all depths.
+/// The same of a format. All forms come before all depths, and these before all names.
 pub fn format_refusal(case: &Case) -> Option<u64> {
     let Case { records, names, references, registry, .. } = case;
     if ![records, references, registry].into_iter().all(|table| is_whole(table)) {
         return Some(2);
     }
-    let mut deepest = 0;
-    let mut meet = |first: u32, count: u32| {
+    let meet = |trees: &mut Trees, first: u32, count: u32| {
         let block = Block { first: first.into(), count: count.into() };
-        deepest = deepest.max(levels(records, names, block)?);
+        trees.meet(tree(records, names, block)?);
         Some(block)
     };
-    let reference = |given: &[u8], meet: &mut dyn FnMut(u32, u32) -> Option<Block>| {
+    let reference = |given: &[u8], trees: &mut Trees| {
         let (one, other) = (word(given, 4), word(given, 8));
         let again = if given[0] == 0 {
-            inline(meet(one, other)?)
+            inline(meet(trees, one, other)?)
         } else {
-            name(names, one, other).map(|_| words([1, one, other, 0]))?
+            trees.meet_name(name(names, one, other)?);
+            words([1, one, other, 0])
         };
         (*given == again).then_some(())
     };
     // A map's entries: each name once, in order.
     let mut before: Option<&[u8]> = None;
-    let mut entry = |given: &[u8], meet: &mut dyn FnMut(u32, u32) -> Option<Block>| {
+    let mut entry = |given: &[u8], trees: &mut Trees| {
         let name = name(names, word(given, 0), word(given, 4))?;
+        trees.meet_name(name);
         let ascends = before.replace(name).is_none_or(|before| before < name);
-        meet(word(given, 8), word(given, 12)).filter(|_| ascends).map(|_| ())
+        meet(trees, word(given, 8), word(given, 12)).filter(|_| ascends).map(|_| ())
     };
-    let laid_out = references.chunks_exact(16).all(|given| reference(given, &mut meet).is_some())
-        && registry.chunks_exact(16).all(|given| entry(given, &mut meet).is_some());
-    by_levels(laid_out.then_some(deepest))
+    let mut trees = Trees::NONE;
+    let laid_out = references.chunks_exact(16).all(|given| reference(given, &mut trees).is_some())
+        && registry.chunks_exact(16).all(|given| entry(given, &mut trees).is_some());
+    refusal_of(laid_out.then_some(trees))
 }
 
 fn are_in_bounds(settings: &Settings) -> bool {
@@ -170,19 +201,21 @@ mod tests {
     use crate::generate;
     use crate::judge::plain_answer;
     use crate::rng::Rng;
+    use std::collections::BTreeMap;
 
     /// Over good and damaged cases of all kinds the two ways to tell are one.
     #[test]
     fn layouts_are_told_as_the_plain_reading_tells_them() {
-        let mut met = [0; 4];
+        let mut met = BTreeMap::new();
         for number in 0..30_000 {
             let rng = &mut Rng::for_case(11, number);
             let (_, case) = if number % 2 == 0 { generate::random(rng) } else { generate::rows::random(rng) };
             let plain = plain_answer(&case).number;
             let told = refusal(&case);
-            assert_eq!(told.unwrap_or(0), if plain <= 3 { plain } else { 0 }, "{case:?}");
-            met[told.unwrap_or(0) as usize] += 1;
+            assert_eq!(told, Some(plain).filter(|number| UNKNOWN.contains(number)), "{case:?}");
+            *met.entry(told).or_insert(0) += 1;
         }
-        assert!(met.iter().all(|count| *count > 20), "{met:?}");
+        let all = UNKNOWN.map(Some).into_iter().chain([None]);
+        assert!(all.into_iter().all(|told| met.get(&told).is_some_and(|count| *count > 20)), "{met:?}");
     }
 }

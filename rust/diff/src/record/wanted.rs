@@ -13,7 +13,7 @@ use plain::wire_type::{BOOLEAN, INT128, INT256, STRING32, YSON32};
 use crate::case::{op, Answer, Case};
 use crate::generate::rows;
 
-use super::{wanted_indexes, wanted_limits, wanted_writes, Part};
+use super::{wanted_indexes, wanted_limits, wanted_names, wanted_writes, Part};
 
 /// Operation, number, and what there is to tell apart besides: what a cut stream was cut in, a row from an
 /// end, the wire type that an encoding call is about, and which of its two turns a mismatch with an index had.
@@ -49,16 +49,16 @@ fn schema_answers() -> BTreeSet<Answered> {
     plainly(&[
         (op::PARSE, &[0, 255]),
         (op::FIXED_WIDTH, &[0, 255]),
-        (op::VALIDATE, &[0, 2, 3, 4, 5]),
-        (op::ENCODER, &[0, 2, 3, 4, 5, 9, 10]),
-        (op::FORMAT, &[0, 2, 3, 4, 5, 6, 7, 8, 10]),
-        (op::TABLE_SCHEMA, &[0, 2, 3, 4, 5, 6, 7, 8, 10, 11]),
+        (op::VALIDATE, &[0, 2, 3, 33, 4, 5]),
+        (op::ENCODER, &[0, 2, 3, 33, 4, 5, 9, 10]),
+        (op::FORMAT, &[0, 2, 3, 33, 4, 5, 6, 7, 8, 10]),
+        (op::TABLE_SCHEMA, &[0, 2, 3, 33, 4, 5, 6, 7, 8, 10, 11]),
     ])
 }
 
 /// The same of the reading calls, and each with every context.
 fn reading_answers() -> BTreeSet<Answered> {
-    let reading = &[0, 1, 2, 3, 4, 5, 6, 7, 8, 10, 11, 13, 14, 17];
+    let reading = &[0, 1, 2, 3, 33, 4, 5, 6, 7, 8, 10, 11, 13, 14, 17];
     let mut answers = plainly(&READING.map(|op| (op, &reading[..])));
     answers.extend(plainly(&[(op::DECODE, &[NO_NODE_ROOM, NO_PAYLOAD_ROOM])]));
     answers.extend(READING.into_iter().flat_map(|op| (1..=17).map(move |context| (op, TRUNCATED, context))));
@@ -215,7 +215,8 @@ impl Wanted {
         let (answers, edges, mut shown, operations) = match part {
             Part::Reading => {
                 let answers = schema_answers().into_iter().chain(reading_answers()).collect();
-                (answers, edges(), decoded(), &READING[..])
+                let shown = decoded().into_iter().chain(wanted_names::shown()).collect();
+                (answers, edges(), shown, &READING[..])
             }
             Part::Writing => (wanted_writes::answers(), vec![], wanted_writes::shown(), &[op::ENCODE][..]),
             Part::Indexing => {

@@ -29,7 +29,7 @@ pub fn column(case: &Case) -> u64 {
 /// its children; both blobs past the limit.
 pub fn answers() -> BTreeSet<Answered> {
     let mut answers =
-        plainly(&[(op::ENCODE, &[1, 2, 3, 4, 5, 9, 10, 16, 18, 21]), (op::CHECK_TABLE, &[0, 18])]);
+        plainly(&[(op::ENCODE, &[1, 2, 3, 33, 4, 5, 9, 10, 16, 18, 21]), (op::CHECK_TABLE, &[0, 18])]);
     answers.extend((0..20).map(|code| (op::ENCODE, 0, code)));
     answers.extend((0..20).map(|code| (op::ENCODE, VALUE_DOES_NOT_MATCH_SCHEMA, code)));
     answers.extend((15..19).map(|code| (op::ENCODE, INVALID_VARIANT_TAG, code)));
@@ -189,7 +189,7 @@ fn room(show: &mut Show) {
     for (words, number, test) in places {
         show(words.to_owned(), placed(number, test));
     }
-    for number in [1, 2, 3, 4, 5, 9, 10, 14, 15, 16, 17, 18, 21] {
+    for number in [1, 2, 3, 33, 4, 5, 9, 10, 14, 15, 16, 17, 18, 21] {
         show(
             format!("refusal {number}, and an output that stays"),
             Box::new(move |case, answer| {

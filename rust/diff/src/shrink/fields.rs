@@ -1,5 +1,7 @@
 //! Plainer fields: no names, smaller numbers, zeros.
 
+use std::ops::Range;
+
 use crate::case::Case;
 
 /// Only small cases are gone through field by field.
@@ -42,7 +44,8 @@ fn numbers(case: &Case, found: &mut Vec<Case>) {
     found.extend(smaller(case.b).map(|b| Case { b, ..case.clone() }));
 }
 
-/// Stretches of the name store left out, with the starts behind them moved, and without.
+/// Stretches of the name store left out: with the starts behind them moved, without, and with the names shorter that
+/// they stood in.
 fn store(case: &Case, found: &mut Vec<Case>) {
     let has = case.names.len();
     let mut length = has;
@@ -54,9 +57,32 @@ fn store(case: &Case, found: &mut Vec<Case>) {
             let behind = (from + length) as u32;
             move_starts(&mut smaller, &|start| if start >= behind { start - length as u32 } else { start });
             found.push(smaller);
+            found.push(with_shorter_names(case, from as u32, behind));
         }
         length /= 2;
     }
+}
+
+/// The store without a stretch, and each name without as much of it as it had.
+fn with_shorter_names(case: &Case, from: u32, end: u32) -> Case {
+    let mut shorter = case.clone();
+    shorter.names.drain(from as usize..end as usize);
+    let field = |bytes: &[u8]| bytes.iter().rev().fold(0_u32, |number, byte| number << 8 | u32::from(*byte));
+    let left = |at: u32| at.min(from) + at.saturating_sub(end);
+    let change = |record: &mut [u8], start: usize, length: Range<usize>| {
+        let (begins, bytes) = (field(&record[start..start + 4]), field(&record[length.clone()]));
+        let ends = left(begins.saturating_add(bytes));
+        record[start..start + 4].copy_from_slice(&left(begins).to_le_bytes());
+        let bytes = ends.saturating_sub(left(begins)).to_le_bytes();
+        let kept = length.len();
+        record[length].copy_from_slice(&bytes[..kept]);
+    };
+    let records = shorter.records.chunks_exact_mut(16);
+    records.filter(|record| record[1] == 1).for_each(|record| change(record, 4, 2..4));
+    let references = shorter.references.chunks_exact_mut(16);
+    references.filter(|one| one[0] == 1).for_each(|one| change(one, 4, 8..12));
+    shorter.registry.chunks_exact_mut(16).for_each(|entry| change(entry, 0, 4..8));
+    shorter
 }
 
 fn move_starts(case: &mut Case, moved: &dyn Fn(u32) -> u32) {

@@ -127,7 +127,7 @@ fn verdict(case: &WriteCase, number: u64, tally: &mut Tally) -> Result<(), Strin
     }
     // What the original does not know is refused where it has to be; all else it is asked about.
     let unknown = laid::write_refusal(case);
-    if unknown.map_or([1, 2, 3].contains(&answer), |unknown| unknown != answer) {
+    if unknown.map_or(laid::UNKNOWN.contains(&answer), |unknown| unknown != answer) {
         return Err(format!("plain: {done:?}; for what the original does not know: {unknown:?}"));
     }
     let wrote = if unknown.is_none() { write(case) } else { None };
@@ -232,7 +232,8 @@ pub fn run(seed: u64, count: u64) -> Result<Tally, Stop> {
         return Err(Stop::Difference(Box::new(found)));
     }
     let met = |number: &u64| run.tally.numbers.contains_key(number);
-    let numbers = [0, 1, 2, 3, 4, 5, 9, 10, 14, 15, 16, 17, 18, 21].into_iter().filter(|number| !met(number));
+    let numbers =
+        [0, 1, 2, 3, 4, 5, 9, 10, 14, 15, 16, 17, 18, 21, 33].into_iter().filter(|number| !met(number));
     let mut unmet: Vec<String> = numbers.map(|number| format!("answer {number}")).collect();
     unmet.extend(run.tally.limits.unmet());
     if unmet.is_empty() {

@@ -6,6 +6,7 @@ mod format;
 mod indexing;
 mod integer;
 mod listing;
+mod names;
 mod reading;
 mod view;
 

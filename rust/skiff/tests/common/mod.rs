@@ -25,6 +25,18 @@ impl Chance {
         (0..length).map(|_| self.number() as u8).collect()
     }
 
+    /// Characters of one to four bytes.
+    pub fn text(&mut self, most: usize) -> String {
+        let length = self.below(most + 1);
+        let bits = [7, 11, 16, 20];
+        (0..length)
+            .map(|_| {
+                let number = self.number() as u32 & ((1 << bits[self.below(4)]) - 1);
+                char::from_u32(number).unwrap_or('\u{FFFD}')
+            })
+            .collect()
+    }
+
     fn wide<const N: usize>(&mut self) -> [u8; N] {
         std::array::from_fn(|_| self.number() as u8)
     }
@@ -42,7 +54,7 @@ impl Chance {
         let children: Vec<_> = (0..count).map(|_| self.schema(levels - 1)).collect();
         let node = Schema::node(wire_type, children);
         if self.below(3) == 0 {
-            return node.named(self.bytes(3));
+            return node.named(self.text(3));
         }
         node
     }

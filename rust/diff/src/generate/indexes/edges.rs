@@ -140,6 +140,8 @@ fn refused(emit: &mut Emit) {
     let good = three_rows();
     let mut bad_format = good.clone();
     bad_format.records[0] = 20;
+    let mut bad_name = good.clone();
+    bad_name.names[0] = 0xC0;
     let mut no_tables = good.clone();
     no_tables.references.clear();
     let no_charge = good.clone().with_settings(Settings { node_charge: 0, ..usual() });
@@ -149,7 +151,8 @@ fn refused(emit: &mut Emit) {
     let mut no_table = good.clone();
     no_table.input[15] = 3;
     let cut = stream(&good.input[..good.input.len() - 1]);
-    for stream in [&good, &bad_format, &no_tables, &no_charge, &poor, &wrong_tag, &no_table, &cut] {
+    for stream in [&good, &bad_format, &bad_name, &no_tables, &no_charge, &poor, &wrong_tag, &no_table, &cut]
+    {
         for bytes in [0, 15, 16, 31, 32, 47, 48, 49, 64] {
             let mut index = index_of(&good);
             index.resize(bytes, 0x5C);

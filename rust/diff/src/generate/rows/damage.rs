@@ -106,7 +106,7 @@ pub fn bad_format(rng: &mut Rng) -> Case {
     reading(rng, case)
 }
 
-/// Names of any bytes: outside the original's domain, inside ours.
+/// Names of any bytes, which are text by chance alone.
 pub fn not_utf8(rng: &mut Rng) -> Case {
     let mut case = formats::not_utf8(rng);
     if plain::format::validate_format(&crate::judge::tables(&case)).is_err() {

@@ -10,7 +10,7 @@ pub mod values;
 
 use plain::settings::Settings;
 
-use super::{Emit, Kind, TWO_BLOB_LIMITS};
+use super::{named_edges, Emit, Kind, TWO_BLOB_LIMITS};
 use crate::case::{op, Case};
 use crate::original::node_charge;
 use crate::rng::Rng;
@@ -19,6 +19,7 @@ use crate::rng::Rng;
 pub fn fixed(emit: &mut Emit) {
     edges::fixed(emit);
     exhaustive::fixed(emit);
+    named_edges::fixed_rows(emit);
 }
 
 /// One random case.

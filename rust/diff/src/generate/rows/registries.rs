@@ -115,7 +115,7 @@ impl Registry {
         }
     }
 
-    /// Names out of order, one twice, and one that is not UTF-8, deep in the registry.
+    /// Names out of order, one twice, and some that are not UTF-8, deep in the registry.
     fn damaged(&self, good: &Case, emit: &mut Emit) {
         let last = self.names.len() - 1;
         for index in [0, 254, 255, 256, last - 1].into_iter().filter(|index| *index < last) {
@@ -127,12 +127,31 @@ impl Registry {
             turned.registry[at..at + 16].copy_from_slice(&next);
             emit(KIND, Case { op: op::SKIP, ..turned });
         }
-        let mut case = Case { op: op::RUN, ..good.clone() };
-        let start = put_name(&mut case.names, b"\xFF\xFF");
-        let fields = [start, 2, self.blocks[1].first as u32, self.blocks[1].count as u32];
-        case.registry.extend(words(fields));
-        case.references.extend(words([1, start, 2, 0]));
-        emit(KIND, case);
+        // The last entry, referred to or not, and a reference to what is not there.
+        for (is_entry, is_reference) in [(true, true), (true, false), (false, true)] {
+            let mut case = Case { op: op::RUN, ..good.clone() };
+            let start = put_name(&mut case.names, b"\xFF\xFF");
+            if is_entry {
+                let fields = [start, 2, self.blocks[1].first as u32, self.blocks[1].count as u32];
+                case.registry.extend(words(fields));
+            }
+            if is_reference {
+                case.references.extend(words([1, start, 2, 0]));
+            }
+            emit(KIND, case);
+        }
+        // One in the middle, which begins as the one before it, comes right after that, and is referred to by none.
+        for index in [1, 128, 255].into_iter().filter(|index| *index < last) {
+            let name = [self.names[index - 1].as_bytes(), b"\xC0\x80"].concat();
+            if name.as_slice() < self.names[index].as_bytes() {
+                let mut case = Case { op: op::SKIP, ..good.clone() };
+                let start = put_name(&mut case.names, &name);
+                let fields =
+                    [start, name.len() as u32, self.blocks[1].first as u32, self.blocks[1].count as u32];
+                case.registry.splice(index * 16..index * 16, words(fields));
+                emit(KIND, case);
+            }
+        }
     }
 }
 
@@ -157,7 +176,10 @@ mod tests {
     fn names_are_there_or_not() {
         let mut answers: BTreeMap<u64, u64> = BTreeMap::new();
         fixed(&mut |_, case| *answers.entry(plain_report(&case).number).or_default() += 1);
-        assert_eq!(answers.keys().copied().collect::<Vec<_>>(), [0, 2, 7]);
-        assert!(answers[&0] > 50 && answers[&2] > 30 && answers[&7] > 150, "{answers:?}");
+        assert_eq!(answers.keys().copied().collect::<Vec<_>>(), [0, 2, 7, 33]);
+        assert!(
+            answers[&0] > 50 && answers[&2] > 30 && answers[&7] > 150 && answers[&33] > 15,
+            "{answers:?}"
+        );
     }
 }

@@ -7,10 +7,12 @@ use plain::wire_type::fixed_width;
 
 use super::draw::{lay_out, leaf, Body, Node};
 use super::{schema_of, Emit};
+use crate::generate::named_edges;
+use crate::generate::names::{BAD, GOOD};
 use crate::generate::rows::edges::{blob_limits, limits_around, BLOB_LENGTHS};
 use crate::generate::rows::usual;
 use crate::generate::rows::values::DOUBLES;
-use crate::generate::Kind;
+use crate::generate::{Kind, NAMES};
 use crate::plan::{chain, fan, over, table_of, Plan};
 use crate::rng::Rng;
 use crate::writing::WriteCase;
@@ -25,6 +27,7 @@ pub fn fixed(emit: &mut Emit) {
     depths(emit);
     widths(emit);
     every_byte(emit);
+    names(emit);
 }
 
 /// What a sample has to have, whatever its length: tags at and past the last, also at the last that one byte
@@ -54,6 +57,7 @@ pub fn few(emit: &mut Emit) {
         few_with(emit, "odd settings", &[Plan::new(13, 0)], blob(13, 1), settings);
     }
     few_blob_limits(emit);
+    few_names(emit);
 }
 
 /// Each of two limits at its blob's length, with the other at 0 too, one below it, and past its largest where no such
@@ -73,6 +77,50 @@ fn few_blob_limits(emit: &mut Emit) {
     for limits in [[1, 2], [0, 2], [2, 1]] {
         let both = tuple(vec![blob(13, 1), blob(14, 2)]);
         few_with(emit, "limits", &over(19, &[13, 14]), both, blob_limits(limits));
+    }
+}
+
+/// An uint8 under a column of this name, below a root without one.
+fn one_named(name: &[u8]) -> WriteCase {
+    let mut plans = table_of(&[Plan::new(8, 0)]);
+    plans[1].name = Some(name.to_vec());
+    let value = tuple(vec![Node::new(8, Body::Data([7, 0, 0, 0, 0, 0, 0, 0]))]);
+    WriteCase { schema: schema_of(&plans), value: lay_out(&value), output: 16, position: 2 }
+}
+
+/// A column whose name is no text: with good numbers and with bad ones, which come before it; and before a value table
+/// that is none, a value of another kind, and a root that is no tuple, which come after it.
+fn beside_bad_name(name: &[u8]) -> [WriteCase; 5] {
+    let right = one_named(name);
+    let schema = right.schema.clone().with_settings(Settings { node_charge: 0, ..usual() });
+    let mut ragged = right.clone();
+    ragged.value.records.pop();
+    let other = lay_out(&tuple(vec![Node::nothing()]));
+    let leaf = schema_of(&[Plan::named(8, 0, name)]);
+    [
+        right.clone(),
+        WriteCase { schema, ..right.clone() },
+        ragged,
+        WriteCase { value: other, ..right.clone() },
+        WriteCase { schema: leaf, ..right },
+    ]
+}
+
+/// Names of columns that are no text, and such as are in an unusual way.
+fn names(emit: &mut Emit) {
+    for (_, name) in BAD {
+        beside_bad_name(name).into_iter().for_each(|case| emit(NAMES, case));
+    }
+    GOOD.iter().for_each(|name| emit(NAMES, one_named(name.as_bytes())));
+}
+
+fn few_names(emit: &mut Emit) {
+    for name in named_edges::FEW {
+        emit(NAMES, one_named(name));
+    }
+    beside_bad_name(named_edges::FEW[1]).into_iter().skip(1).for_each(|case| emit(NAMES, case));
+    for name in ["é", "名", "\u{1F600}", "\0", "\u{FEFF}n", "\u{FFFF}"] {
+        emit(NAMES, one_named(name.as_bytes()));
     }
 }
 

@@ -7,6 +7,7 @@ pub mod tables;
 
 use plain::settings::{Settings, MOST, MOST_NODE_CHARGE};
 
+use super::names::BOUNDS;
 use super::rows::limits::two_limits;
 use super::rows::usual;
 use super::trees::{random_case, random_size, random_table_plans, widened, with_blobs};
@@ -146,9 +147,14 @@ pub fn random(rng: &mut Rng) -> (Kind, WriteCase) {
         }
         92..=95 => ("bad schemas", bad_schema(rng)),
         96..=97 => {
-            // Outside the original's domain, inside ours.
+            // What is no text in the store; some of it may be nobody's name.
             let (mut schema, mut value) = good(rng);
-            schema.names.fill(0xFF);
+            let at = rng.below(schema.names.len() + 1);
+            match rng.below(3) {
+                0 => schema.names.fill(0xFF),
+                1 => schema.names.iter_mut().skip(at).for_each(|byte| *byte = *rng.pick(&BOUNDS)),
+                _ => schema.names.iter_mut().skip(at).take(1).for_each(|byte| *byte = *rng.pick(&BOUNDS)),
+            }
             if rng.one_in(2) {
                 damage::value(rng, &mut value);
             }

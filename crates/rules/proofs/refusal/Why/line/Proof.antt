@@ -175,6 +175,12 @@ enum-told-8 c = search needs
 no-value-requires-8 : tie.Need-no-value-requires-8
 no-value-requires-8 c κs = search needs
 
+enum-told-9 : tie.Need-enum-told-9
+enum-told-9 c = search needs
+
+no-value-requires-9 : tie.Need-no-value-requires-9
+no-value-requires-9 c κs = search needs
+
 returns : tie.Need-returns
 unfolding inBytes labelsOf lineOf ascii
 returns c = rw (c .before .enum-told .given .1) (c .no-value .ensures)
@@ -271,6 +277,10 @@ returns-24 : tie.Need-returns-24
 unfolding inBytes labelsOf lineOf ascii
 returns-24 c = rw (c .before .enum-told8 .given .1) (c .no-value8 .ensures)
 
+returns-25 : tie.Need-returns-25
+unfolding inBytes labelsOf lineOf ascii
+returns-25 c = rw (c .before .enum-told9 .given .1) (c .no-value9 .ensures)
+
 pub line-spec : {M : Type 1} → statement M
 line-spec =
     tie.close
@@ -332,6 +342,8 @@ line-spec =
     no-value-requires-7
     enum-told-8
     no-value-requires-8
+    enum-told-9
+    no-value-requires-9
     returns
     returns-2
     returns-3
@@ -355,4 +367,5 @@ line-spec =
     returns-21
     returns-22
     returns-23
-    returns-24)
+    returns-24
+    returns-25)
