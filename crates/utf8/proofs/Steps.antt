@@ -5,15 +5,18 @@ use mathlib.Core.Path.{_≡_, refl, sym, ap, _∙_}
 use mathlib.Core.Bool.{Bool, true, false}
 use mathlib.Core.List.{List}
 use native.Mathlib.Omega.{arith}
+use borrow.Author.Tests.{lt-ltb, ltb-true, ltb-false}
+use lib.Dec.{ltb}
 use lib.ListN.{getD}
-use Rattle.rules.specs.Choice.{_and_}
+use Rattle.rules.specs.Choice.{pick, _and_}
 use Rattle.rules.specs.Bytes.{part}
 use Rattle.rules.specs.Utf8.{between, begins, awaited, lowest, highest, restUtf8, isUtf8}
-use Rattle.rules.proofs.Tests.{and-false, and-all, and-assoc}
-use Rattle.block_laws.proofs.FirstBytes.{by-range}
+use Rattle.rules.proofs.Tests.{and-both, and-false, and-all, and-assoc}
+use Rattle.block_laws.proofs.FirstBytes.{by-range, by-bounds, begins-is}
 use Rattle.block_laws.proofs.Characters.{between-characters}
 use Rattle.block_laws.proofs.Ascii.{ascii-before}
 use Rattle.utf8.specs.Ascii.{asciiAt}
+use Rattle.utf8.specs.Characters.{Character}
 use Rattle.utf8.proofs.Runs.{ascii-each}
 
 module _ (s : List ℕ) where
@@ -56,33 +59,53 @@ module _ (s : List ℕ) where
   cut (suc n) at zero low high h = refl
   cut (suc n) at (suc m) low high h = rw (cut n (at + 1) m 0x80 0xBF (omega arith)) (and-false _)
 
-  -- a turn of the check, of the span from `at` to `end`
+  -- the character at the start of the span from `at` to `end`, by its first byte
   module _ (at end : ℕ) (h : at < end) (b : ℕ) (is : b ≡ getD s at 0) where
-    pub begun : isUtf8 (part s at (end - at)) ≡ begins b and restUtf8 (awaited b) (lowest b) (highest b) (part s (at + 1) (end - (at + 1)))
+    begun : isUtf8 (part s at (end - at)) ≡ begins b and restUtf8 (awaited b) (lowest b) (highest b) (part s (at + 1) (end - (at + 1)))
     begun = let z : end - at ≡ suc (end - (at + 1)) = omega arith in rw (z, is) (first at (end - (at + 1)))
 
-    pub not-begun : (x : Bool) → x ≡ begins b → x ≡ false → false ≡ isUtf8 (part s at (end - at))
+    pub begins-none : begins b ≡ false → Character s at end 0
     unfolding _and_
-    not-begun x e a = sym (begun ∙ rw (← e, a))
+    begins-none e = record { none = λ z. begun ∙ rw e; within = omega arith; rest = λ l. absurd (omega arith) }
 
-    pub cut-short : end - (at + 1) < awaited b → false ≡ isUtf8 (part s at (end - at))
-    cut-short l = sym (begun ∙ (rw (cut (awaited b) (at + 1) (end - (at + 1)) (lowest b) (highest b) l) (and-false _)))
+    pub one-byte : b < 0x80 → Character s at end 1
+    unfolding begins awaited pick _and_
+    one-byte l = record {
+      none = λ z. absurd (omega arith);
+      within = omega arith;
+      rest = λ m. begun ∙ rw (lt-ltb b 0x80 l) (between-characters _ _ _);
+    }
 
-    -- the whole character is there
-    module _ (x : Bool) (g : x ≡ begins b) (gx : x ≡ true) (n : ℕ) (e : n ≡ awaited b) (l : n ≤ end - (at + 1)) (low high : ℕ) (p : low ≡ lowest b) (q : high ≡ highest b) (y : Bool) (f : y ≡ restUtf8 n low high (part s (at + 1) n)) where
-      whole : isUtf8 (part s at (end - at)) ≡ y and isUtf8 (part s ((at + 1) + n) (end - ((at + 1) + n)))
+    -- n bytes follow, and whether they are there and good was tested
+    module _ (g : begins b ≡ true) (n low high : ℕ) (e : n ≡ awaited b) (p : low ≡ lowest b) (q : high ≡ highest b) (x : Bool) (f : x ≡ ltb n (end - at) and restUtf8 n low high (part s (at + 1) n)) where
+      here : ltb n (end - at) ≡ true → isUtf8 (part s at (end - at)) ≡ restUtf8 n low high (part s (at + 1) n) and isUtf8 (part s ((at + 1) + n) (end - ((at + 1) + n)))
       unfolding _and_
-      whole =
+      here l =
+          let k = ltb-true n (end - at) l in
           let z : end - (at + 1) ≡ n + (end - ((at + 1) + n)) = omega arith in
-          begun ∙ rw (← g, gx, ← e, ← p, ← q, z, f) (after n (at + 1) (end - ((at + 1) + n)) low high)
+          begun ∙ rw (g, ← e, ← p, ← q, z) (after n (at + 1) (end - ((at + 1) + n)) low high)
 
-      pub off : y ≡ false → false ≡ isUtf8 (part s at (end - at))
+      not-here : ltb n (end - at) ≡ false → isUtf8 (part s at (end - at)) ≡ false
       unfolding _and_
-      off h = sym (whole ∙ rw h)
+      not-here l =
+          let k = ltb-false n (end - at) l in
+          begun ∙ rw (g, ← e, ← p, ← q) (cut n (at + 1) (end - (at + 1)) low high (omega arith))
 
-      pub on : y ≡ true → isUtf8 (part s ((at + 1) + n) (end - ((at + 1) + n))) ≡ isUtf8 (part s at (end - at))
+      pub bytes-off : x ≡ false → Character s at end 0
       unfolding _and_
-      on h = sym (whole ∙ rw h)
+      bytes-off z = record { none = λ y. by (ltb n (end - at)) refl; within = omega arith; rest = λ l. absurd (omega arith) }
+        where
+          by : (t : Bool) → ltb n (end - at) ≡ t → isUtf8 (part s at (end - at)) ≡ false
+          by false l = not-here l
+          by true l = let r = rw l at (sym f ∙ z) in here l ∙ rw r
+
+      pub bytes-on : x ≡ true → Character s at end (n + 1)
+      unfolding _and_
+      bytes-on z =
+          let r = and-both _ _ (sym f ∙ z) in
+          let k = ltb-true n (end - at) (r .0) in
+          let y : at + (n + 1) ≡ (at + 1) + n = omega arith in
+          record { none = λ w. absurd (omega arith); within = omega arith; rest = λ w. rw y (here (r .0) ∙ rw (r .1)) }
 
   -- before the first turn, and after the last
   pub from-eights : (start len r : ℕ) → start ≤ r → r ≤ start + len → asciiAt s start (r - start) ≡ true → isUtf8 (part s r ((start + len) - r)) ≡ isUtf8 (part s start len)
@@ -116,6 +139,28 @@ module _ (s : List ℕ) where
   unfolding restUtf8 part
   follows-none at n low high e = rw e
 
-pub awaited-few : (b : ℕ) → awaited b ≤ 3
+-- ---- first bytes by their ranges
+pub begins-in : (b : ℕ) → 0xC2 ≤ b → b < 0xF5 → begins b ≡ true
+begins-in b l h = begins-is b (omega arith) .1 (l, omega arith)
+
+pub begins-nothing : (b : ℕ) → 0x80 ≤ b → ((0xC2 ≤ b) × (b ≤ 0xF4) → ⊥) → begins b ≡ false
+begins-nothing b l h = by (begins b) refl
+  where
+    by : (x : Bool) → begins b ≡ x → x ≡ false
+    by false e = refl
+    by true e = absurd (h (begins-is b l .0 e))
+
+pub awaits-one : (b : ℕ) → 0x80 ≤ b → b < 0xE0 → 1 ≡ awaited b
 unfolding awaited
-awaited-few b = by-range 0x80 0xE0 0xF0 b (λ n. n ≤ 3) (omega arith)
+awaits-one b l h = by-range 0x80 0xE0 0xF0 b (λ k. 1 ≡ k) (omega arith)
+
+pub awaits-two : (b : ℕ) → 0xE0 ≤ b → b < 0xF0 → 2 ≡ awaited b
+unfolding awaited
+awaits-two b l h = by-range 0x80 0xE0 0xF0 b (λ k. 2 ≡ k) (omega arith)
+
+pub awaits-three : (b : ℕ) → 0xF0 ≤ b → 3 ≡ awaited b
+unfolding awaited
+awaits-three b l = by-range 0x80 0xE0 0xF0 b (λ k. 3 ≡ k) (omega arith)
+
+pub plain-bounds : (b : ℕ) → b < 0xE0 → (0x80 ≡ lowest b) × (0xBF ≡ highest b)
+plain-bounds b h = by-bounds (λ low high. (0x80 ≡ low) × (0xBF ≡ high)) b (omega arith)

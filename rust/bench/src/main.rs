@@ -311,5 +311,7 @@ fn names_checked(options: &Options) {
         let title = format!("{bytes:3} bytes of {}", letters.in_words());
         println!("{title:46} {check:10.1} {:16.1}", decode / options.rows as f64);
     }
-    println!("(each decode call checks the format; built with an older archive, the same lines say what it took there)");
+    println!(
+        "(each decode call checks the format; with an older archive the same lines say what it took there)"
+    );
 }

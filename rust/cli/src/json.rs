@@ -9,7 +9,8 @@ use skiff::{Format, Row, Schema, Value, ValueRef, Variant, WireType};
 use crate::wide;
 
 pub const ABOUT: &str = "\
-A row is a line of JSON: an object of its columns; where two columns have one name, an array of them. Where the format has several tables, it is {\"table\": N, \"row\": ...}.
+A row is a line of JSON: an object of its columns; where two columns have one name, an array of them. Where the \
+format has several tables, it is {\"table\": N, \"row\": ...}.
 
   nothing             null
   boolean             true, false

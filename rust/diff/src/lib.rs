@@ -1,7 +1,7 @@
 //! Differential runs: cases are made, put to what is under test, and each answer is held against the
 //! plain reading and, on its domain, against the original. The format side goes to a program over a
-//! pipe; the calls that read, write and index rows, that show integers and that judge names go to the library itself, in
-//! this process.
+//! pipe; the calls that read, write and index rows, that show integers and that judge names go to the library itself,
+//! in this process.
 
 // Its symbols are those that the front end calls.
 #[cfg(feature = "double")]

@@ -21,7 +21,7 @@ fn a_right_program_passes() {
     let text = text(&output);
     assert_eq!(output.status.code(), Some(0), "{text}");
     assert!(text.trim_end().ends_with("0 differences"), "{text}");
-    for number in 2..=11 {
+    for number in (2..=11).chain([33]) {
         assert!(text.contains(&format!("refusal {number} ")), "refusal {number} was never met: {text}");
     }
 }
@@ -72,6 +72,11 @@ fn huge_numbers_that_are_cut() {
 #[test]
 fn an_empty_name_past_the_store() {
     found("empty_name_past_the_store", 16, &["PAST THE STORE", "plain:    2 0 0 0 0"]);
+}
+
+#[test]
+fn names_after_the_rules() {
+    found("names_come_after_the_rules", 33, &["plain:    33 0 0 0 0", "original: outside"]);
 }
 
 #[test]

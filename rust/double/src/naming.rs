@@ -8,7 +8,7 @@ use plain::depth::{depth, MOST_LEVELS};
 use plain::format::{blocks, format_rules, validate_encoder, validate_format};
 use plain::forms::{block_lies_in, block_records, format_is_formed, span_lies_in};
 use plain::names::{check_name, is_text};
-use plain::report::Report;
+use plain::report::{Report, REPORT_BYTES};
 use plain::settings::is_short_enough;
 use plain::tables::{entries, record_count, references, schema_record, Block, FormatTables, Reference, Span};
 use std::slice;
@@ -35,7 +35,7 @@ pub unsafe extern "C" fn skiff_check_name(
         _ => {}
     }
     let answer = slice::from_raw_parts_mut(answer, answer_len);
-    if named() == "names_into_a_short_answer" && (1..88).contains(&answer.len()) {
+    if named() == "names_into_a_short_answer" && (1..REPORT_BYTES).contains(&answer.len()) {
         answer[0] = 0;
     }
     report.write_to(answer)
@@ -68,7 +68,7 @@ fn are_further(bytes: &[u8]) -> bool {
     bytes.iter().all(|byte| (0x80..=0xBF).contains(byte))
 }
 
-/// Of the bytes without their first ones that are ASCII, eight by eight, as many as are whole.
+/// The same string with each eighth byte made ASCII, as if nobody looked at it.
 fn without_last_of_eight(name: &[u8]) -> Vec<u8> {
     let mut seen = name.to_vec();
     seen.iter_mut().skip(7).step_by(8).filter(|byte| **byte >= 0x80).for_each(|byte| *byte = b'a');
@@ -282,7 +282,8 @@ pub fn checked_encoder(records: &[u8], names: &[u8], block: Block) -> Checked {
     }
 }
 
-/// The store as a call takes it that does not look at names, where that is the fault: what is no text in it is text then.
+/// The store as a call takes it that does not look at names, where that is the fault: what is no text in it is text
+/// then.
 pub fn taken_store(fault: &str, store: &[u8]) -> Option<Vec<u8>> {
     if named() != fault {
         return None;

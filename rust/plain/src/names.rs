@@ -1,6 +1,6 @@
 //! Names are text: well-formed UTF-8 by the Unicode Standard, read from the definition of the encoding form and not
-//! from a table of byte ranges. A string is cut into characters by their first bytes; of each the number is put together
-//! from its bits, and it has to be a scalar value that needs so many bytes and no fewer.
+//! from a table of byte ranges. A string is cut into characters by their first bytes; of each the number is put
+//! together from its bits, and it has to be a scalar value that needs so many bytes and no fewer.
 //!
 //! Refusal 33 carries nothing and has place 0, so whether names are text is a yes or a no.
 

@@ -147,8 +147,8 @@ impl<'a> SchemaBlock<'a> {
 
 impl<'a> Format<'a> {
     /// The first name in use that is not UTF-8: each schema of the registry, its own name and then those of its nodes;
-    /// then table by table the names of its own schema's nodes, or the one that it refers to. Of a format that is refused
-    /// by [`Refusal::NameNotUtf8`] there is one.
+    /// then table by table the names of its own schema's nodes, or the one that it refers to. Of a format that is
+    /// refused by [`Refusal::NameNotUtf8`] there is one.
     ///
     /// ```
     /// use skiff::{FormatBuilder, NameOf, Refusal, Schema, WireType};

@@ -12,10 +12,10 @@ use diff::{show, shrink as of_formats};
 const USAGE: &str = "\
 usage: name-diff [--count N] [--formats N] [--seed N] [--only PART]
   has all strings of up to 3 bytes, those at the edges of UTF-8 and N random ones of 4 to 12 bytes (50,000,000 by
-  default) judged by skiff_check_name, and N formats and encoders' blocks (1,000,000 by default), half of them with names
-  that are no text, by skiff_check_format and skiff_check_encoder_schema, and compares the number returned and every byte
-  of the answer slice. The parts are made one after the other, or one alone: names, formats, threads (two that ask at
-  once), huge (slices)";
+  default) judged by skiff_check_name, and N formats and encoders' blocks (1,000,000 by default), half of them with
+  names that are no text, by skiff_check_format and skiff_check_encoder_schema, and compares the number returned and
+  every byte of the answer slice. The parts are made one after the other, or one alone: names, formats, threads (two
+  that ask at once), huge (slices)";
 
 const THREADS: Part = ("calls by two threads at once", || Some(threads::check()));
 const HUGE: Part = ("calls with names and stores of 4,294,967,295 bytes and one more", huge::check);

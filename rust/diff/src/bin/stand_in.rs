@@ -66,6 +66,7 @@ fn answer(fault: &str, mut case: Case) -> Answer {
             case.records.chunks_exact_mut(16).filter(empty).for_each(|record| record[4..8].fill(0));
             plain_answer(&case)
         }
+        "names_come_after_the_rules" => names_after_rules(&case),
         "own_index_not_tested" => own_index_not_tested(&case),
         "later_sibling_first" => later_sibling_first(&case),
         "unused_entry_not_checked" => {
@@ -110,6 +111,18 @@ fn depth_65(case: &Case) -> Answer {
     } else {
         checked(format::format_rules(&tables(case)))
     }
+}
+
+/// A rule that is broken, too, is told before names.
+fn names_after_rules(case: &Case) -> Answer {
+    let answer = plain_answer(case);
+    let rules = match case.op {
+        _ if answer.number != 33 => return answer,
+        op::VALIDATE => rules::schema(&case.records, lone_block(case)),
+        op::ENCODER => format::encoder_rules(&case.records, lone_block(case)),
+        _ => format::format_rules(&tables(case)),
+    };
+    rules.map_or_else(|refusal| checked(Err(refusal)), |()| answer)
 }
 
 /// Accepts a block whose only fault is a first child that does not stand after its parent.

@@ -51,8 +51,8 @@ impl Names {
 const LOOKED_AT: usize = 7;
 const PLACES: usize = 9;
 
-/// A table of a column and one with something below it, a table by name, and an entry that no table refers to. The table
-/// by name comes first, so that rows of it can be had at once.
+/// A table of a column and one with something below it, a table by name, and an entry that no table refers to. The
+/// table by name comes first, so that rows of it can be had at once.
 fn format(names: &Names) -> Case {
     let mut case = Case { op: op::FORMAT, ..Case::default() };
     let Names { root, column, below, column_of_used, root_of_unused, used, unused, no_block, no_name } =
@@ -199,8 +199,8 @@ fn all_good(name: &[u8]) -> Case {
 const LONGEST_STORE: usize = 72;
 
 /// A table of one column over stores of all lengths, all ASCII but for one byte at each place: it is in the column's
-/// name, which is all of the store, is that name by itself, or is none's. A store may be looked at as a whole first, some
-/// bytes at a time, and one that is longer than the records otherwise.
+/// name, which is all of the store, is that name by itself, or is none's. A store may be looked at as a whole first,
+/// some bytes at a time, and one that is longer than the records otherwise.
 fn stores(emit: &mut Emit) {
     for length in 1..=LONGEST_STORE {
         for at in 0..length {
@@ -236,8 +236,9 @@ pub fn fixed(emit: &mut Emit) {
 /// Of each sort of bad names one, for a sample: overlong, a surrogate, above 10FFFF, cut, a lone continuation.
 pub const FEW: [&[u8]; 5] = [b"\xC0\x80", b"\xED\xA0\x80", b"\xF4\x90\x80\x80", b"ab\xE2\x82", b"\x80"];
 
-/// What a sample has to have: three of those at each place that is looked at, in turn, and one at the others; each beside
-/// another fault; blocks by themselves; and text with characters of two, three and four bytes, U+0000, U+FEFF, U+FFFF.
+/// What a sample has to have: three of those at each place that is looked at, in turn, and one at the others; each
+/// beside another fault; blocks by themselves; and text with characters of two, three and four bytes, U+0000, U+FEFF,
+/// U+FFFF.
 pub fn few(emit: &mut Emit) {
     for place in 0..LOOKED_AT {
         for turn in 0..3 {

@@ -1,5 +1,5 @@
-//! The run over formats and encoders' blocks: what the check of each answers, in which names have their turn after forms
-//! (2) and depths (3) and before all rules.
+//! The run over formats and encoders' blocks: what the check of each answers, in which names have their turn after
+//! forms (2) and depths (3) and before all rules.
 
 use std::collections::BTreeMap;
 use std::fmt;

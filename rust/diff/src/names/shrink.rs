@@ -1,4 +1,5 @@
-//! A smaller string that is still judged otherwise: fewer and plainer bytes, and no longer an answer slice than will do.
+//! A smaller string that is still judged otherwise: fewer and plainer bytes, and an answer slice that is no longer than
+//! it has to be.
 
 use skiff::sys::ANSWER_SIZE;
 

@@ -1,6 +1,7 @@
 //! Two threads that ask about names at once: what is read is shared, and can't be written while it is; each thread has
 //! its own answer slices.
 
+use plain::format::validate_format;
 use plain::report::Report;
 use skiff::{sys, Format};
 
@@ -15,7 +16,6 @@ use crate::judge::tables;
 use crate::rng::Rng;
 use crate::show::describe;
 use crate::trap;
-use plain::format::validate_format;
 
 const ANSWER: usize = 88;
 

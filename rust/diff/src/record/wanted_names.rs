@@ -1,5 +1,5 @@
-//! What a recording has to have of names: each sort of string that is no text, each place of a name, each turn before and
-//! after another refusal, and text with characters of every length.
+//! What a recording has to have of names: each sort of string that is no text, each place of a name, each turn before
+//! and after another refusal, and text with characters of every length.
 
 use plain::answer::number::{BAD_SCHEMA_TABLE, NAME_NOT_UTF8, TOO_DEEP};
 use plain::format::format_rules;
