@@ -34,7 +34,7 @@ usage: bench [rows|growth|decode|ledger|encode|index|format|names] [--runs N] [-
           that name
   format  the check of formats of 1,024 to 131,072 records
   names   the check of schema A with column names of 1, 16 and 255 bytes, of ASCII and of characters of two bytes, and
-          N (300,000) of its rows decoded one by one
+          N (300,000) of its rows decoded one by one; and of a table whose columns share one name
   all of them without a word. Times are the best of N (15) runs, in processor time";
 
 const CLIENT_ROWS: u64 = 1_000_000;
@@ -314,4 +314,13 @@ fn names_checked(options: &Options) {
     println!(
         "(each decode call checks the format; with an older archive the same lines say what it took there)"
     );
+    println!("\n{:46} {:>10} {:>16}", "columns that share one name", "check, us", "ns/byte of names");
+    for (columns, bytes, letters) in names::SHARED {
+        let case = names::shared(columns, bytes, letters);
+        let [check] = best_of_each(options.runs, [&mut || names::check(&case, 100)]);
+        let named = f64::from(columns) * bytes as f64;
+        let title = format!("{columns:5}, {bytes:5} bytes of {}", letters.in_words());
+        println!("{title:46} {:10.1} {:16.3}", check / 1_000.0, check / named);
+    }
+    println!("(a name is judged for each column that has it, unless the whole store is seen to be ASCII)");
 }

@@ -69,6 +69,30 @@ pub fn check(case: &Case, repetitions: u32) -> f64 {
     }) / f64::from(repetitions)
 }
 
+/// Columns of one table that share a name, its bytes and its letters: what is judged for each of them stands once.
+pub const SHARED: [(u32, usize, Letters); 4] = [
+    (4_096, 255, Letters::Ascii),
+    (4_096, 255, Letters::Cyrillic),
+    (64, 65_535, Letters::Ascii),
+    (64, 65_535, Letters::Cyrillic),
+];
+
+/// A format of one table with so many columns of uint8, all of one name, which stands in the store once.
+pub fn shared(columns: u32, bytes: usize, letters: Letters) -> Case {
+    let mut plans = vec![Plan::new(8, 0); columns as usize + 1];
+    plans[0] = Plan::new(19, columns);
+    plans[1] = Plan::named(8, 0, &name(bytes, letters, ["p", "п"]));
+    let mut case = Case::default();
+    let block = lay_out(&plans, &mut case.records, &mut case.names);
+    case.references.extend(inline(block));
+    let (first, others) = case.records[16..].split_at_mut(16);
+    for column in others.chunks_exact_mut(16) {
+        // Named, the name's length and its start are the bytes 1 to 7.
+        column[1..8].copy_from_slice(&first[1..8]);
+    }
+    case
+}
+
 #[cfg(test)]
 mod tests {
     use super::*;
@@ -80,6 +104,16 @@ mod tests {
             assert_eq!(case.names.len(), 2 * bytes);
             let text = std::str::from_utf8(&case.names).expect("names are text");
             assert_eq!(text.is_ascii(), letters == Letters::Ascii);
+        }
+    }
+
+    #[test]
+    fn a_shared_name_stands_once() {
+        for (columns, bytes, letters) in SHARED {
+            let case = shared(columns, bytes, letters);
+            assert_eq!((case.names.len(), case.records.len()), (bytes, 16 * (columns as usize + 1)));
+            let mut names = case.records.chunks_exact(16).skip(1).map(|record| &record[1..8]);
+            assert!(names.all(|name| name == &case.records[17..24] && name[0] == 1));
         }
     }
 }

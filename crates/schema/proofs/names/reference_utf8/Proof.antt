@@ -1,3 +1,4 @@
+use native.Mathlib.Omega.{arith}
 use borrow.Author.Tests.{eq-eqb, ne-eqb}
 use Rattle.rules.specs.Choice.{pick}
 use Rattle.schema.proofs.Given.{inline-form, name-inside}
@@ -12,7 +13,10 @@ unfolding pick
 returns c = rw (eq-eqb _ _ (c .before .if1 .taken)) (c .block-utf8 .ensures)
 
 is-utf8-requires : tie.Need-is-utf8-requires
-is-utf8-requires c κs = name-inside _ _ _ (c .before .before .before .pre) (c .if1 .left)
+is-utf8-requires c κs =
+    let a = c .before .before .before .args in
+    let h = name-inside (a .table .now) (a .names .now) (a .r) (c .before .before .before .pre) (c .if1 .left) in
+    omega (arith, h)
 
 returns-2 : tie.Need-returns-2
 unfolding pick
