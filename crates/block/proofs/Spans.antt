@@ -2,14 +2,11 @@
 -- Assumes nothing.
 use Prim.Native.Nat.{ℕ, _+_, _≤_, _<_}
 use mathlib.Core.Path.{_≡_, refl}
-use mathlib.Core.Bool.{Bool, true, false}
+use mathlib.Core.Bool.{Bool, true}
 use mathlib.Core.List.{List}
 use native.Mathlib.Omega.{arith}
 use lib.Dec.{eqb}
-use lib.ListN.{length}
-use Rattle.rules.specs.Choice.{pick}
-use Rattle.rules.specs.Bytes.{part}
-use Rattle.rules.specs.Schema.{unnamed, named}
+use Rattle.rules.specs.Schema.{named}
 use Rattle.rules.specs.Block.{records, block, nodeAt, nameIn, nodeName, isNameUtf8, namesUtf8, blockOk}
 use Rattle.rules.specs.Format.{blockFormOk, blockUtf8}
 use Rattle.rules.specs.declared.table_record.Node.{Node}

@@ -23,7 +23,6 @@ use Rattle.block_laws.proofs.Utf8.{utf8-exactly}
 use Rattle.block_laws.proofs.Turns.{accepted-pick}
 use Rattle.block_laws.proofs.Good.{names-accept}
 use Rattle.block_laws.proofs.Honest.{unexpected, too-many}
-use Rattle.block_laws.proofs.BlockReasons.{BadName}
 use Rattle.block_laws.proofs.FormatReasons.{BlockOf, of-entry, of-table, FormatReason, too-long, bad-form, too-deep, bad-node-name, bad-entry-name, bad-reference-name, broken, no-tables, unknown, not-tuple, no-name, format-honest}
 
 -- a name by itself

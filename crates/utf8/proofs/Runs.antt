@@ -6,14 +6,14 @@ use mathlib.Core.Bool.{Bool, true, false}
 use mathlib.Core.List.{List}
 use native.Mathlib.Omega.{arith}
 use native.Mathlib.Decide.{decLt}
-use borrow.Author.Tests.{ltb-true, lt-ltb, le-ltb, eqb-true, eqb-false, eq-eqb}
+use borrow.Author.Tests.{ltb-true, lt-ltb, le-ltb, eqb-true, eqb-false}
 use lib.Bits.{bitAnd}
 use lib.Dec.{eqb}
-use lib.ListN.{length, getD}
+use lib.ListN.{getD}
 use Rattle.rules.specs.Choice.{all}
 use Rattle.rules.specs.Bytes.{leAt, Bytes}
 use Rattle.rules.proofs.Tests.{all-each, all-true, all-false, all-more, false-not}
-use Rattle.utf8.specs.Ascii.{asciiAt, Reached}
+use Rattle.utf8.specs.Ascii.{asciiAt}
 use Rattle.utf8.proofs.Words.{highBits, none-high, high-none}
 
 module _ (s : List ℕ) where

@@ -57,6 +57,18 @@ fn first(mut cases: Vec<Case>, differs: &mut dyn FnMut(&[Case]) -> Vec<bool>) ->
     None
 }
 
+/// Of cases of another kind: the first of the smaller ones that still differs is taken, again and again.
+pub(crate) fn smallest<C>(
+    mut case: C,
+    smaller: impl Fn(&C) -> Vec<C>,
+    mut differs: impl FnMut(&C) -> bool,
+) -> C {
+    while let Some(next) = smaller(&case).into_iter().find(|case| differs(case)) {
+        case = next;
+    }
+    case
+}
+
 /// `differs` says for each of some cases whether it still shows the fault.
 pub fn shrink(case: Case, differs: &mut dyn FnMut(&[Case]) -> Vec<bool>) -> Case {
     let mut best = case;

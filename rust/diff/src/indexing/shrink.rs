@@ -8,7 +8,7 @@ use plain::indexing::accepted;
 use super::{plainly, IndexCase};
 use crate::case::{op, Case};
 use crate::room::need;
-use crate::shrink::{self, Size};
+use crate::shrink::{self, smallest, Size};
 
 fn size(case: &IndexCase) -> Size {
     let (bytes, nonzero, sum, numbers) = shrink::size(&case.stream);
@@ -92,14 +92,9 @@ fn candidates(case: &IndexCase) -> Vec<IndexCase> {
 /// A case is not made smaller for longer than this.
 const PATIENCE: Duration = Duration::from_secs(20);
 
-/// Takes the smallest case that still differs, again and again.
-pub fn shrink(mut case: IndexCase, differs: &mut dyn FnMut(&IndexCase) -> bool) -> IndexCase {
+pub fn shrink(case: IndexCase, differs: &mut dyn FnMut(&IndexCase) -> bool) -> IndexCase {
     let until = Instant::now() + PATIENCE;
-    let mut goes_on = |case: &IndexCase| Instant::now() < until && differs(case);
-    while let Some(next) = candidates(&case).into_iter().find(&mut goes_on) {
-        case = next;
-    }
-    case
+    smallest(case, candidates, |case| Instant::now() < until && differs(case))
 }
 
 #[cfg(test)]

@@ -5,6 +5,7 @@ use skiff::sys::ANSWER_SIZE;
 
 use super::IntegerCase;
 use crate::room::Slack;
+use crate::shrink::smallest;
 
 /// By how many bytes a case has, then by what they are, then by what is lent.
 fn size(case: &IntegerCase) -> (usize, u64, usize) {
@@ -35,12 +36,8 @@ fn candidates(case: &IntegerCase) -> Vec<IntegerCase> {
     found
 }
 
-/// Takes the smallest case that still differs, again and again.
-pub fn shrink(mut case: IntegerCase, differs: impl Fn(&IntegerCase) -> bool) -> IntegerCase {
-    while let Some(next) = candidates(&case).into_iter().find(&differs) {
-        case = next;
-    }
-    case
+pub fn shrink(case: IntegerCase, differs: impl Fn(&IntegerCase) -> bool) -> IntegerCase {
+    smallest(case, candidates, differs)
 }
 
 #[cfg(test)]

@@ -4,6 +4,7 @@
 use skiff::sys::ANSWER_SIZE;
 
 use super::NameCase;
+use crate::shrink::smallest;
 
 /// By how many bytes a case has, then by what they are, then by its answer slice.
 fn size(case: &NameCase) -> (usize, u64, usize) {
@@ -44,12 +45,8 @@ fn candidates(case: &NameCase) -> Vec<NameCase> {
     found
 }
 
-/// Takes the smallest case that still differs, again and again.
-pub fn shrink(mut case: NameCase, differs: impl Fn(&NameCase) -> bool) -> NameCase {
-    while let Some(next) = candidates(&case).into_iter().find(&differs) {
-        case = next;
-    }
-    case
+pub fn shrink(case: NameCase, differs: impl Fn(&NameCase) -> bool) -> NameCase {
+    smallest(case, candidates, differs)
 }
 
 #[cfg(test)]
