@@ -17,8 +17,8 @@ use Rattle.utf8.proofs.Stores.{store-utf8}
 
 module _ (s : List ℕ) where
   -- a name lies in the store
-  pub name-inside : (store : ℕ) → blockOk s store ≡ true → (i : ℕ) → i < records s → (n : Node) → n ≡ nodeAt s i → n .named ≡ 1 → n .start + n .len ≤ store
-  name-inside store e i h n is one =
+  pub node-name-inside : (store : ℕ) → blockOk s store ≡ true → (i : ℕ) → i < records s → (n : Node) → n ≡ nodeAt s i → n .named ≡ 1 → n .start + n .len ≤ store
+  node-name-inside store e i h n is one =
       let f = formed s store .0 e .names i h in
       rw is (f .with-one (omega (arith, rw is at one)) .1)
 

@@ -81,10 +81,6 @@ utf8-exactly s = (decoded (suc (length s)) s (omega arith), accepted)
     accepted : Utf8 s → isUtf8 s ≡ true
     accepted u = rw (← u .bytes, ← append-nil (encodings (u .scalars))) (encodings-before (u .scalars) [] (u .each))
 
--- a good string put before another changes nothing
-pub utf8-joined : (xs ys : List ℕ) → isUtf8 xs ≡ true → isUtf8 (xs ++ ys) ≡ isUtf8 ys
-utf8-joined xs ys e = let u = utf8-exactly xs .0 e in rw (← u .bytes) (encodings-before (u .scalars) ys (u .each))
-
 -- ---- a string decodes in one way
 
 following-once : (n c d : ℕ) (s t : List ℕ) → c / 64 ^ n ≡ d / 64 ^ n → following n c ++ s ≡ following n d ++ t → (c ≡ d) × (s ≡ t)

@@ -6,14 +6,14 @@ use Rattle.rules.specs.Choice.{pick, _and_, all}
 use Rattle.rules.specs.Bytes.{le, leAt, part, over, order, isEqual, isLess}
 use Rattle.rules.specs.Wire.{codeOf, form, written, writtenIf, typeOf, typeIn, wireTypes, widthOf, endTag, maximum}
 use Rattle.rules.specs.Names.{ascii}
-use Rattle.rules.specs.Refusals.{lineOf, refusalNumber, _then_, inOrder}
+use Rattle.rules.specs.Refusals.{lineOf, _then_, inOrder}
 use Rattle.rules.specs.Schema.{deep, child}
 use Rattle.rules.specs.Utf8.{begins, awaited, lowest, highest, restUtf8, isUtf8}
 use Rattle.rules.specs.Block.{nodeAt, block, earlier, nameOk, childrenOk, recordOk, recordAt, blockOk, nameIn, isNameUtf8, namesUtf8, treesFrom, treeAt, blockTree, depthOf}
 use Rattle.rules.specs.SchemaRules.{nodeRule, ruleAt, schemaRule, notTuple, rootRule, nameRule, childRule, tableRule}
 use Rattle.rules.specs.Format.{blockFormOk, blockDepthOk, blockRule, referenceAt, entryAt, entryName, lookup, resolved, tableSchema, referenceOk, ascending, entryOk, referenceFormOk, formsOk, entryDepthOk, referenceDepthOk, depthsOk, blockUtf8, entryUtf8, referenceUtf8, formatUtf8, entryRule, rootOf, inlineRule, referenceRule, rulesOrder, sizesOk, formatRules, oneBlock, encoderRules}
 use Rattle.rules.specs.Value.{tally, items, values, recordsOf, payloadOf}
-use Rattle.rules.specs.ValueRecord.{valueRecordStart, layout, layouts, valueRecordAt, isRecord}
+use Rattle.rules.specs.ValueRecord.{layout, layouts, valueRecordAt, isRecord}
 use Rattle.rules.specs.ValueTable.{bit, payloadBytes, valueKind, sizeOf, contentOf, headOf, below, heads, flat, _>>=_ as _parsed>>=_, kindOf, storedAt, scalarAt, itemsAt, valuesAt, nodeValue, ifRecordIs, valueAt, ifWholeTable, tableValue}
 use Rattle.rules.specs.Walk.{ofType, blobLimit, _>>=_, numberOf, bytesOf, charged, blobOf, childOf, pairsOf, fieldsOf, valueOf, walk}
 use Rattle.rules.specs.Reading.{settingsOk, limits, start, rootFrom, rowAt, whenAccepted, door, through, extent, skipped, skipRule, room, roomFor, roomTest, fillWith, filled, decodeRule}

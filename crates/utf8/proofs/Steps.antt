@@ -135,10 +135,6 @@ module _ (s : List ℕ) where
     unfolding restUtf8 part
     follows-last e = rw (e, ← is) (and-all x)
 
-  pub follows-none : (at n low high : ℕ) → n ≡ 0 → restUtf8 n low high (part s at n) ≡ true
-  unfolding restUtf8 part
-  follows-none at n low high e = rw e
-
 -- ---- first bytes by their ranges
 pub begins-in : (b : ℕ) → 0xC2 ≤ b → b < 0xF5 → begins b ≡ true
 begins-in b l h = begins-is b (omega arith) .1 (l, omega arith)

@@ -43,14 +43,11 @@ fn highest(b: u8) -> u8
     0xBF
 }
 
-// The bytes that follow a first one, at most three: the first between two bounds, the others between 80 and BF.
+// The bytes that follow a first one, one to three: the first between two bounds, the others between 80 and BF.
 fn follow(s: &[u8], at: usize, n: usize, low: u8, high: u8) -> bool
-    requires { ⌜ (n ≤ 3) × (at + n ≤ length (now s)) ⌝ }
+    requires { ⌜ (0 < n) × ((n ≤ 3) × (at + n ≤ length (now s))) ⌝ }
     ensures { λ r. ⌜ r ≡ restUtf8 n low high (part (now (s .entry)) at n) ⌝ }
 {
-    if n == 0 {
-        return true;
-    }
     if !between(low, high, s[at]) {
         return false;
     }
@@ -68,7 +65,7 @@ fn follow(s: &[u8], at: usize, n: usize, low: u8, high: u8) -> bool
 
 // The same where they lie behind a first byte, if there are so many before the end.
 fn whole(s: &[u8], at: usize, end: usize, more: usize, low: u8, high: u8) -> bool
-    requires { ⌜ (more ≤ 3) × ((at < end) × (end ≤ length (now s))) ⌝ }
+    requires { ⌜ (0 < more) × ((more ≤ 3) × ((at < end) × (end ≤ length (now s)))) ⌝ }
     ensures { λ r. ⌜ r ≡ ltb more (end - at) and restUtf8 more low high (part (now (s .entry)) (at + 1) more) ⌝ }
 {
     if more < end - at {

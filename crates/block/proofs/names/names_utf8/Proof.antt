@@ -6,7 +6,7 @@ use borrow.Author.Tests.{not-true, not-false}
 use Rattle.rules.specs.Choice.{all}
 use Rattle.rules.specs.Block.{nodeName, isNameUtf8, namesUtf8}
 use Rattle.block.proofs.Turns.{test-on, test-off, test-end}
-use Rattle.block.proofs.Spans.{name-inside, name-at}
+use Rattle.block.proofs.Spans.{node-name-inside, name-at}
 use Rattle.block.proofs.names.names_utf8.Statement.{statement}
 use Rattle.block.proofs.names.names_utf8.Tie as tie
 
@@ -24,7 +24,7 @@ node-at-requires : tie.Need-node-at-requires Inv-loop μ-loop
 node-at-requires c κs = omega arith
 
 name-utf8-requires : tie.Need-name-utf8-requires Inv-loop μ-loop
-name-utf8-requires c κs = name-inside _ _ (c .before .before .before .before .before .pre) _ (c .before .loop-test .taken) _ (c .node-at .ensures)
+name-utf8-requires c κs = node-name-inside _ _ (c .before .before .before .before .before .pre) _ (c .before .loop-test .taken) _ (c .node-at .ensures)
 
 returns : tie.Need-returns Inv-loop μ-loop
 unfolding namesUtf8
