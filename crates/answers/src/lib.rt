@@ -1,4 +1,6 @@
 // An answer in numbers, and its layout in the answer slice.
+#![tactic(auto)]
+
 ghost use Rattle.std.specs.Prelude.{◌≡◌, ◌+◌, ◌≤◌, ◌∷◌, [], length};
 ghost use Rattle.rules.specs.Bytes.{over};
 ghost use Rattle.answers.specs.Answers.{words, answer_layout, no_refusal, extent_of_bytes, answer_of_read, answer_of_ran};
@@ -11,7 +13,7 @@ use wire::code_of;
 use wire::store::put64;
 
 // An answer in numbers: 0 a row or what is accepted, 1 an end, 2 a refusal, 3 no wire type; why it is refused; the rows, and what they or the one row take.
-#[derive(Drop)]
+#[derive(Clone, Copy)]
 pub struct AnswerNumbers {
     pub what: u64,
     pub why: Report,

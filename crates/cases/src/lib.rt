@@ -4,6 +4,8 @@
 // A case is a header of 72 bytes and five byte strings. The header, little-endian: u32 op; u32 lengths of records, names, references,
 // registry and input; u64 a; u64 b; u64 node charge; u64 largest string32; u64 largest yson32; u64 largest row. A line: refusal number (0
 // if none), place, and three values, and what a program writes after them.
+#![tactic(auto)]
+
 pub mod answer_lines;
 pub mod reports;
 
@@ -14,7 +16,7 @@ use wire::{u32_at, u64_at};
 
 // A case: where its first four byte strings end in the space, one after another, and how many bytes of the input its fifth has. None
 // was read where it is not whole.
-#[derive(Drop)]
+#[derive(Clone, Copy)]
 pub struct Case {
     pub whole: bool,
     pub op: u64,

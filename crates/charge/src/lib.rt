@@ -1,4 +1,6 @@
 // The row's allowance by reference: for a host that keeps one and has it lowered. The walk hands its own on by value.
+#![tactic(auto)]
+
 ghost use Rattle.std.specs.Prelude.{◌≡◌};
 ghost use Rattle.charge.specs.Lowering.{lowering};
 
@@ -6,7 +8,7 @@ use leaves::budget::{Charged, RowBudget};
 use rules::Checked;
 
 // What a charge leaves of an allowance, and what it answers.
-#[derive(Drop)]
+#[derive(Clone, Copy)]
 pub struct Lowered {
     pub budget: RowBudget,
     pub answer: Checked,

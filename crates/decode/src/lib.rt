@@ -1,4 +1,6 @@
 // Decode: the row at a position is judged, the room in both slices is tested, and only then is anything written.
+#![tactic(auto)]
+
 ghost use Rattle.std.specs.Prelude.{◌≡◌};
 ghost use Rattle.rules.specs.Reading.{decode_rule};
 ghost use Rattle.schema.specs.Slices.{slices};

@@ -1,6 +1,8 @@
 // What the programs for deliveries share: the four tables and the stream are the files that five arguments name. One line goes to
 // standard output: the rows and bytes that were accepted, and the refusal that ended the run, if one did. What is wrong with a file
 // goes to standard error.
+#![tactic(auto)]
+
 mod reading;
 mod telling;
 

@@ -1,4 +1,6 @@
 // Encode: what the call is given (1), the schema, the value table's form, and only then the row, judged, given room, written.
+#![tactic(auto)]
+
 ghost use Rattle.std.specs.Prelude.{◌≡◌, ◌≤◌, min, length};
 ghost use Rattle.rules.specs.Bytes.{longest_slice};
 ghost use Rattle.rules.specs.ValueTable.{table_value};

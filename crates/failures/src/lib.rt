@@ -1,4 +1,6 @@
 // The lines that tell why a run did not begin or did not come to an end: of a file, not of document 01.
+#![tactic(auto)]
+
 ghost use Rattle.std.specs.Prelude.{◌+◌, ◌≤◌, length};
 ghost use Rattle.failures.specs.Failures.{reason, failure_line, usage_line};
 ghost use Rattle.lines.specs.Puts.{TextPut};
@@ -6,7 +8,7 @@ ghost use Rattle.lines.specs.Puts.{TextPut};
 use lines::{put_number, put_text};
 
 // What is wrong with a file. In the last case a row does not end within the room that there is for the stream.
-#[derive(Drop)]
+#[derive(Clone, Copy)]
 pub enum Failure {
     CannotOpen,
     CannotRead,

@@ -1,6 +1,8 @@
 // The filling walk of decode: a row that was judged and accepted before is written as value records and payload bytes into
 // two lent slices. It cannot refuse, so it tests nothing but wire codes, end tags and counts: that every byte is there and
 // that there is room for it is what each function requires.
+#![tactic(auto)]
+
 ghost use Rattle.std.specs.Prelude.{◌≡◌, ◌+◌, ◌-◌, ◌^◌, ◌≤◌, ◌<◌, length, ltb};
 ghost use Rattle.rules.specs.Bytes.{le_at, part, over};
 ghost use Rattle.rules.specs.Wire.{form, width_of};
@@ -20,7 +22,7 @@ use wire::codes::{code_width, tag_width};
 use wire::{field, u16_at, u32_at, wide};
 
 // Where the walk stands: the next byte of the input, the next record, the next payload byte.
-#[derive(Drop)]
+#[derive(Clone, Copy)]
 pub struct FillPos {
     pub at: usize,
     pub records: usize,
@@ -28,7 +30,7 @@ pub struct FillPos {
 }
 
 // A node's next child, by the tag that it bears, its node and its first byte; or where the children end.
-#[derive(Drop)]
+#[derive(Clone, Copy)]
 pub enum Next {
     Child(u64, usize, usize),
     End(usize),
@@ -219,7 +221,7 @@ fn fill_children(
 }
 
 // What a node comes to at once: a leaf of this code, under this tag, from this spot on; or children.
-#[derive(Drop)]
+#[derive(Clone, Copy)]
 pub enum ToFill {
     Leaf(u8, u64, FillPos),
     Children,

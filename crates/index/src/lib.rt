@@ -1,5 +1,7 @@
 // The index of a stream: built, checked, extended. The run goes over the stream first and writes nothing; what the index may be refused for
 // is judged after it; a second pass over the accepted rows compares or writes their records.
+#![tactic(auto)]
+
 ghost use Rattle.std.specs.Prelude.{◌≡◌};
 ghost use Rattle.rules.specs.Index.{build_rule, check_index_rule, extend_rule};
 ghost use Rattle.schema.specs.Slices.{slices};

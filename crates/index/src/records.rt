@@ -11,7 +11,7 @@ use row::steps::row_at;
 use rules::{Extent, Read, RowSpan, Settings};
 
 // The first records of an index are those of the stream's first rows, which end here; or they are not.
-#[derive(Drop)]
+#[derive(Clone, Copy)]
 pub enum Compared {
     Same(usize),
     Other,

@@ -1,5 +1,7 @@
 // A row of a stream by its number: the index says where it begins, and decode's steps read it there. The row's table and length are held
 // to its record between judging and room, so that a record which leads elsewhere is refused before anything is written.
+#![tactic(auto)]
+
 ghost use Rattle.std.specs.Prelude.{◌≡◌, ◌≤◌, length};
 ghost use Rattle.rules.specs.Reading.{limits};
 ghost use Rattle.rules.specs.Index.{is_that_row, row_of_record, indexed_row_rule};

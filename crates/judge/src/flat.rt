@@ -44,7 +44,7 @@ fn leaf_fits(
 }
 
 // What a column comes to: a leaf of this code, whose record may bear a tag or not, from this position on; or something else.
-#[derive(Drop)]
+#[derive(Clone, Copy)]
 pub enum Column {
     Leaf(u8, bool, JudgePos),
     Other,

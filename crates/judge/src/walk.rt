@@ -14,7 +14,7 @@ use rules::{Refusal, Settings, Why};
 use wire::codes::{code_width, tag_width};
 
 // Where the walk stands: the next value record, the next payload byte, and the bytes of the row so far.
-#[derive(Drop)]
+#[derive(Clone, Copy)]
 pub struct JudgePos {
     pub at: usize,
     pub from: usize,
@@ -22,14 +22,14 @@ pub struct JudgePos {
 }
 
 // What judging a value answers: what it takes, or why it is not written.
-#[derive(Drop)]
+#[derive(Clone, Copy)]
 pub enum Judged {
     Fits(JudgePos),
     Refused(Refusal),
 }
 
 // A node's next child by its node and the bytes of the tag that chooses it, or why there is none.
-#[derive(Drop)]
+#[derive(Clone, Copy)]
 pub enum Chosen {
     Child(usize, u64),
     Refused(Refusal),
@@ -157,7 +157,7 @@ fn closing(code: u8) -> u64
 }
 
 // What a node with children comes to at once: what it takes, or nothing yet.
-#[derive(Drop)]
+#[derive(Clone, Copy)]
 pub enum AtOnce {
     Fits(JudgePos),
     Later,

@@ -7,7 +7,7 @@ use rules::{Refusal, Why, limit_of_type};
 
 // The longest string32 and the longest yson32, what is left of the row's allowance, and what the whole row may cost. (A walk hands them
 // through memory to each children step and back: of all orders this was the fastest.)
-#[derive(Drop)]
+#[derive(Clone, Copy)]
 pub struct RowBudget {
     pub max_string32_bytes: u64,
     pub max_yson32_bytes: u64,
@@ -16,7 +16,7 @@ pub struct RowBudget {
 }
 
 // What a charge answers.
-#[derive(Drop)]
+#[derive(Clone, Copy)]
 pub enum Charged {
     Left(RowBudget),
     Refused(Refusal),

@@ -10,7 +10,7 @@ use wire::codes::tag_width;
 use wire::{u16_at, u32_at, wide};
 
 // A number and the position after it, or 12 where its bytes are cut.
-#[derive(Drop)]
+#[derive(Clone, Copy)]
 pub enum ReadNumber {
     Is(u64, usize),
     Refused(Refusal),

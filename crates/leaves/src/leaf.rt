@@ -8,7 +8,7 @@ use rules::{Refusal, Why};
 use wire::codes::code_width;
 
 // Where the walk stands, what is left of the row's allowance, and the records and payload bytes that it has passed.
-#[derive(Drop)]
+#[derive(Clone, Copy)]
 pub struct SkipPos {
     pub at: usize,
     pub budget: RowBudget,
@@ -17,7 +17,7 @@ pub struct SkipPos {
 }
 
 // What skipping a value answers: where it ends, or why there is none.
-#[derive(Drop)]
+#[derive(Clone, Copy)]
 pub enum Skipped {
     At(SkipPos),
     Refused(Refusal),

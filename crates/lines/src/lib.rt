@@ -1,4 +1,6 @@
 // Lines of text, made in a buffer: each function puts a text or a number at a position and answers where the next one goes.
+#![tactic(auto)]
+
 ghost use Rattle.std.specs.Prelude.{◌+◌, ◌≤◌, ◌++◌, length, ◌≡◌};
 ghost use Rattle.rules.specs.Lines.{decimal, word, is_none, spaced, item, labelled, word_of, closing_bracket, carried, stopped_at, end_line, refused_line, run_line};
 ghost use Rattle.lines.specs.Puts.{TextPut, head};

@@ -1,4 +1,6 @@
 // Lists the delivery of the folder that it is run in: schema.rec, schema.nam and rows.skf, for one inline table.
+#![tactic(auto)]
+
 use listings::list_files;
 
 fn main() {

@@ -1,5 +1,7 @@
 // Listings that the folder's three files cannot all be at once, most of them of deliveries in memory: each kind, the lowest int64 and a
 // NaN, an empty blob; a second row that is refused; a row of 4,097 records; the ends of the wide integers; files that are refused.
+#![tactic(auto)]
+
 use listings::{list_files, tell_listing};
 
 // A tuple of every kind of column, a name each, and two rows.

@@ -14,7 +14,7 @@ use texts::put_refusal_line;
 
 // What stands at the start of a buffer: the lines of a row, how many bytes of text they are, and how many bytes of the stream the row is;
 // the last line and its bytes; or nothing, since there is no room for any row's lines.
-#[derive(Drop)]
+#[derive(Clone, Copy)]
 pub enum Shown {
     Row(usize, u64),
     Last(usize),

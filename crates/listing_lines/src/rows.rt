@@ -11,7 +11,7 @@ use view::children_of;
 use write::put::WritePos;
 
 // A node of a row: the row's number, the node's record, and the payload bytes before it.
-#[derive(Drop)]
+#[derive(Clone, Copy)]
 pub struct RowNode {
     pub row: u64,
     pub at: usize,

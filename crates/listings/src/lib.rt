@@ -1,5 +1,7 @@
 // What the listing programs share: a listing goes to standard output piece by piece, and the three files are those of the folder that a
 // program is run in.
+#![tactic(auto)]
+
 ghost use Rattle.std.specs.Prelude.{◌+◌, ◌≤◌, ◌≡◌, length, take};
 ghost use Rattle.rules.specs.Listing.{pieces};
 ghost use Rattle.listings.specs.Telling.{IsPiece};

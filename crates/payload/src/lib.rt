@@ -1,4 +1,6 @@
 // Payload bytes, copied from one slice into another.
+#![tactic(auto)]
+
 ghost use Rattle.std.specs.Prelude.{◌≡◌, ◌+◌, ◌^◌, ◌≤◌, ◌<◌, min, length};
 ghost use Rattle.rules.specs.Bytes.{part, over};
 

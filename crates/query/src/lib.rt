@@ -1,5 +1,7 @@
 // The value query: what one record of a value table says. The record is looked at as far as it can be judged alone, so that a host
 // needs no payload store.
+#![tactic(auto)]
+
 ghost use Rattle.std.specs.Prelude.{◌≡◌, true, ◌+◌, ◌^◌, ◌≤◌, ◌<◌};
 ghost use Rattle.rules.specs.Wire.{form};
 ghost use Rattle.rules.specs.Query as rule;

@@ -16,7 +16,7 @@ use record::node::{node_children, node_code, node_first};
 use rules::{Refusal, Settings, Why};
 
 // A node's next child and where it starts, or where the children end.
-#[derive(Drop)]
+#[derive(Clone, Copy)]
 pub enum Pick {
     Child(usize, usize),
     End(usize),
@@ -81,7 +81,7 @@ fn next_child(code: u8, first: u64, count: u64, i: u64, input: &[u8], at: usize)
 }
 
 // What a node comes to at once: a leaf of this code from a position, or children.
-#[derive(Drop)]
+#[derive(Clone, Copy)]
 pub enum ToSkip {
     Leaf(u8, SkipPos),
     Children,

@@ -1,11 +1,13 @@
 // What is decided from the numbers that reads answer: the end of a file is a read of no bytes, and a failed read is none.
+#![tactic(auto)]
+
 ghost use Rattle.std.specs.Prelude.{◌≡◌};
 ghost use Rattle.reads.specs.Outcomes.{outcome_of, table_read};
 
 use rules::Ran;
 
 // How the run over a file comes out: with an answer, with a row at a position that does not end in the window, or with a failed read.
-#[derive(Drop)]
+#[derive(Clone, Copy)]
 pub enum Outcome {
     Told(Ran),
     NoRoom(u64),
@@ -30,7 +32,7 @@ pub fn outcome_of_last_read(last: isize, ran: Ran, full: bool) -> Outcome
 }
 
 // What came of the reading of a table.
-#[derive(Drop)]
+#[derive(Clone, Copy)]
 pub enum TableRead {
     Whole,
     TooLong,

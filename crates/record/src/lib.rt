@@ -1,4 +1,6 @@
 // The records of the flat tables, a file for each: its size, its one reader, and its writer where it is written.
+#![tactic(auto)]
+
 pub mod entry;
 pub mod index_record;
 pub mod node;

@@ -4,6 +4,8 @@
 // Op 9 decodes the row at `a` into two lent slices, whose lengths are the halves of `b`: u32 for the value records, then u32 for the
 // payload, each at most 4,096. Its line goes on with all that both slices hold afterwards, in hex, or `-` for an empty one; every byte
 // of them was a5 before the call.
+#![tactic(auto)]
+
 mod decoding;
 mod ops;
 

@@ -5,6 +5,8 @@
 // and, but for the check, which writes nothing, with all that the index slice holds afterwards, in hex, or `-` for an empty one. Op 15
 // decodes row `a` into two lent slices, whose lengths are the halves of the high half of `b`: u16 for the value records, then u16 for the
 // payload, each at most 4,096. Its line goes on with all that both slices hold afterwards; every byte of them was a5 before the call.
+#![tactic(auto)]
+
 mod decoding;
 
 ghost use Rattle.std.specs.Prelude.{◌≤◌, length};

@@ -3,6 +3,8 @@
 // Op 10 encodes it by the block whose first record and count are the halves of `a`, u32 each, at position `b` of an output that is the
 // input string before the call. Its line goes on with all that the output holds afterwards, in hex, or `-` for an empty one. Op 11
 // checks the value table.
+#![tactic(auto)]
+
 use cases::answer_lines::{end_line, write_bytes, write_report};
 use cases::next_case;
 use cases::reports::{accepted_row, checked, nothing};

@@ -1,4 +1,6 @@
 // A row of a stream: the door that every call goes through, the steps behind it, and skip.
+#![tactic(auto)]
+
 ghost use Rattle.std.specs.Prelude.{◌≡◌};
 ghost use Rattle.rules.specs.Reading.{skip_rule};
 ghost use Rattle.schema.specs.Slices.{slices};

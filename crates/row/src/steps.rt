@@ -12,7 +12,7 @@ use rules::{Extent, Located, Read, Refusal, Settings, Why};
 use schema::format::table_schema;
 
 // The block by which a row is read: its table, and the block's first record and count; or why there is none.
-#[derive(Drop)]
+#[derive(Clone, Copy)]
 pub enum RowBlock {
     Block(u64, u64, u64),
     Refused(Refusal),

@@ -2,7 +2,7 @@
 use super::refusal::Refusal;
 
 // Two byte strings compared, byte by byte.
-#[derive(Drop)]
+#[derive(Clone, Copy)]
 pub enum Order {
     Less,
     Equal,
@@ -10,21 +10,21 @@ pub enum Order {
 }
 
 // What a table schema is checked for: to stand in a format, or to encode with.
-#[derive(Drop)]
+#[derive(Clone, Copy)]
 pub enum Purpose {
     Format,
     Encoder,
 }
 
 // What the check of a schema or a format answers.
-#[derive(Drop)]
+#[derive(Clone, Copy)]
 pub enum Checked {
     Accepted,
     Refused(Refusal),
 }
 
 // What settings, slices, position and format come to, before a row is read: it may be read, the stream ends there, or why not.
-#[derive(Drop)]
+#[derive(Clone, Copy)]
 pub enum Door {
     Open,
     End,
@@ -32,7 +32,7 @@ pub enum Door {
 }
 
 // What an accepted row takes: its table, its bytes in the stream, and the records and payload bytes of its value table.
-#[derive(Drop)]
+#[derive(Clone, Copy)]
 pub struct Extent {
     pub table: u64,
     pub bytes: u64,
@@ -41,7 +41,7 @@ pub struct Extent {
 }
 
 // A row of a stream: where it begins, how long it is, and which table it is of.
-#[derive(Drop)]
+#[derive(Clone, Copy)]
 pub struct RowSpan {
     pub offset: u64,
     pub size: u64,
@@ -49,7 +49,7 @@ pub struct RowSpan {
 }
 
 // What reading at a position answers.
-#[derive(Drop)]
+#[derive(Clone, Copy)]
 pub enum Read {
     Row(Extent),
     End,
@@ -57,14 +57,14 @@ pub enum Read {
 }
 
 // Where a run over a whole stream stops.
-#[derive(Drop)]
+#[derive(Clone, Copy)]
 pub enum Stop {
     End,
     Refused(Refusal),
 }
 
 // What a run answers: the rows it accepted, their bytes, and why it stopped.
-#[derive(Drop)]
+#[derive(Clone, Copy)]
 pub struct Ran {
     pub rows: u64,
     pub bytes: u64,
@@ -72,14 +72,14 @@ pub struct Ran {
 }
 
 // What encoding a value table answers.
-#[derive(Drop)]
+#[derive(Clone, Copy)]
 pub enum Written {
     Row(Extent),
     Refused(Refusal),
 }
 
 // What writing a text answers: how many bytes it has.
-#[derive(Drop)]
+#[derive(Clone, Copy)]
 pub enum TextWritten {
     Text(u64),
     Refused(Refusal),

@@ -4,7 +4,7 @@ use super::table_record::ValueRecord;
 
 // The value of one record: a case with its data. The language's doubles have one NaN and no bits of it, so that a NaN has a
 // case of its own, with its bits.
-#[derive(Drop)]
+#[derive(Clone, Copy)]
 pub enum Scalar {
     Nothing,
     Truth(bool),
@@ -19,21 +19,21 @@ pub enum Scalar {
 }
 
 // One record, looked at by itself: its fields, or why not.
-#[derive(Drop)]
+#[derive(Clone, Copy)]
 pub enum Seen {
     Record(ValueRecord),
     Refused(Refusal),
 }
 
 // What the value query answers.
-#[derive(Drop)]
+#[derive(Clone, Copy)]
 pub enum Queried {
     Value(Scalar),
     Refused(Refusal),
 }
 
 // What a getter of the row view answers.
-#[derive(Drop)]
+#[derive(Clone, Copy)]
 pub enum Viewed {
     Number(u64),
     Refused(Refusal),

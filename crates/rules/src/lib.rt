@@ -1,6 +1,8 @@
 // The types that all crates share, a file for each topic: wire types, records of the flat tables, settings, refusals, answers, what
 // a host is told of a value record.
 // What is right is written down in specs/, as definitions that read beside documents 01 and 02.
+#![tactic(auto)]
+
 pub mod answer;
 pub mod host_answer;
 pub mod refusal;

@@ -4,7 +4,7 @@ ghost use Rattle.rules.specs.Refusals.{line_of, line_with, in_bytes, report_of};
 
 // Why a call is refused: a case for each number of documents 01 and 02, in their order, with the values that it carries. Types are wire
 // codes, kinds are kinds of value records.
-#[derive(Drop)]
+#[derive(Clone, Copy)]
 pub enum Why {
     Setting,
     BadSchemaTable,
@@ -75,14 +75,14 @@ pub enum Why {
 }
 
 // A refusal: why, and at what place, 0 where there is none.
-#[derive(Drop)]
+#[derive(Clone, Copy)]
 pub struct Refusal {
     pub why: Why,
     pub place: u64,
 }
 
 // A refusal in numbers: the documents' number, the place, and the carried values, 0 where there is none.
-#[derive(Drop)]
+#[derive(Clone, Copy)]
 pub struct Report {
     pub number: u32,
     pub place: u64,
@@ -92,7 +92,7 @@ pub struct Report {
 }
 
 // What a carried value is.
-#[derive(Drop)]
+#[derive(Clone, Copy)]
 pub enum Label {
     Unused,
     Type,
@@ -112,7 +112,7 @@ pub enum Label {
 }
 
 // What the three carried values are.
-#[derive(Drop)]
+#[derive(Clone, Copy)]
 pub struct Labels {
     pub first: Label,
     pub second: Label,
@@ -121,7 +121,7 @@ pub struct Labels {
 
 // A line of the documents' table of refusals: number, name, with blanks after it, whether the place is an offset in the stream
 // that is read, and carried values, 0 where there is none, with what each of them is.
-#[derive(Drop)]
+#[derive(Clone, Copy)]
 pub struct RefusalLine {
     pub number: u32,
     pub name: [u8; 28],
@@ -244,6 +244,12 @@ const NAME_NOT_UTF8_NAME: [u8; 28] = *b"NameNotUtf8                 ";
 
 impl Why {
     // The line of the table that all else goes by: a new refusal is an arm here.
+    #[tactic(auto, unfolding(
+        crate::specs::Refusals::in_bytes,
+        crate::specs::Refusals::labels_of,
+        crate::specs::Refusals::line_of,
+        crate::specs::Names::ascii,
+    ))]
     pub fn line(self) -> RefusalLine
         ensures { result ≡ in_bytes (line_of self) }
     {
@@ -451,6 +457,7 @@ impl Refusal {
     };
 
     // The refusal in numbers, for hosts that take no enum.
+    #[tactic(auto, unfolding(crate::specs::Refusals::report_of, crate::specs::Refusals::in_bytes))]
     pub fn in_numbers(self) -> Report
         ensures { result ≡ report_of self }
     {

@@ -18,6 +18,7 @@ pub fn room_in(len: usize) -> u64
 }
 
 // Which of two blob limits is a wire type's. Whoever tests a blob's length asks here.
+#[tactic(auto, unfolding(crate::specs::Walk::of_type, crate::specs::Wire::code_of, crate::specs::Choice::pick))]
 pub fn limit_of_type(code: u8, max_string32_bytes: u64, max_yson32_bytes: u64) -> u64
     ensures { result ≡ of_type code max_string32_bytes max_yson32_bytes }
 {
@@ -28,7 +29,7 @@ pub fn limit_of_type(code: u8, max_string32_bytes: u64, max_yson32_bytes: u64) -
 }
 
 // How a call is to read: what each node costs, how long a string32 and a yson32 may be, and how dear a row.
-#[derive(Drop)]
+#[derive(Clone, Copy)]
 pub struct Settings {
     pub node_charge: u64,
     pub max_string32_bytes: u64,
@@ -50,6 +51,7 @@ impl Settings {
     pub const MAX_LIMIT: u64 = 4294967295;
 
     // The defaults.
+    #[tactic(auto, unfolding(crate::specs::Reading::defaults))]
     pub fn new() -> Self
         ensures { result ≡ defaults }
     {
@@ -62,6 +64,7 @@ impl Settings {
     }
 
     // Whether a call may be made with them.
+    #[tactic(auto, unfolding(crate::specs::Reading::settings_ok))]
     pub fn within_bounds(self) -> bool
         ensures { result ≡ settings_ok self }
     {
@@ -85,6 +88,7 @@ impl Settings {
     }
 
     // The longest blob of a wire type.
+    #[tactic(auto, unfolding(crate::specs::Walk::blob_limit, crate::specs::Reading::limits))]
     pub fn blob_limit(self, code: u8) -> u64
         ensures { result ≡ blob_limit (limits self) code }
     {

@@ -1,7 +1,7 @@
 // The records of the flat tables, and where a table's schema stands among them.
 
 // A schema record.
-#[derive(Drop)]
+#[derive(Clone, Copy)]
 pub struct Node {
     pub code: u8,
     pub named: u8,
@@ -13,7 +13,7 @@ pub struct Node {
 
 // A table reference: an inline block by first record and record count, or a registry name by start and length. `spare` and
 // `rest` are the bytes that have to be 0.
-#[derive(Drop)]
+#[derive(Clone, Copy)]
 pub struct Reference {
     pub kind: u8,
     pub spare: u64,
@@ -23,7 +23,7 @@ pub struct Reference {
 }
 
 // A registry entry: a name in the store and a block of the record table.
-#[derive(Drop)]
+#[derive(Clone, Copy)]
 pub struct Entry {
     pub start: u64,
     pub len: u64,
@@ -33,7 +33,7 @@ pub struct Entry {
 
 // A value record: its kind; a byte that has to be 0; the tag by which the parent chose the node; the child count or the payload's length;
 // the payload's start or a scalar's wire bytes.
-#[derive(Drop)]
+#[derive(Clone, Copy)]
 pub struct ValueRecord {
     pub kind: u8,
     pub spare: u8,
@@ -43,7 +43,7 @@ pub struct ValueRecord {
 }
 
 // Where a table's schema stands in the record table: first record and record count.
-#[derive(Drop)]
+#[derive(Clone, Copy)]
 pub enum Located {
     Block(u64, u64),
     NoTable,

@@ -1,7 +1,7 @@
 // The wire types, and what is known of one: its width, how many children it may have.
 
 // A Skiff encoding of one schema node, in the order of the wire codes 0 to 19.
-#[derive(Drop)]
+#[derive(Clone, Copy)]
 pub enum WireType {
     Nothing,
     Boolean,
@@ -26,21 +26,21 @@ pub enum WireType {
 }
 
 // The wire type of a name or a code, if there is one.
-#[derive(Drop)]
+#[derive(Clone, Copy)]
 pub enum Known {
     Wire(WireType),
     Unknown,
 }
 
 // How many bytes each value of a wire type has, if that is fixed.
-#[derive(Drop)]
+#[derive(Clone, Copy)]
 pub enum Width {
     Fixed(u64),
     Variable,
 }
 
 // How many children a wire code may have.
-#[derive(Drop)]
+#[derive(Clone, Copy)]
 pub enum Children {
     None,
     UpTo(u64),

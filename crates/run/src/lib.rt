@@ -1,4 +1,6 @@
 // The run over a whole stream: the format is checked once, at the door, and each row is judged by the one walk.
+#![tactic(auto)]
+
 ghost use Rattle.std.specs.Prelude.{◌≡◌, suc, length};
 ghost use Rattle.rules.specs.Reading.{limits, run_from, run_rule, ran_of};
 ghost use Rattle.schema.specs.Slices.{slices};

@@ -1,11 +1,13 @@
 // What the value query says, in numbers, for hosts that take no enum.
+#![tactic(auto)]
+
 ghost use Rattle.std.specs.Prelude.{◌≡◌};
 ghost use Rattle.scalars.specs.Numbers.{signed_bits, HasBits, scalar_numbers};
 
 use rules::Scalar;
 
 // Which case it is, its number, and a payload's length.
-#[derive(Drop)]
+#[derive(Clone, Copy)]
 pub struct ScalarNumbers {
     pub which: u64,
     pub number: u64,

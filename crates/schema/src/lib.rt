@@ -1,5 +1,7 @@
 // The schema side: which schemas and formats the rules accept, and why the others are refused. Each call answers what the
 // rules answer, on every input.
+#![tactic(auto)]
+
 ghost use Rattle.std.specs.Prelude.{◌≡◌};
 ghost use Rattle.rules.specs.Format.{name_answer, schema_answer, encoder_rules, encoder_rule, format_rules, format_rule};
 ghost use Rattle.schema.specs.Slices.{slices};

@@ -1,4 +1,6 @@
 // The C functions. An answer goes to a slice that is kept for answers, in one layout for all of them: include/skiff.h.
+#![tactic(auto)]
+
 pub mod checking;
 pub mod indexing;
 pub mod printing;

@@ -1,4 +1,6 @@
 // Numbers and bytes by hex digits, made in a buffer. Each function puts a text at a position and answers where the next one goes.
+#![tactic(auto)]
+
 ghost use Rattle.std.specs.Prelude.{◌+◌, ◌*◌, ◌≤◌, ◌<◌, ◌≡◌, length};
 ghost use Rattle.rules.specs.Bytes.{part};
 ghost use Rattle.rules.specs.Numerals.{digit};

@@ -1,5 +1,7 @@
 // What a listing tells of values, made in a buffer: numbers, bytes in hex, and the line of a value record. Each function puts a text at
 // a position and answers where the next one goes.
+#![tactic(auto)]
+
 ghost use Rattle.std.specs.Prelude.{◌+◌, ◌*◌, ◌≤◌, ◌<◌, ◌≡◌, nat_abs, length};
 ghost use Rattle.rules.specs.Numerals.{integer_in};
 ghost use Rattle.rules.specs.Listing.{number_text, refusal_line};

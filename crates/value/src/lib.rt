@@ -1,5 +1,7 @@
 // The check of a value table: whether records and payload store are the table of some value (18). One walk over the records in
 // preorder, each looked at once; it builds nothing.
+#![tactic(auto)]
+
 ghost use Rattle.std.specs.Prelude.{◌≡◌, ◌-◌, ◌≤◌, ◌<◌};
 ghost use Rattle.rules.specs.Wire.{form};
 ghost use Rattle.rules.specs.Refusals.{BadValueTable};
@@ -12,14 +14,14 @@ use record::value_record::{records_in, value_record_at, whole_records};
 use rules::{Checked, LONGEST, Refusal, ValueRecord, Why};
 
 // Where the walk stands: the next record, and the next byte of the payload store.
-#[derive(Drop)]
+#[derive(Clone, Copy)]
 pub struct TablePos {
     pub at: usize,
     pub from: usize,
 }
 
 // What walking over a value answers: where its records and its payload end, or that there is no value.
-#[derive(Drop)]
+#[derive(Clone, Copy)]
 pub enum Walked {
     At(TablePos),
     Broken,

@@ -1,5 +1,7 @@
 // The row view: a value table's records and the number of one, and what a host sees from there. The getters take the view apart and
 // leave the work to functions with plain parameters, which serve every other caller.
+#![tactic(auto)]
+
 ghost use Rattle.std.specs.Prelude.{◌≡◌, ◌≤◌, ◌<◌, length};
 ghost use Rattle.rules.specs.Bytes.{longest_slice};
 ghost use Rattle.rules.specs.Query.{query_rule};
@@ -11,7 +13,7 @@ use rules::{LONGEST, Queried, Refusal, Seen, ValueRecord, Viewed};
 use value::record_alone;
 
 // The records of a value table, and the number of the record that is looked at.
-#[derive(Drop)]
+#[derive(Clone, Copy)]
 pub struct RowView<'a> {
     pub records: &'a [u8],
     pub at: usize,

@@ -1,4 +1,6 @@
 // The run over a stream that comes in windows: the run over what came so far, and then on over the next window.
+#![tactic(auto)]
+
 ghost use Rattle.std.specs.Prelude.{◌≤◌, ◌≡◌, length};
 ghost use Rattle.rules.specs.Bytes.{longest_slice};
 ghost use Rattle.rules.specs.Reading.{run_rule, ran_of};

@@ -11,7 +11,7 @@ use crate::{goes_on, run_on};
 use rules::{Ran, Settings, Stop};
 
 // Where each table ends in the space.
-#[derive(Drop)]
+#[derive(Clone, Copy)]
 pub struct Ends {
     pub records: usize,
     pub names: usize,
@@ -62,7 +62,7 @@ fn bytes_to_keep(stop: Stop, from: usize, end: usize) -> usize
 }
 
 // The run so far, and where the bytes of the window end that it has still to run over.
-#[derive(Drop)]
+#[derive(Clone, Copy)]
 pub struct WindowRun {
     pub ran: Ran,
     pub end: usize,

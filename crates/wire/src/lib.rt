@@ -1,4 +1,6 @@
 // The leaves, a file for each topic: numbers in bytes (read, and written), the order of byte strings, and the wire types, by code and by name.
+#![tactic(auto)]
+
 pub mod codes;
 pub mod names;
 pub mod numbers;

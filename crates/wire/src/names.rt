@@ -18,7 +18,7 @@ const STARTS: [usize; 21] = [
 ];
 
 // Bytes of the table of names.
-#[derive(Drop)]
+#[derive(Clone, Copy)]
 pub struct Span {
     pub start: usize,
     pub len: usize,

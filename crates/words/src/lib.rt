@@ -1,4 +1,6 @@
 // The words for the values that a refusal carries, each in twenty bytes, with blanks after it.
+#![tactic(auto)]
+
 ghost use Rattle.std.specs.Prelude.{◌+◌, ◌*◌, ◌≤◌, ◌≡◌, length};
 ghost use Rattle.rules.specs.Bytes.{part};
 ghost use Rattle.rules.specs.Lines.{word, code_word, context_word, labelled, word_of};

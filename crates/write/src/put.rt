@@ -17,7 +17,7 @@ use wire::codes::{code_width, tag_width};
 use wire::store::{put16, put32, put64};
 
 // Where the walk stands: the next value record, the next payload byte, the next byte of the output.
-#[derive(Drop)]
+#[derive(Clone, Copy)]
 pub struct WritePos {
     pub at: usize,
     pub from: usize,
@@ -151,7 +151,7 @@ fn put_end(code: u8, out: &mut [u8], to: usize) -> usize
 }
 
 // What a node comes to at once: a leaf of this code, whose record has this size and content, from this position on; or children.
-#[derive(Drop)]
+#[derive(Clone, Copy)]
 pub enum ToPut {
     Leaf(u8, u64, u64, WritePos),
     Children,

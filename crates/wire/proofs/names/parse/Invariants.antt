@@ -1,0 +1,11 @@
+use borrow.Author.Rules.{rules}
+use native.Mathlib.Omega.{arith}
+use Prim.Native.Nat.{◌-◌, ◌<◌}
+use Rattle.wire.proofs.NameTable.{Left, left_all, left_none, left_found, left_next, code_small}
+use Rattle.wire.proofs.names.parse.Given as goal
+
+abbrev pub invariant-loop-t : goal.invariant-loop-t
+invariant-loop-t l = Left l.name l.code
+
+abbrev pub decreases-loop-t : goal.decreases-loop-t
+decreases-loop-t l = 20 - l.code
