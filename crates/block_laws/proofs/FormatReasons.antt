@@ -24,7 +24,7 @@ use Rattle.rules.specs.declared.refusal.Refusal.{Refusal}
 use Rattle.rules.specs.declared.answer.Purpose.{Purpose}
 use Rattle.rules.specs.declared.answer.Checked.TheVariants.{Refused}
 use Rattle.rules.proofs.Tests.{and_both, and_true, all_each}
-use Rattle.block_laws.proofs.Honest.{Broken, unexpected, too_many, CheckSays, silent, says, said as reason, says_then}
+use Rattle.block_laws.proofs.Honest.{Broken, broken_number, broken_stays, CheckSays, silent, says, said as reason, says_then}
 use Rattle.block_laws.proofs.BlockReasons.{BadName, refuted, and_fails, all_fails, says_map, says_else, says_each, block_says, deep_says, names_say, root_says}
 use Rattle.block_laws.proofs.Utf8.{utf8_exactly}
 use Rattle.block_laws.proofs.Lookup.{lookup_there, lookup_misses}
@@ -179,8 +179,7 @@ module _ (f : Format) where
   number _ (bad_node_name b h) = inr (inr refl)
   number _ (bad_entry_name l h) = inr (inr refl)
   number _ (bad_reference_name l k h) = inr (inr refl)
-  number _ (broken b (unexpected i m h)) = inl (omega arith)
-  number _ (broken b (too_many i m h)) = inl (omega arith)
+  number r (broken b w) = let n = broken_number r w in inl (omega arith)
   number _ (no_tables h) = inl (omega arith)
   number _ (unknown h k n) = inl (omega arith)
   number _ (not_tuple_lem h s c) = inl (omega arith)
@@ -198,8 +197,7 @@ module _ (f : Format) where
   stays _ (bad_node_name b h) = refl
   stays _ (bad_entry_name l h) = refl
   stays _ (bad_reference_name l k h) = refl
-  stays _ (broken b (unexpected i m h)) = refl
-  stays _ (broken b (too_many i m h)) = refl
+  stays r (broken b w) = broken_stays r w
   stays _ (no_tables h) = refl
   stays _ (unknown h k n) = refl
   stays _ (not_tuple_lem h s c) = refl

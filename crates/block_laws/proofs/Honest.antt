@@ -10,7 +10,7 @@ use lib.ListN.{length}
 use lib.Dec.{eqb}
 use Rattle.rules.specs.Choice.{pick, ◌and◌, all}
 use Rattle.rules.specs.Wire.{form, written, written_if, type_of, type_in, wire_types, maximum}
-use Rattle.rules.specs.Refusals.{◌then◌, in_order, UnexpectedChildren, TooManyChildren}
+use Rattle.rules.specs.Refusals.{line_of, refusal_number, ◌then◌, in_order, UnexpectedChildren, TooManyChildren}
 use Rattle.rules.specs.Block.{NodeIn, node_at, records, Closed, Formed}
 use Rattle.rules.specs.SchemaRules.{node_rule, rule_at, schema_rule}
 use Rattle.rules.specs.declared.refusal.Refusal.{Refusal}
@@ -29,6 +29,18 @@ pub data Broken (s : List ℕ) (base : ℕ) : Refusal → Type 0 where
   too_many : {i most : ℕ} →
       i < records s → maximum (form (node_at s i).code) ≡ UpTo most → most < (node_at s i).children →
       Broken s base (TooManyChildren (node_at s i).code (node_at s i).children most (base + i))
+
+-- such a refusal is 4 or 5
+pub broken_number : {s : List ℕ} {base : ℕ} (r : Refusal) → Broken s base r → (4 ≤ refusal_number r) × (refusal_number r ≤ 5)
+unfolding line_of
+broken_number _ (unexpected i m h) = (omega arith, omega arith)
+broken_number _ (too_many i m h) = (omega arith, omega arith)
+
+-- and its place does not move with the stream
+pub broken_stays : {s : List ℕ} {base : ℕ} (r : Refusal) → Broken s base r → (line_of r.why).moves ≡ false
+unfolding line_of
+broken_stays _ (unexpected i m h) = refl
+broken_stays _ (too_many i m h) = refl
 
 -- ---- if there is a refusal, P holds of it
 pub data CheckSays (P : Refusal → Type 0) : Checked → Type 0 where

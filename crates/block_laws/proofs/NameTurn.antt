@@ -22,7 +22,7 @@ use Rattle.rules.proofs.Checks.{pick_accepted}
 use Rattle.block_laws.proofs.Utf8.{utf8_exactly}
 use Rattle.block_laws.proofs.Turns.{accepted_pick}
 use Rattle.block_laws.proofs.Good.{names_accept}
-use Rattle.block_laws.proofs.Honest.{unexpected, too_many}
+use Rattle.block_laws.proofs.Honest.{broken_number}
 use Rattle.block_laws.proofs.FormatReasons.{BlockOf, of_entry, of_table, FormatReason, too_long, bad_form, too_deep, bad_node_name, bad_entry_name, bad_reference_name, broken, no_tables, unknown, not_tuple_lem, no_name, format_honest}
 
 -- a name by itself
@@ -53,8 +53,7 @@ module _ (f : Format) (ok : format_utf8 f ≡ true) where
   no_bad_name _ (too_long h) e = omega arith
   no_bad_name _ (bad_form h) e = omega arith
   no_bad_name _ (too_deep b h) e = omega arith
-  no_bad_name _ (broken b (unexpected i m h)) e = omega arith
-  no_bad_name _ (broken b (too_many i m h)) e = omega arith
+  no_bad_name r (broken b w) e = let n = broken_number r w in omega arith
   no_bad_name _ (no_tables h) e = omega arith
   no_bad_name _ (unknown h k n) e = omega arith
   no_bad_name _ (not_tuple_lem h s c) e = omega arith
