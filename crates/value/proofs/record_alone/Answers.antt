@@ -4,8 +4,6 @@ use Rattle.rules.specs.Choice.{pick, ◌and◌}
 use Rattle.rules.specs.Query.{record_alone}
 use Rattle.value.proofs.record_alone.Goals as goal
 
-record-alone-spec = goal.close (goal.spec returns scalar-alone-requires returns-2 parent-alone-requires returns-3)
-
 pub returns-then-spare-ne0 : goal.returns-then-spare-ne0
 unfolding record_alone ◌and◌
 returns-then-spare-ne0 c = rw (ne_eqb _ _ c.if-spare-ne0.true)

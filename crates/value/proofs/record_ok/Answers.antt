@@ -4,8 +4,6 @@ use Rattle.rules.specs.Choice.{pick, ◌and◌}
 use Rattle.value.specs.Records.{value_record_ok}
 use Rattle.value.proofs.record_ok.Goals as goal
 
-record-ok-spec = goal.close (goal.spec returns tag-ok-requires returns-2 scalar-ok-requires returns-3 parent-alone-requires returns-4)
-
 pub returns-then-spare-ne0 : goal.returns-then-spare-ne0
 unfolding value_record_ok ◌and◌
 returns-then-spare-ne0 c = rw (ne_eqb _ _ c.if-spare-ne0.true)

@@ -6,8 +6,6 @@ use Rattle.value.proofs.Walks.{broken_not, walk_scalar, scalar_ends}
 use borrow.Author.Rules.{rules}
 use Rattle.value.proofs.walk_scalar.Goals as goal
 
-record-ok-requires c κs = search rules
-
 pub returns-then-depth-eq0 : goal.returns-then-depth-eq0
 returns-then-depth-eq0 c = broken_not
 
