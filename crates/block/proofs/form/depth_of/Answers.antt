@@ -2,11 +2,11 @@ use native.Mathlib.Omega.{arith}
 use Prim.Native.Nat.{◌+◌, ◌-◌, ◌≤◌}
 use mathlib.Core.Path.{◌≡◌, refl}
 use mathlib.Core.List.{[]}
-use mathlib.Core.Logic.{⊎_elim}
 use Rattle.rules.specs.Block.{earlier, depth_of}
 use Rattle.block_laws.proofs.Form.{next_suc, next_fits}
 use Rattle.block_laws.proofs.Levels.{LevelSpot, spot_first, spot_same, spot_next, spot_last}
 use Rattle.block.proofs.form.depth_of.Goals as goal
+use Rattle.block.proofs.form.depth_of.Goals.{then-i-edge, else-i-edge}
 
 pub loop-i-init : goal.loop-i-init
 unfolding earlier
@@ -33,9 +33,10 @@ loop-i-preserved c = (
   omega arith,
   (
     next_suc _ _ _ _ c.node_at-n.ensures c.loop-i.invariant.1.0,
-    ⊎_elim (λ w. spot_next _ c.requires _ _ _ _ _ _ c.loop-i-test.true c.loop-i.invariant.1.0 c.loop-i.invariant.1.1 w.0.taken w.1 w.2)
-        (λ w. spot_same _ _ _ _ _ _ c.loop-i.invariant.1.1 w.0.left w.1 w.2)
-        c.if-i-edge.branch,
+    elim c.if-i-edge.branch [
+      | then-i-edge w ↦ spot_next _ c.requires _ _ _ _ _ _ c.loop-i-test.true c.loop-i.invariant.1.0 c.loop-i.invariant.1.1 w.if-i-edge.true w.edge-is w.depth-is
+      | else-i-edge w ↦ spot_same _ _ _ _ _ _ c.loop-i.invariant.1.1 w.if-i-edge.false w.edge-is w.depth-is
+    ],
   ),
 )
 

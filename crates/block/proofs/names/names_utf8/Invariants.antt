@@ -10,9 +10,7 @@ use Rattle.block.proofs.Spans.{node_name_inside, name_at}
 use Rattle.block.proofs.names.names_utf8.Given as goal
 
 abbrev pub invariant-loop-i : goal.invariant-loop-i
-invariant-loop-i l = (l.i ≤ l.m) × (all (λ l.i. is_name_utf8 (node_name l.s l.names l.i)) l.i ≡ true)
-
+invariant-loop-i l = (l.i ≤ l.m) × (all (λ i'. is_name_utf8 (node_name l.s l.names i')) l.i ≡ true)
 
 abbrev pub decreases-loop-i : goal.decreases-loop-i
 decreases-loop-i l = l.m - l.i
-
