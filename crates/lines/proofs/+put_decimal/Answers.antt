@@ -5,41 +5,23 @@ use Rattle.lines.proofs.Decimals.{small_length, more_length}
 use Rattle.lines.proofs.Putting.{put_small, put_more}
 use Rattle.lines.proofs.+put_decimal.Goals as goal
 
-cast-buffer : (t : ℕ) → put-decimal-lts.Need-overflow-cast-buffer (put-decimal-below t, put-decimal.Post) (put-decimal-at t) put-decimal.Post
-cast-buffer t c = search rules
+pub bounds-buffer-at : goal.bounds-buffer-at
+bounds-buffer-at t c = omega (arith, small_length _ c.if-n-lt10.true)
 
-add-buffer : (t : ℕ) → put-decimal-lts.Need-overflow-add-buffer (put-decimal-below t, put-decimal.Post) (put-decimal-at t) put-decimal.Post
-add-buffer t c = search rules
+pub overflow_add-result : goal.overflow_add-result
+overflow_add-result t c = omega (arith, small_length _ c.if-n-lt10.true)
 
-slice-write-buffer : (t : ℕ) → put-decimal-lts.Need-slice-write-buffer (put-decimal-below t, put-decimal.Post) (put-decimal-at t) put-decimal.Post
-slice-write-buffer t c = omega (arith, small_length _ c.if1.true)
+pub returns-then-n-lt10 : goal.returns-then-n-lt10
+returns-then-n-lt10 t c = put_small _ _ _ c.if-n-lt10.true
 
-add-result : (t : ℕ) → put-decimal-lts.Need-overflow-add-result (put-decimal-below t, put-decimal.Post) (put-decimal-at t) put-decimal.Post
-add-result t c = omega (arith, small_length _ c.if1.true)
+pub put_decimal-last-requires : goal.put_decimal-last-requires
+put_decimal-last-requires t c = (omega arith, omega (arith, more_length _ c.if-n-lt10.false))
 
-same_length : (t : ℕ) → put-decimal-lts.Need-same-length (put-decimal-below t, put-decimal.Post) (put-decimal-at t) put-decimal.Post
-same_length t c = search rules
+pub bounds-buffer-last : goal.bounds-buffer-last
+bounds-buffer-last t c = omega (arith, more_length _ c.if-n-lt10.false)
 
-returns : (t : ℕ) → put-decimal-lts.Need-returns (put-decimal-below t, put-decimal.Post) (put-decimal-at t) put-decimal.Post
-returns t c = put_small _ _ _ c.if1.true
+pub overflow_add-result-2 : goal.overflow_add-result-2
+overflow_add-result-2 t c = omega (arith, more_length _ c.if-n-lt10.false)
 
-put-decimal-requires : (t : ℕ) → put-decimal-lts.Need-put-decimal-requires (put-decimal-below t, put-decimal.Post) (put-decimal-at t) put-decimal.Post
-put-decimal-requires t c κs = (omega arith, omega (arith, more_length _ c.before.if1.false))
-
-cast-buffer-2 : (t : ℕ) → put-decimal-lts.Need-overflow-cast-buffer-2 (put-decimal-below t, put-decimal.Post) (put-decimal-at t) put-decimal.Post
-cast-buffer-2 t c = search rules
-
-add-buffer-2 : (t : ℕ) → put-decimal-lts.Need-overflow-add-buffer-2 (put-decimal-below t, put-decimal.Post) (put-decimal-at t) put-decimal.Post
-add-buffer-2 t c = search rules
-
-slice-write-buffer-2 : (t : ℕ) → put-decimal-lts.Need-slice-write-buffer-2 (put-decimal-below t, put-decimal.Post) (put-decimal-at t) put-decimal.Post
-slice-write-buffer-2 t c = omega (arith, more_length _ c.before.before.before.before.if1.false)
-
-add-result-2 : (t : ℕ) → put-decimal-lts.Need-overflow-add-result-2 (put-decimal-below t, put-decimal.Post) (put-decimal-at t) put-decimal.Post
-add-result-2 t c = omega (arith, more_length _ c.before.before.before.before.if1.false)
-
-same-length-2 : (t : ℕ) → put-decimal-lts.Need-same-length-2 (put-decimal-below t, put-decimal.Post) (put-decimal-at t) put-decimal.Post
-same-length-2 t c = search rules
-
-returns-2 : (t : ℕ) → put-decimal-lts.Need-returns-2 (put-decimal-below t, put-decimal.Post) (put-decimal-at t) put-decimal.Post
-returns-2 t c = put_more _ _ _ _ _ c.before.before.before.before.if1.false c.before.before.put-decimal.ensures
+pub returns : goal.returns
+returns t c = put_more _ _ _ _ _ c.if-n-lt10.false c.put_decimal-last.ensures

@@ -111,10 +111,7 @@ pub skip_value-returns-in_default : goal.skip_value-returns-in_default
 skip_value-returns-in_default t c = rw (c.skipped_refused_by_charge.ensures _ c.in_default.is, skim_dear _ _ _ _ _ c.args.p c.if-depth-eq0.false _ c.charge-paid.ensures _ c.in_default.is)
 
 pub skip_value-leaf_at-reached-requires : goal.skip_value-leaf_at-reached-requires
-skip_value-leaf_at-reached-requires t c = let inside_here : let s = c.args in
-    skim s.block.now s.input.now s.charge s.depth s.node s.p
-    ≡ skim_node s.block.now s.input.now (skim s.block.now s.input.now s.charge (s.depth - 1)) s.node (standing s.p.at c.in-Left.rest (s.p.records + 1) s.p.payload) = skim_paid _ _ _ _ _ c.args.p c.if-depth-eq0.false _ c.charge-paid.ensures _ c.in-Left.is in
-    (record { sound = c.requires.0; inside_here c.requires.1; is = c.node_code-code.ensures }, ready_paid _ _ _ _ _ c.requires.2 c.charge-paid.ensures c.in-Left.is)
+skip_value-leaf_at-reached-requires t c = (record { sound = c.requires.0; inside = c.requires.1; is = c.node_code-code.ensures }, ready_paid _ _ _ _ _ c.requires.2 c.charge-paid.ensures c.in-Left.is)
 
 pub skip_value-skip_leaf-s-requires : goal.skip_value-skip_leaf-s-requires
 skip_value-skip_leaf-s-requires t c = (reached_leaf _ _ _ _ _ _ c.leaf_at-reached.ensures _ _ c.in-Leaf.is).1
@@ -126,10 +123,7 @@ skip_value-returns-in_default-s t c = let inside_here : let s = c.args in
     rw (inside_here, (reached_leaf _ _ _ _ _ _ c.leaf_at-reached.ensures _ _ c.in-Leaf.is).0, ← c.skip_leaf-s.ensures, c.in_default-s.is)
 
 pub skip_value-skip_children-s-requires : goal.skip_value-skip_children-s-requires
-skip_value-skip_children-s-requires t c = let inside_here : let s = c.args in
-    skim s.block.now s.input.now s.charge s.depth s.node s.p
-    ≡ skim_node s.block.now s.input.now (skim s.block.now s.input.now s.charge (s.depth - 1)) s.node (standing s.p.at c.in-Left.rest (s.p.records + 1) s.p.payload) = skim_paid _ _ _ _ _ c.args.p c.if-depth-eq0.false _ c.charge-paid.ensures _ c.in-Left.is in
-    (omega (arith, c.decreases), (omega (arith, c.if-depth-eq0.false), record { sound = c.requires.0; inside_here c.requires.1; is = c.node_code-code.ensures }, rw c.node_code-code.ensures (reached_children _ _ _ _ _ _ c.leaf_at-reached.ensures c.in-Children.is), ready_paid _ _ _ _ _ c.requires.2 c.charge-paid.ensures c.in-Left.is))
+skip_value-skip_children-s-requires t c = (omega (arith, c.decreases), (omega (arith, c.if-depth-eq0.false), record { sound = c.requires.0; inside = c.requires.1; is = c.node_code-code.ensures }, rw c.node_code-code.ensures (reached_children _ _ _ _ _ _ c.leaf_at-reached.ensures c.in-Children.is), ready_paid _ _ _ _ _ c.requires.2 c.charge-paid.ensures c.in-Left.is))
 
 pub skip_value-returns-in_default-s-2 : goal.skip_value-returns-in_default-s-2
 skip_value-returns-in_default-s-2 t c = let inside_here : let s = c.args in
