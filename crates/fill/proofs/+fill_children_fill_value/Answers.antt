@@ -41,9 +41,8 @@ fill_children-fill_value-q-requires t c = let start_here : Opened c.args.block.n
     let a = s.args in
     let rec = read_at a.block.now a.input.now (a.depth - 1) in
     let n = node_at a.block.now a.node in
-    let next = c.next-1.given.0 in
-    Turn a.input.now rec n (form n.code) c.loop-bears.n c.loop-bears.invariant.enough (end_read (read_at a.block.now a.input.now a.depth a.node a.s.at)) c.loop-bears.invariant.rest next.0 next.1.0 next.1.1.0
-    × RoomToFill (rec next.1.0 next.1.1.0) (spot next.1.1.0 c.loop-bears.q.records c.loop-bears.q.payload) (length c.loop-bears.records) (length c.loop-bears.payload) = let s = c in
+    Turn a.input.now rec n (form n.code) c.loop-bears.n c.loop-bears.invariant.enough (end_read (read_at a.block.now a.input.now a.depth a.node a.s.at)) c.loop-bears.invariant.rest c.in-Child.bears c.in-Child.child c.in-Child.start
+    × RoomToFill (rec c.in-Child.child c.in-Child.start) (spot c.in-Child.start c.loop-bears.q.records c.loop-bears.q.payload) (length c.loop-bears.records) (length c.loop-bears.payload) = let s = c in
     let p = (start_here).begins.parent in
     let e = rw (c.node_code-code.ensures, c.node_first-first.ensures, c.node_children-count.ensures) at c.next_child-next.ensures in
     let u = next_turn c.loop-bears.invariant _ _ _ _ e c.in-Child.is in
@@ -63,9 +62,8 @@ fill_children-loop-bears-smaller t c = let start_here : Opened c.args.block.now 
     let a = s.args in
     let rec = read_at a.block.now a.input.now (a.depth - 1) in
     let n = node_at a.block.now a.node in
-    let next = c.next-1.given.0 in
-    Turn a.input.now rec n (form n.code) c.loop-bears.n c.loop-bears.invariant.enough (end_read (read_at a.block.now a.input.now a.depth a.node a.s.at)) c.loop-bears.invariant.rest next.0 next.1.0 next.1.1.0
-    × RoomToFill (rec next.1.0 next.1.1.0) (spot next.1.1.0 c.loop-bears.q.records c.loop-bears.q.payload) (length c.loop-bears.records) (length c.loop-bears.payload) = let s = c in
+    Turn a.input.now rec n (form n.code) c.loop-bears.n c.loop-bears.invariant.enough (end_read (read_at a.block.now a.input.now a.depth a.node a.s.at)) c.loop-bears.invariant.rest c.in-Child.bears c.in-Child.child c.in-Child.start
+    × RoomToFill (rec c.in-Child.child c.in-Child.start) (spot c.in-Child.start c.loop-bears.q.records c.loop-bears.q.payload) (length c.loop-bears.records) (length c.loop-bears.payload) = let s = c in
     let p = (start_here).begins.parent in
     let e = rw (c.node_code-code.ensures, c.node_first-first.ensures, c.node_children-count.ensures) at c.next_child-next.ensures in
     let u = next_turn c.loop-bears.invariant _ _ _ _ e c.in-Child.is in
@@ -80,9 +78,8 @@ fill_children-loop-bears-preserved t c = let start_here : Opened c.args.block.no
     let a = s.args in
     let rec = read_at a.block.now a.input.now (a.depth - 1) in
     let n = node_at a.block.now a.node in
-    let next = c.next-1.given.0 in
-    Turn a.input.now rec n (form n.code) c.loop-bears.n c.loop-bears.invariant.enough (end_read (read_at a.block.now a.input.now a.depth a.node a.s.at)) c.loop-bears.invariant.rest next.0 next.1.0 next.1.1.0
-    × RoomToFill (rec next.1.0 next.1.1.0) (spot next.1.1.0 c.loop-bears.q.records c.loop-bears.q.payload) (length c.loop-bears.records) (length c.loop-bears.payload) = let s = c in
+    Turn a.input.now rec n (form n.code) c.loop-bears.n c.loop-bears.invariant.enough (end_read (read_at a.block.now a.input.now a.depth a.node a.s.at)) c.loop-bears.invariant.rest c.in-Child.bears c.in-Child.child c.in-Child.start
+    × RoomToFill (rec c.in-Child.child c.in-Child.start) (spot c.in-Child.start c.loop-bears.q.records c.loop-bears.q.payload) (length c.loop-bears.records) (length c.loop-bears.payload) = let s = c in
     let p = (start_here).begins.parent in
     let e = rw (c.node_code-code.ensures, c.node_first-first.ensures, c.node_children-count.ensures) at c.next_child-next.ensures in
     let u = next_turn c.loop-bears.invariant _ _ _ _ e c.in-Child.is in

@@ -35,8 +35,9 @@ pub returns-then-code-gt12 : goal.returns-then-code-gt12
 returns-then-code-gt12 c = let s = c in
     let k = blob_stored s.args.input.now s.args.code s.args.s.at c.if-code-gt12.true s.requires.0 s.requires.1.is in
     let n = c.u32_at-n.ensures in
-    let e = rw n at c.fill_stored.ensures in
-    stored_fills _ _ s.args.s _ _ _ k _ _ _ _ _ _ e.0 e.1 (rw n at c.copy.ensures)
+    let spot = rw n at c.fill_stored.ensures.spot in
+    let stored = rw n at c.fill_stored.ensures.records in
+    stored_fills _ _ s.args.s _ _ _ k _ _ _ _ _ _ spot stored (rw n at c.copy.ensures)
 
 pub copy_wide-requires : goal.copy_wide-requires
 copy_wide-requires c = let s = c in
@@ -56,8 +57,9 @@ pub returns-then-width-gt8 : goal.returns-then-width-gt8
 returns-then-width-gt8 c = let s = c in
     let w = c.code_width-width.ensures.0 in
     let k = wide_stored s.args.input.now s.args.code s.args.s.at c.if-code-gt12.false (rw w at c.if-width-gt8.true) s.requires.1.is in
-    let e = rw w at c.fill_stored-then-width-gt8.ensures in
-    stored_fills _ _ s.args.s _ _ _ k _ _ _ _ _ _ e.0 e.1 (rw w at c.copy_wide.ensures)
+    let spot = rw w at c.fill_stored-then-width-gt8.ensures.spot in
+    let stored = rw w at c.fill_stored-then-width-gt8.ensures.records in
+    stored_fills _ _ s.args.s _ _ _ k _ _ _ _ _ _ spot stored (rw w at c.copy_wide.ensures)
 
 pub scalar_at-requires : goal.scalar_at-requires
 scalar_at-requires c = let s = c in

@@ -31,8 +31,7 @@ skip_children-next_child-pick-requires t c = let inside_here : node_start (c.nod
 
 pub skip_children-skip_value-s-requires : goal.skip_children-skip_value-s-requires
 skip_children-skip_value-s-requires t c = let inside_here : node_start (c.node_first-first.result + c.node_children-count.result) ≤ length c.args.block.now = node_children _ _ _ _ _ c.requires.1 c.node_first-first.ensures c.node_children-count.ensures in
-    let child_here : let s = c.args in let l = c.loop-child in
-    Moved (shape_of s.code) (length s.input.now) c.node_first-first.result c.node_children-count.result c.loop-child.i c.loop-child.q.at c.in-Child.child c.in-Child.start = let l = c.loop-child.invariant in picked_child _ _ _ _ _ _ c.loop-child.1.0.stands.within c.loop-child.0 _ (wide_shape _ c.requires.2) _ _ _ c.next_child-pick.ensures c.in-Child.is in
+    let child_here : let s = c.args in Moved (shape_of s.code) (length s.input.now) c.node_first-first.result c.node_children-count.result c.loop-child.i c.loop-child.q.at c.in-Child.child c.in-Child.start = let l = c.loop-child.invariant in picked_child _ _ _ _ _ _ l.1.0.stands.within l.0 _ (wide_shape _ c.requires.2) _ _ _ c.next_child-pick.ensures c.in-Child.is in
     let enters_here : let s = c.args in
     Ready s.input.now s.charge (moved c.loop-child.q c.in-Child.start) = let m = child_here in
     let r = c.loop-child.invariant.1.0 in
@@ -53,15 +52,13 @@ skip_children-returns-then-code-lt17 t c = let l = c.loop-child.invariant.1.1 in
 
 pub skip_children-overflow_add-i : goal.skip_children-overflow_add-i
 skip_children-overflow_add-i t c = let inside_here : node_start (c.node_first-first.result + c.node_children-count.result) ≤ length c.args.block.now = node_children _ _ _ _ _ c.requires.1 c.node_first-first.ensures c.node_children-count.ensures in
-    let child_here : let s = c.args in let l = c.loop-child in
-    Moved (shape_of s.code) (length s.input.now) c.node_first-first.result c.node_children-count.result c.loop-child.i c.loop-child.q.at c.in-Child.child c.in-Child.start = let l = c.loop-child.invariant in picked_child _ _ _ _ _ _ c.loop-child.1.0.stands.within c.loop-child.0 _ (wide_shape _ c.requires.2) _ _ _ c.next_child-pick.ensures c.in-Child.is in
+    let child_here : let s = c.args in Moved (shape_of s.code) (length s.input.now) c.node_first-first.result c.node_children-count.result c.loop-child.i c.loop-child.q.at c.in-Child.child c.in-Child.start = let l = c.loop-child.invariant in picked_child _ _ _ _ _ _ l.1.0.stands.within l.0 _ (wide_shape _ c.requires.2) _ _ _ c.next_child-pick.ensures c.in-Child.is in
     let m = child_here in
     let k = inside_here in
     omega (arith, k, m.counts, m.within, c.loop-child.invariant.1.0.stands.short, c.well_formed)
 
 pub skip_children-loop-child-smaller : goal.skip_children-loop-child-smaller
-skip_children-loop-child-smaller t c = let child_here : let s = c.args in let l = c.loop-child in
-    Moved (shape_of s.code) (length s.input.now) c.node_first-first.result c.node_children-count.result c.loop-child.i c.loop-child.q.at c.in-Child.child c.in-Child.start = let l = c.loop-child.invariant in picked_child _ _ _ _ _ _ c.loop-child.1.0.stands.within c.loop-child.0 _ (wide_shape _ c.requires.2) _ _ _ c.next_child-pick.ensures c.in-Child.is in
+skip_children-loop-child-smaller t c = let child_here : let s = c.args in Moved (shape_of s.code) (length s.input.now) c.node_first-first.result c.node_children-count.result c.loop-child.i c.loop-child.q.at c.in-Child.child c.in-Child.start = let l = c.loop-child.invariant in picked_child _ _ _ _ _ _ l.1.0.stands.within l.0 _ (wide_shape _ c.requires.2) _ _ _ c.next_child-pick.ensures c.in-Child.is in
     let enters_here : let s = c.args in
     Ready s.input.now s.charge (moved c.loop-child.q c.in-Child.start) = let m = child_here in
     let r = c.loop-child.invariant.1.0 in
@@ -72,8 +69,7 @@ skip_children-loop-child-smaller t c = let child_here : let s = c.args in let l 
     omega (arith, m.falls, m.within, leaves_here)
 
 pub skip_children-loop-child-preserved : goal.skip_children-loop-child-preserved
-skip_children-loop-child-preserved t c = let child_here : let s = c.args in let l = c.loop-child in
-    Moved (shape_of s.code) (length s.input.now) c.node_first-first.result c.node_children-count.result c.loop-child.i c.loop-child.q.at c.in-Child.child c.in-Child.start = let l = c.loop-child.invariant in picked_child _ _ _ _ _ _ c.loop-child.1.0.stands.within c.loop-child.0 _ (wide_shape _ c.requires.2) _ _ _ c.next_child-pick.ensures c.in-Child.is in
+skip_children-loop-child-preserved t c = let child_here : let s = c.args in Moved (shape_of s.code) (length s.input.now) c.node_first-first.result c.node_children-count.result c.loop-child.i c.loop-child.q.at c.in-Child.child c.in-Child.start = let l = c.loop-child.invariant in picked_child _ _ _ _ _ _ l.1.0.stands.within l.0 _ (wide_shape _ c.requires.2) _ _ _ c.next_child-pick.ensures c.in-Child.is in
     let enters_here : let s = c.args in
     Ready s.input.now s.charge (moved c.loop-child.q c.in-Child.start) = let m = child_here in
     let r = c.loop-child.invariant.1.0 in
@@ -87,10 +83,10 @@ skip_children-loop-child-preserved t c = let child_here : let s = c.args in let 
       (
         o.1,
         (
-          c.loop-child.0 - 1,
+          l.0 - 1,
           (
-            fuel_next _ _ _ _ _ _ c.loop-child.1.0 m.past o.0 o.1.stands.within,
-            turn_on _ _ _ _ _ _ _ _ _ c.loop-child.1.0 _ c.loop-child.1.1 _ c.next_child-pick.ensures _ _ c.in-Child.is _ c.skip_value-s.ensures _ c.in-At.is c.if-code-lt17.false,
+            fuel_next _ _ _ _ _ _ l.1.0 m.past o.0 o.1.stands.within,
+            turn_on _ _ _ _ _ _ _ _ _ l.1.0 _ l.1.1 _ c.next_child-pick.ensures _ _ c.in-Child.is _ c.skip_value-s.ensures _ c.in-At.is c.if-code-lt17.false,
           ),
         ),
       ),
