@@ -23,4 +23,5 @@ pub loop-k-preserved : goal.loop-k-preserved
 loop-k-preserved c = puts_hex_turn _ _ _ _ _ _ _ _ c.loop-k.invariant _ _ c.loop-k-test.true c.hex_digit.ensures c.hex_digit-in-loop-k.ensures
 
 pub returns : goal.returns
-returns c = puts_hex_end _ _ _ _ _ _ _ _ c.loop-k.invariant c.loop-k-test.false
+returns c = let both = puts_hex_end _ _ _ _ _ _ _ _ c.loop-k.invariant c.loop-k-test.false in
+    record { text_put = both.0; value = both.1 }
