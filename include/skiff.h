@@ -2,7 +2,7 @@
  * skiff.h: rows of Skiff streams, skipped, counted, decoded, indexed and written, and their formats checked,
  * by a proved library.
  *
- * Link target/staticlib/libskiff.a, which `rt staticlib skiff` writes; it is for x86-64 and needs no
+ * Link target/staticlib/libskiff.a, which rust/build-archive writes; it is for x86-64 and needs no
  * other library. The functions keep nothing between calls, allocate nothing and write to nothing but
  * the answer slice and, in skiff_decode and skiff_decode_indexed, the two slices for a row, in skiff_encode
  * the output, in skiff_build_index and skiff_extend_index the index, in skiff_integer_text the text, so any

@@ -6,7 +6,6 @@ use mathlib.Core.Bool.{Bool, true}
 use mathlib.Core.List.{List}
 use native.Mathlib.Omega.{arith}
 use lib.Dec.{eqb}
-use Rattle.rules.specs.Schema.{named}
 use Rattle.rules.specs.Block.{records, block, node_at, name_in, node_name, is_name_utf8, names_utf8, block_ok}
 use Rattle.rules.specs.Format.{block_form_ok, block_utf8}
 use Rattle.rules.specs.declared.table_record.Node.{Node}

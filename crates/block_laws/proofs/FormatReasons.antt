@@ -9,7 +9,7 @@ use native.Mathlib.Omega.{arith}
 use borrow.Author.Tests.{lt-ltb, le-leb, eqb-true, eq-eqb, ne_eqb}
 use lib.ListN.{length}
 use lib.Dec.{eqb}
-use Rattle.rules.specs.Choice.{pick, ◌and◌, all}
+use Rattle.rules.specs.Choice.{pick, all}
 use Rattle.rules.specs.Bytes.{part}
 use Rattle.rules.specs.Refusals.{line_of, refusal_number, ◌then◌, in_order, Setting, BadSchemaTable, TooDeep, NameNotUtf8, EmptyTableSchemas, UnknownRegistryReference, TableSchemaRootMustBeTuple, TableSchemaChildMissingName}
 use Rattle.rules.specs.Utf8.{Utf8, is_utf8}

@@ -8,7 +8,6 @@ use mathlib.Core.Logic.{◌↔◌}
 use native.Mathlib.Omega.{arith}
 use native.Mathlib.Nat.{div-div-eq-div-mul, pow-suc}
 use lib.ListN.{length, get_or, length-append}
-use Rattle.rules.specs.Choice.{◌and◌}
 use Rattle.rules.specs.Utf8.{ScalarValue, mark, following, byte_form, room_of, shortest, encoding, encodings, ScalarValues, Utf8}
 use Rattle.rules.specs.Utf8.{awaited, lowest, highest, rest_utf8, is_utf8}
 use Rattle.rules.proofs.Tests.{and_both, and_true, false_not}

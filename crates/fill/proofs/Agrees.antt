@@ -17,7 +17,7 @@ use Rattle.rules.specs.declared.table_record.Node.{Node}
 use Rattle.rules.specs.declared.refusal.Refusal.{Refusal}
 use Rattle.rules.specs.Refusals.{RowTooLarge}
 use Rattle.row_laws.proofs.Sound.{sound}
-use Rattle.fill.specs.Plain.{PlainRead, Got, ◌>>=◌, value_read, plain_number_at, bytes_at, leaf_at, Reader, child_at, pairs_at, fields_at, by_form, read_at}
+use Rattle.fill.specs.Plain.{PlainRead, Got, ◌>>=◌, plain_number_at, bytes_at, leaf_at, Reader, child_at, pairs_at, fields_at, by_form, read_at}
 
 -- what is accepted is read, and leaves off at the same position
 data Agrees {A : Type 0} : Answer A → PlainRead A → Type 0 where

@@ -13,9 +13,9 @@ use Rattle.rules.specs.Choice.{pick, ◌and◌, all}
 use Rattle.rules.specs.Bytes.{le_at}
 use Rattle.rules.specs.Wire.{Form, empty, truth, fixed, raw, sized, variant_form, repeated_form, tuple_form, unknown, form, end_tag, wire_types, type_in, type_of, written, written_if}
 use Rattle.rules.specs.Block.{node_at}
-use Rattle.rules.specs.Value.{Value, nothing, boolean, number, wide, blob, variant, repeated, tuple, Items, done, item, Values, none, more, items, values, tally, tally_i, tally_v, records_of, payload_of}
+use Rattle.rules.specs.Value.{Value, variant, repeated, tuple, Items, done, item, Values, more, items, tally, tally_i, records_of, payload_of}
 use Rattle.rules.specs.ValueRecord.{value_record}
-use Rattle.rules.specs.ValueTable.{payload_bytes, payload_bytes_i, payload_bytes_v, value_kind, size_of, content_of, head_of, below, below_i, below_v, heads}
+use Rattle.rules.specs.ValueTable.{payload_bytes, payload_bytes_i, value_kind, size_of, content_of, head_of, below, below_i, heads}
 use Rattle.rules.specs.Writing.{kind_for}
 use Rattle.rules.specs.declared.table_record.Node.{Node}
 use Rattle.rules.proofs.Tests.{all_each}

@@ -19,7 +19,7 @@ use Rattle.fill.specs.declared.FillPos.{FillPos}
 use Rattle.fill.specs.declared.ToFill.{ToFill}
 use Rattle.fill.specs.declared.ToFill.TheVariants.{Leaf, Children}
 use Rattle.fill.specs.Plain.{PlainRead, Got, IsGot, value_read, end_read, leaf_at, Reader, by_form, read_at}
-use Rattle.fill.specs.Filling.{RoomToFill, past_filled, Filled}
+use Rattle.fill.specs.Filling.{past_filled}
 use Rattle.fill.specs.Leads.{Held, Rest, LeadsToFill}
 use Rattle.fill.proofs.Got.{got_from, got_is, read_step, step, number_step, child_step}
 use Rattle.fill.proofs.Children.{leaf_read}

@@ -1,8 +1,8 @@
 -- A longer stream begins with the rows of its first part; so extending that part's index is building the whole.
 -- Assumes nothing.
-use Prim.Native.Nat.{ℕ, zero, suc, ◌+◌, ◌≤◌, ◌<◌, min}
+use Prim.Native.Nat.{ℕ, ◌+◌, ◌≤◌}
 use mathlib.Core.Path.{◌≡◌, refl, sym, ap, ◌∙◌}
-use mathlib.Core.Bool.{Bool, true, false}
+use mathlib.Core.Bool.{true}
 use mathlib.Core.Logic.{◌⊎◌, inl, inr}
 use mathlib.Core.List.{List, [], ◌∷◌, ◌++◌, map}
 use native.Mathlib.Omega.{arith}
@@ -14,11 +14,10 @@ use Rattle.rules.specs.Choice.{pick}
 use Rattle.rules.specs.Bytes.{Bytes, Stands, part, over}
 use Rattle.rules.specs.Format.{Format}
 use Rattle.rules.specs.Refusals.{IndexMismatch}
-use Rattle.rules.specs.Reading.{limits, Run, run_rule, row_count, byte_count, ran_of, room}
+use Rattle.rules.specs.Reading.{Run, run_rule, row_count, byte_count, ran_of, room}
 use Rattle.rules.specs.Windows.{goes_on, moved_row, continued}
 use Rattle.rules.specs.Index.{Indexed, IndexOf, index_record_start, index_records_in, index_of, is_index_of, where_ended, refused_after, extended, build_rule, extend_rule}
 use Rattle.rules.specs.declared.settings.Settings.{Settings}
-use Rattle.rules.specs.declared.refusal.Refusal.{Refusal}
 use Rattle.rules.specs.declared.answer.RowSpan.{RowSpan}
 use Rattle.rules.specs.declared.answer.Stop.{Stop}
 use Rattle.rules.proofs.Over.{over-more}

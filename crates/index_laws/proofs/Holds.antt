@@ -1,25 +1,24 @@
 -- What build leaves, and what check accepts.
 -- Assumes nothing.
-use Prim.Native.Nat.{ℕ, ◌+◌, ◌≤◌, ◌<◌, min}
+use Prim.Native.Nat.{ℕ, ◌+◌, ◌≤◌}
 use mathlib.Core.Path.{◌≡◌, refl, sym, ap, ◌∙◌}
 use mathlib.Core.Bool.{Bool, true, false}
 use mathlib.Core.Logic.{◌⊎◌, inl, inr, ◌↔◌}
-use mathlib.Core.List.{List, [], ◌∷◌, ◌++◌}
+use mathlib.Core.List.{List, [], ◌++◌}
 use native.Mathlib.Omega.{arith}
 use borrow.Author.Tests.{le-leb, leb-true}
 use lib.Dec.{leb}
 use lib.ListN.{length, take, drop}
 use lib.Seq.{take_at, drop_at}
 use Rattle.rules.specs.Choice.{pick}
-use Rattle.rules.specs.Bytes.{Bytes, Stands, over, order, is_equal}
-use Rattle.rules.specs.Format.{Format, short_ok}
+use Rattle.rules.specs.Bytes.{Bytes, Stands, over, is_equal}
+use Rattle.rules.specs.Format.{Format}
 use Rattle.rules.specs.Refusals.{Setting, NoIndexRoom, IndexMismatch}
 use Rattle.rules.specs.Reading.{limits, Run, run_rule, row_count, ran_of, refused_run, room}
-use Rattle.rules.specs.Index.{Indexed, IndexOf, HoldsRows, index_record_start, index_records_in, index_of, is_index_of, indexed_rows, where_ended, refused_after, extended, build_rule, check_index_rule, extend_rule}
+use Rattle.rules.specs.Index.{Indexed, IndexOf, HoldsRows, index_record_start, index_records_in, index_of, is_index_of, where_ended, refused_after, extended, build_rule, check_index_rule, extend_rule}
 use Rattle.rules.specs.declared.settings.Settings.{Settings}
 use Rattle.rules.specs.declared.refusal.Refusal.{Refusal}
 use Rattle.rules.specs.declared.answer.RowSpan.{RowSpan}
-use Rattle.rules.specs.declared.answer.Ran.{Ran}
 use Rattle.rules.specs.declared.answer.Stop.{Stop}
 use Rattle.rules.proofs.Orders.{is_equal_lem, order_same, order_equal}
 use Rattle.rules.proofs.Over.{over-is}

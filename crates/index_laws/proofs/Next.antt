@@ -1,12 +1,10 @@
 -- The next row of a stream whose run came to its end, and the rows after it.
 -- Assumes nothing.
-use Prim.Native.Nat.{ℕ, zero, suc, ◌+◌, ◌≤◌, ◌<◌}
-use mathlib.Core.Path.{◌≡◌, refl, sym, ap, ◌∙◌}
-use mathlib.Core.Bool.{Bool, true, false}
+use Prim.Native.Nat.{ℕ, ◌+◌, ◌≤◌, ◌<◌}
+use mathlib.Core.Path.{◌≡◌, refl, sym, ◌∙◌}
 use mathlib.Core.List.{List, [], ◌∷◌, ◌++◌}
 use native.Mathlib.Omega.{arith}
 use borrow.Author.Tests.{ne_eqb}
-use lib.Dec.{eqb}
 use lib.ListN.{length, take, drop}
 use lib.Seq.{take-add, drop-drop}
 use Rattle.rules.specs.Choice.{pick}
@@ -18,9 +16,9 @@ use Rattle.rules.specs.Reading.{row_at, skipped, skip_from, row_count, byte_coun
 use Rattle.rules.specs.declared.answer.Extent.{Extent}
 use Rattle.rules.specs.declared.answer.RowSpan.{RowSpan}
 use Rattle.rules.specs.declared.answer.Read.{Read}
-use Rattle.rules.specs.declared.answer.Read.TheVariants.{Row, End, Refused}
+use Rattle.rules.specs.declared.answer.Read.TheVariants.{Row, End}
 use Rattle.rules.specs.declared.answer.Stop.{Stop}
-use Rattle.row_laws.proofs.Running.{Iterates, ended, refused, accepted, skip_goes}
+use Rattle.row_laws.proofs.Running.{Iterates, ended, accepted, skip_goes}
 use Rattle.index_laws.proofs.Records.{Fits}
 use Rattle.index_laws.proofs.Rows.{row_fits}
 

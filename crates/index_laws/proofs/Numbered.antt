@@ -4,21 +4,19 @@ use Prim.Native.Nat.{ℕ, ◌+◌, ◌≤◌, ◌<◌}
 use mathlib.Core.Path.{◌≡◌, refl, sym, ap, ◌∙◌}
 use mathlib.Core.Bool.{Bool, true, false}
 use mathlib.Core.Logic.{◌⊎◌, inl, inr}
-use mathlib.Core.List.{List, [], ◌∷◌, ◌++◌}
+use mathlib.Core.List.{List, ◌∷◌, ◌++◌}
 use native.Mathlib.Omega.{arith}
 use borrow.Author.Tests.{le-leb, lt-ltb, le-ltb, eq-eqb, ne_eqb}
 use lib.Dec.{eqb}
 use lib.ListN.{length, take, drop, length-drop, take-append-drop}
 use lib.Seq.{length-take-le}
-use Rattle.rules.specs.Choice.{pick, ◌and◌}
+use Rattle.rules.specs.Choice.{pick}
 use Rattle.rules.specs.Bytes.{Bytes, Stands}
 use Rattle.rules.specs.Format.{Format}
-use Rattle.rules.specs.Walk.{Limits}
 use Rattle.rules.specs.Refusals.{NoSuchRow}
-use Rattle.rules.specs.Reading.{limits, door, through, row_at, skipped, skip_from, run_rule, row_count, byte_count, Decoded, untouched, filled, decode_rule}
+use Rattle.rules.specs.Reading.{limits, through, row_at, skipped, skip_from, row_count, byte_count, untouched, filled, decode_rule}
 use Rattle.rules.specs.Index.{IndexOf, index_record_start, index_records_in, index_record, indexed_at, index_of, is_that_row, row_of_record, row_of_index, check_index_rule, indexed_row_rule}
 use Rattle.rules.specs.declared.settings.Settings.{Settings}
-use Rattle.rules.specs.declared.refusal.Refusal.{Refusal}
 use Rattle.rules.specs.declared.answer.Extent.{Extent}
 use Rattle.rules.specs.declared.answer.RowSpan.{RowSpan}
 use Rattle.rules.specs.declared.answer.Read.{Read}

@@ -1,13 +1,13 @@
 -- An index record in bytes and as it is read; the index of rows, record by record.
 -- Assumes nothing.
-use Prim.Native.Nat.{ℕ, zero, suc, ◌+◌, ◌*◌, ◌^◌, ◌≤◌, ◌<◌}
+use Prim.Native.Nat.{ℕ, ◌+◌, ◌^◌, ◌<◌}
 use mathlib.Core.Path.{◌≡◌, refl, sym, ◌∙◌}
 use mathlib.Core.List.{List, [], ◌∷◌, ◌++◌, append_assoc}
 use native.Mathlib.Omega.{arith}
 use lib.ListN.{length, length-append}
-use Rattle.rules.specs.Bytes.{Bytes, le, le_at, part, Stands, order, is_equal}
+use Rattle.rules.specs.Bytes.{Bytes, le, le_at, Stands}
 use Rattle.rules.specs.Reading.{row_count}
-use Rattle.rules.specs.Index.{index_record_size, index_record_start, IndexRecordIn, index_record, indexed_at, index_of, indexed_rows, is_index_of}
+use Rattle.rules.specs.Index.{index_record_size, index_record_start, IndexRecordIn, index_record, indexed_at, index_of, indexed_rows}
 use Rattle.rules.specs.declared.answer.RowSpan.{RowSpan}
 use Rattle.rules.proofs.Stands.{length-le, stands_left, stands_right, stands_both, stands_le, le_at-stands}
 

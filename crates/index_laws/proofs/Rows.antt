@@ -1,9 +1,9 @@
 -- The rows that skip accepts one after another: from any of them on, and each can be held by an index record.
 -- Assumes nothing.
 use Prim.Native.Nat.{ℕ, zero, suc, ◌+◌, ◌^◌, ◌≤◌, ◌<◌}
-use mathlib.Core.Path.{◌≡◌, refl, sym, ap, ◌∙◌}
+use mathlib.Core.Path.{◌≡◌, refl, ap}
 use mathlib.Core.Bool.{Bool, true, false}
-use mathlib.Core.List.{List, [], ◌∷◌, ◌++◌}
+use mathlib.Core.List.{List}
 use native.Mathlib.Omega.{arith}
 use lib.Dec.{eqb}
 use lib.ListN.{length, take, drop}
@@ -14,10 +14,10 @@ use Rattle.rules.specs.Format.{Format}
 use Rattle.rules.specs.Value.{Value}
 use Rattle.rules.specs.Grammar.{TableRow, table_row}
 use Rattle.rules.specs.Walk.{Limits, Answer, Got}
-use Rattle.rules.specs.Reading.{row_at, extent, skipped, skip_from, schema_of, row_count, byte_count}
+use Rattle.rules.specs.Reading.{row_at, extent, skipped, skip_from, row_count, byte_count}
 use Rattle.rules.specs.declared.answer.Extent.{Extent}
 use Rattle.rules.specs.declared.answer.RowSpan.{RowSpan}
-use Rattle.rules.specs.declared.answer.Read.TheVariants.{Row, End, Refused}
+use Rattle.rules.specs.declared.answer.Read.TheVariants.{Row, End}
 use Rattle.rules.specs.declared.answer.Stop.{Stop}
 use Rattle.row_laws.proofs.TableRows.{row_agrees}
 use Rattle.row_laws.proofs.Running.{Iterates, ended, refused, accepted, skip_goes}

@@ -12,7 +12,7 @@ use lib.ListN.{length}
 use Rattle.rules.specs.Choice.{pick}
 use Rattle.rules.specs.Bytes.{Bytes}
 use Rattle.rules.specs.Wire.{form, width_of}
-use Rattle.rules.specs.Block.{node_start, node_at, Closed}
+use Rattle.rules.specs.Block.{node_at, Closed}
 use Rattle.rules.specs.Walk.{Limits, blob_limit}
 use Rattle.rules.specs.Refusals.{BlobTooLarge}
 use Rattle.rules.specs.Value.{Value}
@@ -25,7 +25,7 @@ use Rattle.rules.specs.declared.answer.Checked.TheVariants.{Accepted}
 use Rattle.rules.proofs.Checks.{refused_not}
 use Rattle.leaves.specs.Fields.{payload_of_fixed}
 use Rattle.leaves.specs.Shapes.{as_tuple, shape_of}
-use Rattle.read.specs.Ready.{HasNode, SoundNodes}
+use Rattle.read.specs.Ready.{HasNode}
 use Rattle.leaves.proofs.Codes.{form_tuple, shape_variant, shape_tuple}
 use Rattle.value.specs.Records.{value_record_ok}
 use Rattle.value.specs.Walk.{walk_children, walk_table}
@@ -37,18 +37,17 @@ use Rattle.judge.specs.Table.{IsWhole, whole_end, value_standing_at}
 use Rattle.judge.specs.Judging.{judge_pos, leaf_of, chosen_of, count_ok, closing_bytes, Judgeable, Opened, judged_at, RowJudgeable, judged_row}
 use Rattle.judge.specs.Flat.{table_pos, Flat, Seen, OnlyLeaf, LeadsToLeaf, RowFlat, RowSeen}
 use Rattle.judge.specs.declared.walk.JudgePos.{JudgePos}
-use Rattle.judge.specs.declared.walk.Judged.{Judged}
 use Rattle.judge.specs.declared.walk.Judged.TheVariants.{Fits, Refused}
 use Rattle.judge.specs.declared.walk.AtOnce.TheVariants as at_once
 use Rattle.judge.specs.declared.walk.Chosen.{Chosen}
 use Rattle.judge.specs.declared.walk.Chosen.TheVariants as chosen_is
 use Rattle.judge.specs.declared.flat.Column.{Column}
-use Rattle.judge.specs.declared.flat.Column.TheVariants.{Leaf, Other}
+use Rattle.judge.specs.declared.flat.Column.TheVariants.{Leaf}
 use Rattle.judge.proofs.Codes.{leaf_kind, widest}
 use Rattle.judge.proofs.Going.{variant_kind, Choice, choice, tag_of, Going, begins, ends_there, child, goes_on_lem}
 use Rattle.judge.proofs.Leaves.{leaf_answer}
 use Rattle.judge.proofs.Once.{judged_once}
-use Rattle.judge.proofs.Root.{table_stands, root_judgeable, row_judged}
+use Rattle.judge.proofs.Root.{table_stands, row_judged}
 
 -- what a leaf takes: a record, and few bytes beside its payload
 leaf_takes : (lim : Limits) (code size : ℕ) (q r : JudgePos) → Fits r ≡ leaf_of lim code size q → (r.at ≡ q.at + 1) × (r.bytes + q.from ≤ q.bytes + 32 + r.from)

@@ -38,7 +38,7 @@ use Rattle.judge.specs.declared.walk.Chosen.TheVariants as chosen_is
 use Rattle.judge.proofs.Codes.{widest}
 use Rattle.judge.proofs.Kids.{choosing, chosen_for, kids, unfit, opens}
 use Rattle.judge.proofs.Short.{few_bytes}
-use Rattle.judge.proofs.Standing.{spot, stands, inside, kind_told, size_small, at_end, from_end, far, deep, below_reads, count_told, parent, Turn, turn, turn_stands}
+use Rattle.judge.proofs.Standing.{spot, stands, inside, kind_told, size_small, at_end, far, deep, below_reads, count_told, parent, Turn, turn, turn_stands}
 
 -- ---- an answer, taken apart
 

@@ -27,7 +27,6 @@ use Rattle.leaves.specs.Fields.{payload_of_fixed}
 use Rattle.judge.specs.Table.{whole_value, value_standing_at}
 use Rattle.judge.specs.Judging.{judge_pos, judged, leaf_of, Judgeable, Opened, judged_at}
 use Rattle.judge.specs.declared.walk.JudgePos.{JudgePos}
-use Rattle.judge.specs.declared.walk.Judged.{Judged}
 use Rattle.judge.specs.declared.walk.Judged.TheVariants as judged-is
 use Rattle.judge.proofs.Codes.{leaf_kind, fixed_range, raw_range, sized_range}
 use Rattle.judge.proofs.Standing.{spot, inside, size_small, kind_told, at_end, from_end, length_told}

@@ -19,7 +19,6 @@ use Rattle.judge.specs.Judging.{judge_pos, leaf_of, chosen_of, count_ok, closing
 use Rattle.judge.specs.declared.walk.JudgePos.{JudgePos}
 use Rattle.judge.specs.declared.walk.Judged.{Judged}
 use Rattle.judge.specs.declared.walk.Judged.TheVariants.{Fits}
-use Rattle.judge.specs.declared.walk.AtOnce.{AtOnce}
 use Rattle.judge.specs.declared.walk.AtOnce.TheVariants as at_once
 use Rattle.judge.specs.declared.walk.Chosen.{Chosen}
 use Rattle.judge.specs.declared.walk.Chosen.TheVariants as chosen_is

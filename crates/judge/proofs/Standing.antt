@@ -5,9 +5,9 @@ use mathlib.Core.Path.{◌≡◌, refl}
 use mathlib.Core.List.{List, append-nil}
 use native.Mathlib.Omega.{arith}
 use lib.ListN.{length}
-use Rattle.rules.specs.Value.{Value, nothing, boolean, number, wide, blob, variant, repeated, tuple, Items, done, item, Values, none, more, items, values, tall, tall_i, tall_v, Fits, FitsI, FitsV, records_of, payload_of}
+use Rattle.rules.specs.Value.{Value, nothing, boolean, number, wide, blob, variant, repeated, tuple, Items, done, item, items, tall, tall_i, Fits, FitsI, records_of, payload_of}
 use Rattle.rules.specs.ValueRecord.{value_record_start, ValueRecordIn, value_record_at}
-use Rattle.rules.specs.ValueTable.{payload_bytes, payload_bytes_i, payload_bytes_v, value_kind, size_of, head_of, below, below_i, below_v, heads, Spot, Parsed, Whole, Broken, tag_at}
+use Rattle.rules.specs.ValueTable.{payload_bytes, payload_bytes_i, value_kind, size_of, head_of, below, below_i, heads, Spot, Parsed, Whole, Broken, tag_at}
 use Rattle.value_laws.proofs.Records.{RecordIs, record_in, kind_is, tag_is, size_is, tag_fits, size_fits, shows_in}
 use Rattle.value_laws.proofs.Sizes.{length_pays, length-heads, length-below_i, items_within}
 use Rattle.value_laws.proofs.Children.{children, below_untagged, pays_untagged, fits_untagged, tall_untagged, count_untagged}

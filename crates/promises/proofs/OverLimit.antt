@@ -11,7 +11,7 @@ use Rattle.rules.specs.Wire.{Form, empty, truth, fixed, raw, sized, variant_form
 use Rattle.rules.specs.Block.{node_at, block}
 use Rattle.rules.specs.Format.{Format, table_schema}
 use Rattle.rules.specs.Value.{Value}
-use Rattle.rules.specs.Walk.{Limits, blob_limit, Pos, Answer, Got, Refused, ◌>>=◌, number_of, bytes_of, charged, blob_of, Walker, child_of, pairs_of, fields_of, value_of, walk}
+use Rattle.rules.specs.Walk.{Limits, blob_limit, Pos, Answer, Refused, number_of, bytes_of, charged, blob_of, Walker, child_of, pairs_of, fields_of, value_of, walk}
 use Rattle.rules.specs.Reading.{start, root_from, row_at}
 use Rattle.rules.specs.Writing as writing
 use Rattle.rules.specs.Writing.{write_row}

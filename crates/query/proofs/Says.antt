@@ -10,7 +10,7 @@ use borrow.Author.Tests.{lt-ltb, ltb-true, leb-true}
 use lib.ListN.{length}
 use mir.Syntax.{w64}
 use mir.Val.{SFits}
-use Rattle.rules.specs.Choice.{pick, ◌and◌}
+use Rattle.rules.specs.Choice.{pick}
 use Rattle.rules.specs.Wire.{fixed, form}
 use Rattle.rules.specs.Query.{scalar_alone, record_alone, record_there, record_good, record_seen, signed}
 use Rattle.rules.specs.declared.table_record.ValueRecord.{ValueRecord}

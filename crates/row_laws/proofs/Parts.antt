@@ -1,14 +1,14 @@
 -- Reading a part of a stream, and reading the stream there: the same answer, its places moved by where the part starts, unless
 -- the part was cut and the stream goes on.
 -- Assumes nothing.
-use Prim.Native.Nat.{ℕ, zero, suc, ◌+◌, ◌-◌, ◌*◌, ◌^◌, ◌≤◌, ◌<◌}
-use mathlib.Core.Path.{◌≡◌, refl, sym, ap, ◌∙◌}
+use Prim.Native.Nat.{ℕ, zero, suc, ◌+◌, ◌-◌, ◌≤◌, ◌<◌}
+use mathlib.Core.Path.{◌≡◌, refl, sym, ◌∙◌}
 use mathlib.Core.Bool.{Bool, true, false}
 use mathlib.Core.List.{List, [], ◌∷◌, ◌++◌, append-nil}
 use native.Mathlib.Omega.{arith}
 use native.Mathlib.Nat.{add-zero}
 use borrow.Author.Tests.{le-leb, lt-leb, leb-true, leb-false, eqb-false}
-use lib.Dec.{ltb, leb, eqb}
+use lib.Dec.{leb}
 use lib.ListN.{length, get_or, take, drop, length-drop, take-append-drop}
 use lib.Seq.{length-take-le}
 use Rattle.rules.specs.Choice.{pick}
@@ -17,8 +17,8 @@ use Rattle.rules.specs.Wire.{Form, empty, truth, fixed, raw, sized, variant_form
 use Rattle.rules.specs.Refusals.{line_of, BadSchemaTable, TooDeep, UnknownRegistryReference, Truncated}
 use Rattle.rules.specs.Block.{node_at, block}
 use Rattle.rules.specs.Format.{Format, table_schema}
-use Rattle.rules.specs.Value.{Value, Items, Values}
-use Rattle.rules.specs.Walk.{Limits, blob_limit, Pos, Answer, Got, Refused, ◌>>=◌, onward, number_of, bytes_of, charged, blob_of, Walker, child_of, pairs_of, fields_of, value_of, walk}
+use Rattle.rules.specs.Value.{Value}
+use Rattle.rules.specs.Walk.{Limits, Pos, Answer, Got, Refused, ◌>>=◌, onward, number_of, bytes_of, charged, blob_of, Walker, child_of, pairs_of, fields_of, value_of, walk}
 use Rattle.rules.specs.Reading.{start, root_from, row_at}
 use Rattle.rules.specs.Windows.{moved, PlaceInside, moved_answer, WasCut}
 use Rattle.rules.specs.declared.table_record.Node.{Node}

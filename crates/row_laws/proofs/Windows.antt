@@ -16,7 +16,7 @@ use Rattle.rules.specs.Bytes.{Bytes}
 use Rattle.rules.specs.Refusals.{line_of, refusal_number, Setting}
 use Rattle.rules.specs.Format.{Format, sizes_ok, format_rules, format_rule}
 use Rattle.rules.specs.Value.{Value}
-use Rattle.rules.specs.Walk.{Limits, Pos, Answer, Got, onward}
+use Rattle.rules.specs.Walk.{Limits, Answer, Got}
 use Rattle.rules.specs.Reading.{settings_ok, limits, when_accepted, door, through, row_at, extent, skipped, refused_run, ended_run, run_rule, ran_of, skip_from, Run, go_on, run_from, row_count, byte_count}
 use Rattle.rules.specs.Windows.{moved, PlaceInside, moved_answer, WasCut, moved_stop, moved_row, goes_on, continued, added, run_after}
 use Rattle.rules.specs.declared.settings.Settings.{Settings}
@@ -24,13 +24,12 @@ use Rattle.rules.specs.declared.refusal.Refusal.{Refusal}
 use Rattle.rules.specs.declared.answer.Checked.{Checked}
 use Rattle.rules.specs.declared.answer.Door.{Door}
 use Rattle.rules.specs.declared.answer.Door.TheVariants as door-is
-use Rattle.rules.specs.declared.answer.Extent.{Extent}
 use Rattle.rules.specs.declared.answer.Read.{Read}
 use Rattle.rules.specs.declared.answer.Read.TheVariants.{Row, End, Refused}
 use Rattle.rules.specs.declared.answer.RowSpan.{RowSpan}
 use Rattle.rules.specs.declared.answer.Stop.{Stop}
 use Rattle.rules.specs.declared.answer.Ran.{Ran}
-use Rattle.rules.proofs.Tests.{and_both, and_false}
+use Rattle.rules.proofs.Tests.{and_false}
 use Rattle.block_laws.proofs.FormatReasons.{format_stays}
 use Rattle.row_laws.proofs.Door.{refused_at_door}
 use Rattle.row_laws.proofs.Running.{Iterates, ended, refused, accepted, skip_goes, run_iterates}

@@ -1,7 +1,7 @@
 -- 'Rows on both sides of each edge': document 01's table, and rows at the two blob limits of document 02, d. Flat bytes go in; number, place
 -- and carried values come out; an accepted row is decoded, and encoded again from what decode has left.
 -- Assumes nothing: these are definitions.
-use Rattle.std.specs.Prelude.{ℕ, ◌*◌, List, [], ◌∷◌, ◌++◌, take, replicate}
+use Rattle.std.specs.Prelude.{ℕ, List, [], ◌∷◌, ◌++◌, take, replicate}
 use Rattle.rules.specs.Bytes.{le}
 use Rattle.rules.specs.Names.{ascii}
 use Rattle.rules.specs.Block.{records}

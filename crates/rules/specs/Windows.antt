@@ -1,6 +1,6 @@
 -- A stream that is read in windows: what is answered for a part of it, told from the stream's start.
 -- Assumes nothing: these are definitions.
-use Rattle.std.specs.Prelude.{ℕ, ◌+◌, ◌≤◌, ◌≡◌, Bool, true, false, List, [], ◌∷◌, ◌++◌, map, length, leb, eqb}
+use Rattle.std.specs.Prelude.{ℕ, ◌+◌, ◌≤◌, ◌≡◌, Bool, true, List, ◌++◌, map, length, leb, eqb}
 use Rattle.rules.specs.Bytes.{longest_slice}
 use Rattle.rules.specs.Choice.{pick, ◌and◌}
 use Rattle.rules.specs.Refusals.{Setting, line_of, refusal_number}

@@ -244,12 +244,6 @@ const NAME_NOT_UTF8_NAME: [u8; 28] = *b"NameNotUtf8                 ";
 
 impl Why {
     // The line of the table that all else goes by: a new refusal is an arm here.
-    #[tactic(auto, unfolding(
-        crate::specs::Refusals::in_bytes,
-        crate::specs::Refusals::labels_of,
-        crate::specs::Refusals::line_of,
-        crate::specs::Names::ascii,
-    ))]
     pub fn line(self) -> RefusalLine
         ensures { result ≡ in_bytes (line_of self) }
     {

@@ -16,11 +16,9 @@ use Rattle.rules.specs.Choice.{pick}
 use Rattle.rules.specs.Wire.{Form, empty, truth, fixed, raw, sized, variant_form, repeated_form, tuple_form, unknown}
 use Rattle.rules.specs.Query.{signed, double_said, number_said, scalar_said, record_said, record_seen, queried_of, query_rule}
 use Rattle.rules.specs.declared.table_record.ValueRecord.{ValueRecord}
-use Rattle.rules.specs.declared.host_answer.Scalar.{Scalar}
 use Rattle.rules.specs.declared.host_answer.Seen.{Seen}
 use Rattle.rules.proofs.Tests.{either}
 use Rattle.scalars.specs.Numbers.{signed_bits, one_number, scalar_numbers, HasBits, SaysBits}
-use Rattle.scalars.specs.declared.ScalarNumbers.{ScalarNumbers}
 
 no_nan : (bits : ℕ) → nan_bits binary64 bits ≡ false → is_nan (of_bits binary64 bits) ≡ false
 no_nan bits e = sym (nan_bits_is binary64 bits) ∙ e

@@ -1,14 +1,14 @@
 -- The nodes of a value in preorder, and the records of its table: node i is what record i is the head of.
 -- Assumes nothing.
 use Prim.Native.Nat.{ℕ, zero, suc, ◌+◌, ◌^◌, ◌≤◌, ◌<◌}
-use mathlib.Core.Path.{◌≡◌, refl, sym, ap, ◌∙◌}
+use mathlib.Core.Path.{◌≡◌, refl}
 use mathlib.Core.List.{List, [], ◌∷◌, ◌++◌}
 use mathlib.Core.Logic.{◌⊎◌, inl, inr, ⊎_elim}
 use native.Mathlib.Omega.{arith}
 use native.Mathlib.Nat.{add-zero}
 use lib.ListN.{length, length-append}
 use Rattle.rules.specs.Value.{Value, nothing, boolean, number, wide, blob, variant, repeated, tuple, Items, done, item, Values, none, more, Fits, FitsI, FitsV, tally, tally_i, tally_v, records_of, payload_of}
-use Rattle.rules.specs.ValueTable.{head_of, below, below_i, below_v, heads}
+use Rattle.rules.specs.ValueTable.{below, below_i, below_v, heads}
 use Rattle.rules.specs.Preorder.{ValueNode, value_node, nodes_below, nodes_below_i, nodes_below_v, value_preorder, NodeIs}
 use Rattle.value_laws.proofs.Records.{Shows, shows_left, shows_right}
 use Rattle.value_laws.proofs.Sizes.{length-heads}

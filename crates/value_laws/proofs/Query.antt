@@ -1,28 +1,26 @@
 -- In the table of a value the query answers what the tree says: record i is node i in preorder, and is never refused.
 -- Assumes nothing.
-use Prim.Native.Nat.{ℕ, suc, ◌+◌, ◌^◌, ◌≤◌, ◌<◌}
-use mathlib.Core.Path.{◌≡◌, refl, sym, ap, ◌∙◌}
-use mathlib.Core.Bool.{Bool, true, false}
-use mathlib.Core.List.{List, [], ◌∷◌}
+use Prim.Native.Nat.{ℕ, ◌+◌, ◌^◌, ◌≤◌, ◌<◌}
+use mathlib.Core.Path.{◌≡◌, refl, ap, ◌∙◌}
+use mathlib.Core.Bool.{Bool, true}
+use mathlib.Core.List.{List}
 use native.Mathlib.Omega.{arith}
 use borrow.Author.Tests.{lt-ltb, le-ltb, le-leb, eq-eqb}
 use lib.Dec.{ltb}
 use lib.ListN.{length}
 use Rattle.rules.specs.Choice.{pick, ◌and◌}
 use Rattle.rules.specs.Wire.{form, written, written_if, type_of, type_in, wire_types, width_of}
-use Rattle.rules.specs.Value.{Value, nothing, boolean, number, wide, blob, variant, repeated, tuple, Fits, items, values, tally, records_of, payload_of}
+use Rattle.rules.specs.Value.{Value, nothing, boolean, number, wide, blob, variant, repeated, tuple, Fits, tally, records_of, payload_of}
 use Rattle.rules.specs.ValueRecord.{value_record_start, value_records_in, whole_value_records, value_record_at}
-use Rattle.rules.specs.ValueTable.{bit, payload_bytes, value_kind, size_of, content_of, head_of, below, heads, flat, TableOf}
+use Rattle.rules.specs.ValueTable.{bit, value_kind, size_of, content_of, head_of, below, heads, flat, TableOf}
 use Rattle.rules.specs.Refusals.{Setting}
-use Rattle.rules.specs.Query.{scalar_alone, parent_alone, record_alone, record_there, record_good, record_seen, number_said, scalar_said, record_said, queried_of, query_rule}
+use Rattle.rules.specs.Query.{scalar_alone, parent_alone, record_alone, record_there, record_good, record_seen, scalar_said, record_said, queried_of, query_rule}
 use Rattle.rules.specs.View.{child_count, viewed_of, kind_rule, tag_rule, child_count_rule}
 use Rattle.rules.specs.Preorder.{ValueNode, value_preorder, NodeIs, value_said, value_children}
-use Rattle.rules.specs.declared.table_record.ValueRecord.{ValueRecord}
-use Rattle.rules.specs.declared.host_answer.Seen.{Seen}
 use Rattle.rules.specs.declared.host_answer.Seen.TheVariants as seen
 use Rattle.rules.specs.declared.host_answer.Queried.TheVariants as queried
 use Rattle.rules.specs.declared.host_answer.Viewed.TheVariants as viewed
-use Rattle.value_laws.proofs.Records.{whole_records, RecordIs, record_in, fields_are, Shows, shows_in, whole_shows}
+use Rattle.value_laws.proofs.Records.{whole_records, RecordIs, record_in, fields_are, Shows, whole_shows}
 use Rattle.value_laws.proofs.Sizes.{length_pays, length-below_i, length-below_v, length-heads, items_within, values_within}
 use Rattle.value_laws.proofs.Codes.{fixed_code, raw_code, sized_code}
 use Rattle.value_laws.proofs.Flat.{test_bit, bit_small, wider, count_fits}

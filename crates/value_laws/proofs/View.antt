@@ -1,26 +1,25 @@
 -- In the table of a value the steps of the row view answer what the tree says.
 -- Assumes nothing.
-use Prim.Native.Nat.{ℕ, zero, suc, ◌+◌, ◌-◌, ◌^◌, ◌≤◌, ◌<◌}
+use Prim.Native.Nat.{ℕ, zero, suc, ◌+◌, ◌-◌, ◌≤◌, ◌<◌}
 use mathlib.Core.Path.{◌≡◌, refl, sym, ap, ◌∙◌}
-use mathlib.Core.Bool.{true}
-use mathlib.Core.List.{List, [], ◌∷◌, ◌++◌}
+use mathlib.Core.List.{List, ◌++◌}
 use native.Mathlib.Omega.{arith}
 use native.Mathlib.Nat.{add-zero}
-use borrow.Author.Tests.{lt-ltb, le-leb, eq-eqb}
+use borrow.Author.Tests.{lt-ltb, le-leb}
 use lib.ListN.{length, length-append}
 use Rattle.rules.specs.Choice.{pick, ◌and◌}
 use Rattle.rules.specs.Value.{Value, nothing, boolean, number, wide, blob, variant, repeated, tuple, Items, done, item, Values, none, more, items, values, Fits, FitsI, FitsV, tally, tally_i, tally_v, records_of, payload_of}
-use Rattle.rules.specs.ValueRecord.{value_records_in, whole_value_records, value_record_at}
+use Rattle.rules.specs.ValueRecord.{value_records_in}
 use Rattle.rules.specs.ValueTable.{value_kind, size_of, head_of, below, below_i, below_v, heads, TableOf}
-use Rattle.rules.specs.Query.{record_alone, record_there, record_good, record_seen}
-use Rattle.rules.specs.View.{child_count, past_trees, records_from, after_seen, after_rule, if_there, has_field, field_rule}
+use Rattle.rules.specs.Query.{record_there, record_good}
+use Rattle.rules.specs.View.{past_trees, records_from, after_seen, after_rule, if_there, has_field, field_rule}
 use Rattle.rules.specs.Preorder.{ValueNode, value_node, value_preorder, NodeIs, FieldIs, nodes_before, value_children}
 use Rattle.rules.specs.declared.host_answer.Viewed.{Viewed}
 use Rattle.rules.specs.declared.host_answer.Viewed.TheVariants.{Number, Refused}
 use Rattle.value_laws.proofs.Records.{Shows, shows_left, shows_right, shows_end}
-use Rattle.value_laws.proofs.Sizes.{length-heads, length-below_v, one_record}
+use Rattle.value_laws.proofs.Sizes.{length-heads, one_record}
 use Rattle.value_laws.proofs.Nodes.{Grown}
-use Rattle.value_laws.proofs.Query.{head_alone, head_children, reads_head, stands_in_table, table_whole, node_grown, node_seen}
+use Rattle.value_laws.proofs.Query.{head_alone, head_children, reads_head, table_whole, node_grown, node_seen}
 use Rattle.value_laws.proofs.Steps.{past_none, past_record}
 use Rattle.value_laws.proofs.Subtrees.{field_node, before_next}
 

@@ -1,4 +1,3 @@
-use borrow.Author.Rules.{rules}
 use Rattle.answers.proofs.Told.{checked_accepted, checked_refused}
 use Rattle.answers.proofs.answer_of_checked.Goals as goal
 

@@ -1,4 +1,3 @@
-use borrow.Author.Rules.{rules}
 use Rattle.answers.proofs.Told.{known_wire, known_none}
 use Rattle.answers.proofs.answer_of_known.Goals as goal
 

@@ -1,4 +1,3 @@
-use borrow.Author.Rules.{rules}
 use Rattle.answers.proofs.Told.{value_bits, value_told, query_refused}
 use Rattle.answers.proofs.answer_of_queried.Goals as goal
 

@@ -1,4 +1,3 @@
-use borrow.Author.Rules.{rules}
 use Rattle.answers.proofs.Told.{ran_end, ran_refused}
 use Rattle.answers.proofs.answer_of_ran.Goals as goal
 

@@ -1,4 +1,3 @@
-use borrow.Author.Rules.{rules}
 use Rattle.answers.proofs.Told.{told_row, told_end, told_refused}
 use Rattle.answers.proofs.answer_of_read.Goals as goal
 

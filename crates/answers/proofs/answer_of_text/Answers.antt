@@ -1,4 +1,3 @@
-use borrow.Author.Rules.{rules}
 use Rattle.answers.proofs.Told.{text_told, text_refused}
 use Rattle.answers.proofs.answer_of_text.Goals as goal
 

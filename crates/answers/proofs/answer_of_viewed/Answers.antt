@@ -1,4 +1,3 @@
-use borrow.Author.Rules.{rules}
 use Rattle.answers.proofs.Told.{number_told, view_refused}
 use Rattle.answers.proofs.answer_of_viewed.Goals as goal
 

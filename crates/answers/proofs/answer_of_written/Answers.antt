@@ -1,4 +1,3 @@
-use borrow.Author.Rules.{rules}
 use Rattle.answers.proofs.Told.{written_row, written_refused}
 use Rattle.answers.proofs.answer_of_written.Goals as goal
 

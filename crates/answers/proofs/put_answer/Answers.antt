@@ -1,4 +1,3 @@
-use borrow.Author.Rules.{rules}
 use mathlib.Core.Path.{refl}
 use Rattle.answers.specs.Answers.{answer_layout}
 use Rattle.answers.proofs.Laws.{eleven}

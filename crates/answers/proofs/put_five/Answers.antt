@@ -1,4 +1,3 @@
-use borrow.Author.Rules.{rules}
 use Rattle.answers.proofs.Laws.{five}
 use Rattle.answers.proofs.put_five.Goals as goal
 

@@ -1,4 +1,3 @@
-use borrow.Author.Rules.{rules}
 use Rattle.charge.specs.Lowering.{lowered_by, lowering}
 use Rattle.charge.proofs.lower.Goals as goal
 

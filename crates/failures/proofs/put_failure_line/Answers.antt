@@ -1,7 +1,6 @@
 -- Each text behind the one before.
 -- Assumes nothing.
 use native.Mathlib.Omega.{arith}
-use borrow.Author.Rules.{rules}
 use Rattle.failures.specs.Failures.{failure_line}
 use Rattle.lines.proofs.Putting.{put_both}
 use Rattle.failures.proofs.put_failure_line.Goals as goal

@@ -1,7 +1,6 @@
 -- One text.
 -- Assumes nothing.
 use native.Mathlib.Omega.{arith}
-use borrow.Author.Rules.{rules}
 use Rattle.rules.specs.Names.{ascii}
 use Rattle.failures.specs.Failures.{usage_line}
 use Rattle.failures.proofs.put_usage_line.Goals as goal

@@ -1,16 +1,13 @@
-use borrow.Author.Rules.{rules}
 use native.Mathlib.Omega.{arith}
-use Prim.Native.Nat.{ℕ, ◌-◌}
+use Prim.Native.Nat.{◌-◌}
 use mathlib.Core.Path.{◌∙◌}
 use lib.ListN.{length}
 use Rattle.rules.specs.Wire.{form}
-use Rattle.rules.specs.Block.{records, node_at, Closed}
-use Rattle.fill.specs.Plain.{value_read, end_read, read_at}
+use Rattle.rules.specs.Block.{node_at, Closed}
+use Rattle.fill.specs.Plain.{end_read, read_at}
 use Rattle.fill.specs.Filling.{RoomToFill}
-use Rattle.value_laws.proofs.Children.{children}
 use Rattle.fill.proofs.Children.{there, Turn, Opened, opened}
-use Rattle.fill.proofs.Going.{spot, Going, going_first, next_turn, next_end, child_room, fills_more, going_next, count_fits, finish}
-use Prim.Native.Nat.{ℕ}
+use Rattle.fill.proofs.Going.{spot, going_first, next_turn, next_end, child_room, fills_more, going_next, count_fits, finish}
 use Rattle.fill.proofs.Leads.{reached_leaf, reached_children}
 use Rattle.fill.proofs.+fill_children_fill_value.Goals as goal
 

@@ -1,17 +1,10 @@
-use borrow.Author.Rules.{rules}
-use native.Mathlib.Omega.{arith}
-use Prim.Native.Nat.{ℕ, ◌-◌}
-use mathlib.Core.Path.{◌∙◌}
+use Prim.Native.Nat.{◌-◌}
 use lib.ListN.{length}
 use Rattle.rules.specs.Wire.{form}
-use Rattle.rules.specs.Block.{records, node_at, Closed}
+use Rattle.rules.specs.Block.{node_at}
 use Rattle.fill.specs.Plain.{value_read, end_read, read_at}
-use Rattle.fill.specs.Filling.{RoomToFill}
 use Rattle.value_laws.proofs.Children.{children}
-use Rattle.fill.proofs.Children.{there, Turn, Opened, opened}
-use Rattle.fill.proofs.Going.{spot, Going, going_first, next_turn, next_end, child_room, fills_more, going_next, count_fits, finish}
-use Prim.Native.Nat.{ℕ}
-use Rattle.fill.proofs.Leads.{reached_leaf, reached_children}
+use Rattle.fill.proofs.Going.{Going}
 use Prim.Native.Nat.{◌*◌}
 use Prim.Native.Nat.{◌+◌}
 use Rattle.fill.proofs.+fill_children_fill_value.Given as goal

@@ -1,4 +1,3 @@
-use borrow.Author.Rules.{rules}
 use native.Mathlib.Omega.{arith}
 use Rattle.leaves.proofs.Codes.{wide_width}
 use Rattle.fill.proofs.Leaves.{narrow, narrow_room, narrow_fills, wide_stored, blob_stored, stored_room, stored_fills}

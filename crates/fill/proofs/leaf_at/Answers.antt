@@ -2,7 +2,6 @@ use Prim.Native.Nat.{◌+◌}
 use native.Mathlib.Omega.{arith}
 use mathlib.Core.Path.{refl}
 use lib.ListN.{length}
-use borrow.Author.Rules.{rules}
 use Rattle.rules.specs.Block.{NodeIn, Closed}
 use Rattle.fill.specs.Plain.{value_read, read_at}
 use Rattle.value_laws.proofs.Sizes.{one_record}

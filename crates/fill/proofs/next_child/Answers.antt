@@ -1,4 +1,3 @@
-use borrow.Author.Rules.{rules}
 use native.Mathlib.Omega.{arith}
 use Prim.Native.Nat.{◌<◌}
 use Rattle.fill.proofs.Nexts.{tag_of_variant, tag_of_repeated, next_in_tuple, tuple_done, variant_done, next_of_variant, no_pair, next_pair}

@@ -1,6 +1,5 @@
-use borrow.Author.Rules.{rules}
 use native.Mathlib.Omega.{arith}
-use mathlib.Core.Path.{◌≡◌, sym, ◌∙◌}
+use mathlib.Core.Path.{◌≡◌}
 use Rattle.rules.specs.Wire.{form, width_of}
 use Rattle.wire.proofs.Fields.{le_one, le-within}
 use Rattle.wire.proofs.CodeTable.{tag_two}

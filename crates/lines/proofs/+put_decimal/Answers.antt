@@ -1,6 +1,4 @@
-use Prim.Native.Nat.{ℕ, ◌<◌}
 use native.Mathlib.Omega.{arith}
-use borrow.Author.Rules.{rules}
 use Rattle.lines.proofs.Decimals.{small_length, more_length}
 use Rattle.lines.proofs.Putting.{put_small, put_more}
 use Rattle.lines.proofs.+put_decimal.Goals as goal

@@ -1,7 +1,6 @@
 -- Each part behind the one before.
 -- Assumes nothing.
 use native.Mathlib.Omega.{arith}
-use borrow.Author.Rules.{rules}
 use Rattle.rules.specs.Names.{ascii}
 use Rattle.rules.specs.Lines.{carried}
 use Rattle.lines.proofs.Putting.{put_both}

@@ -1,7 +1,6 @@
 -- Each text and number behind the one before.
 -- Assumes nothing.
 use native.Mathlib.Omega.{arith}
-use borrow.Author.Rules.{rules}
 use Rattle.rules.specs.Names.{ascii}
 use Rattle.rules.specs.Lines.{end_line}
 use Rattle.lines.proofs.Putting.{put_both}

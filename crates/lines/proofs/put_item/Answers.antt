@@ -2,7 +2,6 @@
 -- Assumes nothing.
 use mathlib.Core.Path.{sym, ◌∙◌}
 use native.Mathlib.Omega.{arith}
-use borrow.Author.Rules.{rules}
 use Rattle.lines.proofs.Putting.{put_both, put_no_item, put_the_item}
 use Rattle.lines.proofs.put_item.Goals as goal
 

@@ -1,7 +1,6 @@
 -- The text and then the digits, of which a number of 64 bits has at most 20.
 -- Assumes nothing.
 use native.Mathlib.Omega.{arith}
-use borrow.Author.Rules.{rules}
 use Rattle.lines.proofs.Decimals.{decimal_short}
 use Rattle.lines.proofs.Putting.{put_both}
 use Rattle.lines.proofs.put_number.Goals as goal

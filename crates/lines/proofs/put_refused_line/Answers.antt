@@ -2,7 +2,6 @@
 -- Assumes nothing.
 use mathlib.Core.Path.{sym}
 use native.Mathlib.Omega.{arith}
-use borrow.Author.Rules.{rules}
 use Rattle.lines.proofs.Putting.{put_both, put_same}
 use Rattle.lines.proofs.Heads.{head_stands}
 use Rattle.lines.proofs.put_refused_line.Goals as goal

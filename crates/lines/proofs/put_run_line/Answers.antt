@@ -1,7 +1,6 @@
 -- By how the run stops.
 -- Assumes nothing.
 use native.Mathlib.Omega.{arith}
-use borrow.Author.Rules.{rules}
 use Rattle.lines.proofs.Heads.{run_ended, run_refused}
 use Rattle.lines.proofs.put_run_line.Goals as goal
 

@@ -2,7 +2,6 @@
 -- Assumes nothing.
 use mathlib.Core.Path.{sym, ◌∙◌}
 use native.Mathlib.Omega.{arith}
-use borrow.Author.Rules.{rules}
 use Rattle.lines.proofs.Putting.{put_both, put_no_spaced, put_the_spaced}
 use Rattle.lines.proofs.put_spaced.Goals as goal
 

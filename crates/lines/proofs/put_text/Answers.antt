@@ -1,9 +1,6 @@
 -- What is left to put, over what is put, is the whole.
 -- Assumes nothing.
-use Prim.Native.Nat.{◌-◌}
-use borrow.Author.Rules.{rules}
-use lib.ListN.{length}
-use Rattle.lines.proofs.Putting.{Puts, puts_none, puts_turn, puts_end}
+use Rattle.lines.proofs.Putting.{puts_none, puts_turn, puts_end}
 use Rattle.lines.proofs.put_text.Goals as goal
 
 pub loop-k-init : goal.loop-k-init

@@ -1,7 +1,6 @@
 use Prim.Native.Nat.{◌-◌}
-use borrow.Author.Rules.{rules}
 use lib.ListN.{length}
-use Rattle.lines.proofs.Putting.{Puts, puts_none, puts_turn, puts_end}
+use Rattle.lines.proofs.Putting.{Puts}
 use Rattle.lines.proofs.put_text.Given as goal
 
 abbrev pub invariant-loop-k : goal.invariant-loop-k

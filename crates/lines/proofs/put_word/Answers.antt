@@ -1,10 +1,8 @@
 -- Each byte up to a blank; what is left of the word, over what is put, is the whole.
 -- Assumes nothing.
-use Prim.Native.Nat.{◌-◌}
 use native.Mathlib.Omega.{arith}
 use borrow.Author.Rules.{rules}
-use lib.ListN.{length}
-use Rattle.lines.proofs.Putting.{PutsWord, puts_word_none, puts_word_turn, puts_word_blank, puts_word_end}
+use Rattle.lines.proofs.Putting.{puts_word_none, puts_word_turn, puts_word_blank, puts_word_end}
 use Rattle.lines.proofs.put_word.Goals as goal
 
 pub loop-k-init : goal.loop-k-init

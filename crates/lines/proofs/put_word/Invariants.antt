@@ -1,8 +1,6 @@
 use Prim.Native.Nat.{◌-◌}
-use native.Mathlib.Omega.{arith}
-use borrow.Author.Rules.{rules}
 use lib.ListN.{length}
-use Rattle.lines.proofs.Putting.{PutsWord, puts_word_none, puts_word_turn, puts_word_blank, puts_word_end}
+use Rattle.lines.proofs.Putting.{PutsWord}
 use Rattle.lines.proofs.put_word.Given as goal
 
 abbrev pub invariant-loop-k : goal.invariant-loop-k

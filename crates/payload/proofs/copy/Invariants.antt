@@ -1,10 +1,7 @@
-use borrow.Author.Rules.{rules}
-use Prim.Native.Nat.{◌+◌, ◌-◌, min}
-use mathlib.Core.Path.{◌≡◌, refl, ◌∙◌}
-use native.Mathlib.Omega.{arith}
+use Prim.Native.Nat.{◌-◌, min}
+use mathlib.Core.Path.{◌≡◌}
 use lib.ListN.{length}
 use Rattle.rules.specs.Bytes.{part, over}
-use Rattle.payload.proofs.Turns.{copy_word, near_step}
 use Rattle.payload.proofs.copy.Given as goal
 
 abbrev pub invariant-loop-k : goal.invariant-loop-k

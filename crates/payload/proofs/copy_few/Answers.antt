@@ -1,8 +1,6 @@
 use borrow.Author.Rules.{rules}
-use Prim.Native.Nat.{◌+◌, ◌-◌, ◌≤◌}
-use mathlib.Core.Path.{◌≡◌, sym, ◌∙◌}
-use lib.ListN.{length, length-set}
-use Rattle.rules.specs.Bytes.{part, over}
+use mathlib.Core.Path.{sym, ◌∙◌}
+use lib.ListN.{length-set}
 use Rattle.payload.proofs.Turns.{copy_none, copy_turn, copy_end}
 use Rattle.payload.proofs.copy_few.Goals as goal
 

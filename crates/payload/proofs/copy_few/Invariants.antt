@@ -1,9 +1,7 @@
-use borrow.Author.Rules.{rules}
 use Prim.Native.Nat.{◌+◌, ◌-◌, ◌≤◌}
-use mathlib.Core.Path.{◌≡◌, sym, ◌∙◌}
-use lib.ListN.{length, length-set}
+use mathlib.Core.Path.{◌≡◌}
+use lib.ListN.{length}
 use Rattle.rules.specs.Bytes.{part, over}
-use Rattle.payload.proofs.Turns.{copy_none, copy_turn, copy_end}
 use Rattle.payload.proofs.copy_few.Given as goal
 
 abbrev pub invariant-loop-k : goal.invariant-loop-k

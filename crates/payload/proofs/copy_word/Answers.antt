@@ -1,6 +1,5 @@
 use mathlib.Core.Path.{◌∙◌}
 use native.Mathlib.Omega.{arith}
-use borrow.Author.Rules.{rules}
 use Rattle.rules.proofs.Stands.{le-le_at}
 use Rattle.payload.proofs.copy_word.Goals as goal
 

@@ -1,4 +1,3 @@
-use borrow.Author.Rules.{rules}
 use Rattle.rules.specs.Query.{queried_of, query_rule}
 use Rattle.query.proofs.Says.{seen_alone}
 use Rattle.query.proofs.value_of.Goals as goal

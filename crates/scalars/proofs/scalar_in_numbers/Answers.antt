@@ -1,4 +1,3 @@
-use borrow.Author.Rules.{rules}
 use Rattle.scalars.specs.Numbers.{scalar_numbers}
 use Rattle.scalars.proofs.Bits.{has_bits, truth_told, signed_told}
 use Rattle.scalars.proofs.scalar_in_numbers.Goals as goal

@@ -1,4 +1,3 @@
-use borrow.Author.Rules.{rules}
 use Rattle.rules.specs.Refusals.{◌then◌}
 use Rattle.rules.specs.Format.{encoder_rules}
 use Rattle.block.proofs.Stands.{one_then, one_sound}

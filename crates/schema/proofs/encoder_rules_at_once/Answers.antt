@@ -1,4 +1,3 @@
-use borrow.Author.Rules.{rules}
 use mathlib.Core.Path.{sym, ◌∙◌}
 use Rattle.rules.specs.Refusals.{◌then◌}
 use Rattle.rules.specs.Format.{encoder_rules}

@@ -1,4 +1,3 @@
-use borrow.Author.Rules.{rules}
 use mathlib.Core.Path.{◌≡◌, sym, ◌∙◌}
 use Rattle.rules.specs.Choice.{pick}
 use Rattle.rules.specs.Refusals.{NameNotUtf8}

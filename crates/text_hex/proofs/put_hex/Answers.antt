@@ -1,10 +1,9 @@
 -- What is left to put, over what is put, is the whole.
 -- Assumes nothing.
-use Prim.Native.Nat.{◌+◌, ◌-◌}
+use Prim.Native.Nat.{◌+◌}
 use native.Mathlib.Omega.{arith}
-use borrow.Author.Rules.{rules}
-use lib.ListN.{length, length-set}
-use Rattle.text_hex.proofs.Putting.{PutsHex, puts_hex_none, puts_hex_turn, puts_hex_end}
+use lib.ListN.{length-set}
+use Rattle.text_hex.proofs.Putting.{puts_hex_none, puts_hex_turn, puts_hex_end}
 use Rattle.text_hex.proofs.put_hex.Goals as goal
 
 pub loop-k-init : goal.loop-k-init

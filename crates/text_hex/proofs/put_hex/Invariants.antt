@@ -1,8 +1,5 @@
-use Prim.Native.Nat.{◌+◌, ◌-◌}
-use native.Mathlib.Omega.{arith}
-use borrow.Author.Rules.{rules}
-use lib.ListN.{length, length-set}
-use Rattle.text_hex.proofs.Putting.{PutsHex, puts_hex_none, puts_hex_turn, puts_hex_end}
+use Prim.Native.Nat.{◌-◌}
+use Rattle.text_hex.proofs.Putting.{PutsHex}
 use Rattle.text_hex.proofs.put_hex.Given as goal
 
 abbrev pub invariant-loop-k : goal.invariant-loop-k

@@ -1,7 +1,6 @@
 -- By the count.
 -- Assumes nothing.
 use native.Mathlib.Omega.{arith}
-use borrow.Author.Rules.{rules}
 use Rattle.rules.specs.Names.{ascii}
 use Rattle.text_hex.proofs.Putting.{put_no_bytes, put_some_bytes}
 use Rattle.text_hex.proofs.put_hex_bytes.Goals as goal

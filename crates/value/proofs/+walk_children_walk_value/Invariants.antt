@@ -1,15 +1,6 @@
 use Rattle.value.specs.Walk.{walk_children, walk_table}
-use Rattle.value.proofs.Walks.{children_none, children_break, children_on, walk_ends}
-use borrow.Author.Rules.{rules}
-use native.Mathlib.Omega.{arith}
-use Prim.Native.Nat.{ℕ, ◌-◌, ◌≤◌}
-use mathlib.Core.Path.{◌≡◌, refl, sym, ◌∙◌}
-use lib.ListN.{length}
-use borrow.Author.Tests.{not-true, not-false}
-use Rattle.rules.specs.ValueRecord.{value_records_in}
-use Rattle.value.proofs.Walks.{walk_none, walk_out, walk_bad, walk_scalar, scalar_ends, walk_parent, walk_variant}
-use Prim.Native.Nat.{ℕ, ◌<◌}
-use mathlib.Core.Path.{sym, ◌∙◌}
+use Prim.Native.Nat.{◌-◌, ◌≤◌}
+use mathlib.Core.Path.{◌≡◌}
 use Prim.Native.Nat.{◌*◌}
 use Prim.Native.Nat.{◌+◌}
 use Rattle.value.proofs.+walk_children_walk_value.Given as goal

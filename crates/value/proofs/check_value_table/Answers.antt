@@ -1,7 +1,6 @@
 use borrow.Author.Tests.{lt-leb, le-leb}
 use Rattle.rules.specs.Choice.{pick, ◌and◌}
 use Rattle.rules.specs.ValueCheck.{value_table_rule}
-use borrow.Author.Rules.{rules}
 use Rattle.value.proofs.check_value_table.Goals as goal
 
 pub returns-then-records-gt-LONGEST : goal.returns-then-records-gt-LONGEST

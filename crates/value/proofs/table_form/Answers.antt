@@ -2,7 +2,6 @@ use native.Mathlib.Omega.{arith}
 use mathlib.Core.Path.{refl, sym, ◌∙◌}
 use Rattle.value.proofs.Walks.{children_one}
 use Rattle.value.proofs.Tables.{form_ragged, form_broken, form_more, form_rest, form_whole}
-use borrow.Author.Rules.{rules}
 use Rattle.value.proofs.table_form.Goals as goal
 
 pub returns-then-not-whole_records : goal.returns-then-not-whole_records

@@ -3,7 +3,6 @@ use Prim.Native.Nat.{◌<◌}
 use lib.ListN.{length}
 use Rattle.rules.specs.ValueRecord.{value_records_in}
 use Rattle.value.proofs.Walks.{broken_not, walk_scalar, scalar_ends}
-use borrow.Author.Rules.{rules}
 use Rattle.value.proofs.walk_scalar.Goals as goal
 
 pub returns-then-depth-eq0 : goal.returns-then-depth-eq0

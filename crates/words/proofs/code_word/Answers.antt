@@ -8,7 +8,6 @@ use Rattle.rules.specs.Names.{ascii, name_of, spelling}
 use Rattle.rules.specs.Lines.{word, code_word, code_words}
 use Rattle.words.proofs.CodeWords.{no_code_word}
 use Rattle.words.proofs.Tables.{values_to, word_is}
-use borrow.Author.Rules.{rules}
 use Rattle.words.proofs.code_word.Goals as goal
 
 pub returns-then-code-ge20 : goal.returns-then-code-ge20

@@ -3,7 +3,6 @@
 use Prim.Native.Nat.{◌-◌}
 use mathlib.Core.Path.{refl, sym, ◌∙◌}
 use native.Mathlib.Omega.{arith}
-use borrow.Author.Rules.{rules}
 use Rattle.rules.specs.Choice.{pick}
 use Rattle.rules.specs.Bytes.{part}
 use Rattle.rules.specs.Names.{ascii}

@@ -1,7 +1,6 @@
 -- The word of each label, by computation.
 -- Assumes nothing.
 use mathlib.Core.Path.{refl}
-use borrow.Author.Rules.{rules}
 use Rattle.rules.specs.Choice.{pick}
 use Rattle.rules.specs.Names.{ascii}
 use Rattle.rules.specs.Lines.{word, label_text}

@@ -1,9 +1,7 @@
 -- What is left to copy, over what is copied, is the word.
 -- Assumes nothing.
-use Prim.Native.Nat.{◌-◌}
 use mathlib.Core.Path.{refl}
-use borrow.Author.Rules.{rules}
-use Rattle.words.proofs.Tables.{Copied, copied_none, copied_turn, copied_end}
+use Rattle.words.proofs.Tables.{copied_none, copied_turn, copied_end}
 use Rattle.words.proofs.word_at.Goals as goal
 
 pub loop-k-init : goal.loop-k-init

@@ -1,7 +1,5 @@
 use Prim.Native.Nat.{◌-◌}
-use mathlib.Core.Path.{refl}
-use borrow.Author.Rules.{rules}
-use Rattle.words.proofs.Tables.{Copied, copied_none, copied_turn, copied_end}
+use Rattle.words.proofs.Tables.{Copied}
 use Rattle.words.proofs.word_at.Given as goal
 
 abbrev pub invariant-loop-k : goal.invariant-loop-k

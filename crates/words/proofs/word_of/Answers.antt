@@ -1,7 +1,6 @@
 -- By the label.
 -- Assumes nothing.
 use mathlib.Core.Path.{refl}
-use borrow.Author.Rules.{rules}
 use Rattle.rules.specs.Choice.{pick}
 use Rattle.rules.specs.Lines.{word, word_of}
 use Rattle.words.proofs.word_of.Goals as goal

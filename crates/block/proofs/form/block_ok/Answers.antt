@@ -1,9 +1,6 @@
-use borrow.Author.Rules.{rules}
 use borrow.Author.Tests.{eq-eqb, ne_eqb, le-leb, lt-leb}
 use native.Mathlib.Omega.{arith}
-use Prim.Native.Nat.{◌+◌, ◌-◌, ◌≤◌}
 use mathlib.Core.Path.{◌≡◌, refl, ◌∙◌}
-use mathlib.Core.Bool.{true}
 use Rattle.rules.specs.Choice.{◌and◌, all}
 use Rattle.rules.specs.Block.{earlier, record_at, block_ok}
 use Rattle.rules.proofs.Tests.{all_false, all_more}

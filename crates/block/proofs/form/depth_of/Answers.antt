@@ -1,10 +1,9 @@
 use native.Mathlib.Omega.{arith}
-use Prim.Native.Nat.{◌+◌, ◌-◌, ◌≤◌}
-use mathlib.Core.Path.{◌≡◌, refl}
+use mathlib.Core.Path.{refl}
 use mathlib.Core.List.{[]}
 use Rattle.rules.specs.Block.{earlier, depth_of}
 use Rattle.block_laws.proofs.Form.{next_suc, next_fits}
-use Rattle.block_laws.proofs.Levels.{LevelSpot, spot_first, spot_same, spot_next, spot_last}
+use Rattle.block_laws.proofs.Levels.{spot_first, spot_same, spot_next, spot_last}
 use Rattle.block.proofs.form.depth_of.Goals as goal
 use Rattle.block.proofs.form.depth_of.Goals.{then-i-edge, else-i-edge}
 

@@ -1,9 +1,7 @@
-use Prim.Native.Nat.{◌-◌, ◌≤◌}
-use mathlib.Core.Path.{◌≡◌, refl}
-use mathlib.Core.Bool.{true}
+use mathlib.Core.Path.{refl}
 use native.Mathlib.Omega.{arith}
 use Rattle.rules.specs.Choice.{all}
-use Rattle.rules.specs.Block.{node_name, is_name_utf8, names_utf8}
+use Rattle.rules.specs.Block.{names_utf8}
 use Rattle.block.proofs.Turns.{test_on, test_off, test_end}
 use Rattle.block.proofs.Spans.{node_name_inside, name_at}
 use Rattle.block.proofs.names.names_utf8.Goals as goal

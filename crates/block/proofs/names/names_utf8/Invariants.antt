@@ -1,12 +1,8 @@
 use Prim.Native.Nat.{◌-◌, ◌≤◌}
-use mathlib.Core.Path.{◌≡◌, refl}
+use mathlib.Core.Path.{◌≡◌}
 use mathlib.Core.Bool.{true}
-use native.Mathlib.Omega.{arith}
-use borrow.Author.Tests.{not-true, not-false}
 use Rattle.rules.specs.Choice.{all}
-use Rattle.rules.specs.Block.{node_name, is_name_utf8, names_utf8}
-use Rattle.block.proofs.Turns.{test_on, test_off, test_end}
-use Rattle.block.proofs.Spans.{node_name_inside, name_at}
+use Rattle.rules.specs.Block.{node_name, is_name_utf8}
 use Rattle.block.proofs.names.names_utf8.Given as goal
 
 abbrev pub invariant-loop-i : goal.invariant-loop-i

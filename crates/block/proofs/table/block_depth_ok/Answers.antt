@@ -1,4 +1,3 @@
-use borrow.Author.Rules.{rules}
 use Rattle.rules.specs.Format.{block_depth_ok}
 use Rattle.block.proofs.Depth.{few_records}
 use Rattle.block.proofs.table.block_depth_ok.Goals as goal

@@ -1,4 +1,3 @@
-use borrow.Author.Rules.{rules}
 use Rattle.block.proofs.Parts.{block_part}
 use Rattle.block.proofs.table.block_of.Goals as goal
 

@@ -1,4 +1,3 @@
-use borrow.Author.Rules.{rules}
 use native.Mathlib.Omega.{arith}
 use Rattle.block.proofs.Parts.{sound_walks}
 use Rattle.block.proofs.table.block_root.Goals as goal

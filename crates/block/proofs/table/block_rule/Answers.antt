@@ -1,4 +1,3 @@
-use borrow.Author.Rules.{rules}
 use native.Mathlib.Omega.{arith}
 use Rattle.rules.specs.Format.{block_rule}
 use Rattle.block.proofs.Parts.{sound_walks}

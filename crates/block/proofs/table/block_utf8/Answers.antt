@@ -1,4 +1,3 @@
-use borrow.Author.Rules.{rules}
 use mathlib.Core.Path.{sym, ◌∙◌}
 use Rattle.rules.specs.Format.{block_utf8}
 use Rattle.block.proofs.Parts.{form_sound}

@@ -1,9 +1,8 @@
-use borrow.Author.Rules.{rules}
 use native.Mathlib.Omega.{arith}
-use Prim.Native.Nat.{ℕ, ◌+◌, ◌-◌, ◌≤◌, ◌<◌}
-use mathlib.Core.Path.{◌≡◌, sym, ◌∙◌}
+use Prim.Native.Nat.{◌+◌, ◌≤◌}
+use mathlib.Core.Path.{sym, ◌∙◌}
 use lib.ListN.{length}
-use Rattle.rules.specs.Refusals.{◌then◌, in_order}
+use Rattle.rules.specs.Refusals.{◌then◌}
 use Rattle.rules.specs.Block.{node_start, Closed}
 use Rattle.rules.specs.SchemaRules.{schema_rule}
 use Rattle.rules.proofs.Checks.{in_order_none, in_order_end}

@@ -1,14 +1,7 @@
-use borrow.Author.Rules.{rules}
-use native.Mathlib.Omega.{arith}
-use Prim.Native.Nat.{ℕ, ◌+◌, ◌-◌, ◌≤◌, ◌<◌}
-use mathlib.Core.Path.{◌≡◌, sym, ◌∙◌}
-use lib.ListN.{length}
-use Rattle.rules.specs.Refusals.{◌then◌, in_order}
-use Rattle.rules.specs.Block.{node_start, Closed}
+use Prim.Native.Nat.{◌+◌, ◌-◌, ◌≤◌}
+use mathlib.Core.Path.{◌≡◌}
+use Rattle.rules.specs.Refusals.{in_order}
 use Rattle.rules.specs.SchemaRules.{schema_rule}
-use Rattle.rules.proofs.Checks.{in_order_none, in_order_end}
-use Rattle.block_laws.proofs.Rules.{schema_rule_suc}
-use Rattle.block.proofs.Turns.{turn_on, turn_off}
 use Rattle.block.proofs.validation.+validate.Given as goal
 
 abbrev pub decreases-validate : goal.decreases-validate

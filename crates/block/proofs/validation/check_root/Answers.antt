@@ -1,11 +1,10 @@
-use borrow.Author.Rules.{rules}
 use native.Mathlib.Omega.{arith}
-use mathlib.Core.Path.{◌≡◌, sym, ap, ◌∙◌}
-use Prim.Native.Nat.{◌+◌, ◌-◌, ◌≤◌}
+use mathlib.Core.Path.{sym, ap, ◌∙◌}
+use Prim.Native.Nat.{◌+◌, ◌≤◌}
 use lib.ListN.{length}
-use Rattle.rules.specs.Refusals.{◌then◌, in_order}
+use Rattle.rules.specs.Refusals.{◌then◌}
 use Rattle.rules.specs.Block.{node_start, Closed}
-use Rattle.rules.specs.SchemaRules.{child_rule, table_rule}
+use Rattle.rules.specs.SchemaRules.{table_rule}
 use Rattle.rules.specs.declared.table_record.Node.{Node}
 use Rattle.rules.proofs.Checks.{in_order_none, in_order_end}
 use Rattle.block.proofs.Turns.{turn_on, turn_off}

@@ -1,15 +1,7 @@
-use borrow.Author.Rules.{rules}
-use native.Mathlib.Omega.{arith}
-use mathlib.Core.Path.{◌≡◌, sym, ap, ◌∙◌}
+use mathlib.Core.Path.{◌≡◌}
 use Prim.Native.Nat.{◌+◌, ◌-◌, ◌≤◌}
-use lib.ListN.{length}
-use Rattle.rules.specs.Refusals.{◌then◌, in_order}
-use Rattle.rules.specs.Block.{node_start, Closed}
-use Rattle.rules.specs.SchemaRules.{child_rule, table_rule}
-use Rattle.rules.specs.declared.table_record.Node.{Node}
-use Rattle.rules.proofs.Checks.{in_order_none, in_order_end}
-use Rattle.block.proofs.Turns.{turn_on, turn_off}
-use Rattle.block.proofs.Columns.{child_rule_lem}
+use Rattle.rules.specs.Refusals.{in_order}
+use Rattle.rules.specs.SchemaRules.{child_rule}
 use Rattle.block.proofs.validation.check_root.Given as goal
 
 abbrev pub invariant-loop-k : goal.invariant-loop-k

@@ -1,9 +1,5 @@
-use borrow.Author.Rules.{rules}
 use native.Mathlib.Omega.{arith}
-use Prim.Native.Nat.{◌+◌, ◌-◌, ◌≤◌}
-use mathlib.Core.Path.{◌≡◌, sym, ◌∙◌}
-use Rattle.rules.specs.Refusals.{in_order}
-use Rattle.rules.specs.SchemaRules.{rule_at}
+use mathlib.Core.Path.{sym, ◌∙◌}
 use Rattle.rules.proofs.Checks.{in_order_none, in_order_end}
 use Rattle.block.proofs.Turns.{turn_on, turn_off}
 use Rattle.block.proofs.Level.{rule_at_lem}

@@ -1,4 +1,3 @@
-use borrow.Author.Rules.{rules}
 use Rattle.rules.specs.SchemaRules.{not_tuple}
 use Rattle.block.proofs.validation.not_tuple.Goals as goal
 

@@ -1,13 +1,8 @@
-use borrow.Author.Rules.{rules}
 use borrow.Author.Tests.{eq-eqb, ne_eqb, le-leb, lt-leb}
 use native.Mathlib.Omega.{arith}
-use Prim.Native.Nat.{◌+◌, ◌-◌, ◌≤◌}
 use mathlib.Core.Path.{◌≡◌, refl, sym, ◌∙◌}
-use mathlib.Core.Bool.{true}
 use Rattle.rules.specs.Choice.{◌and◌, all}
-use Rattle.rules.specs.Refusals.{in_order}
 use Rattle.rules.specs.Block.{earlier, record_at, block_ok}
-use Rattle.rules.specs.SchemaRules.{rule_at}
 use Rattle.rules.proofs.Tests.{all_false, all_more}
 use Rattle.rules.proofs.Checks.{in_order_none, in_order_end}
 use Rattle.block_laws.proofs.Form.{next_suc, next_fits, record_at_lem, block_ends}

@@ -1,4 +1,3 @@
-use borrow.Author.Rules.{rules}
 use native.Mathlib.Omega.{arith}
 use Rattle.judge.proofs.Once.{later_not}
 use Rattle.judge.proofs.Columns.{reached_only, column_seen}

@@ -1,10 +1,7 @@
-use borrow.Author.Rules.{rules}
 use native.Mathlib.Omega.{arith}
-use Prim.Native.Nat.{◌-◌}
 use mathlib.Core.Path.{sym, ◌∙◌}
-use Rattle.rules.specs.Reading.{limits}
 use Rattle.judge.proofs.Once.{later_not}
-use Rattle.judge.proofs.Columns.{Along, row_said_lem, along_first, column_in, column_flat, along_next, row_seen}
+use Rattle.judge.proofs.Columns.{row_said_lem, along_first, column_in, column_flat, along_next, row_seen}
 use Rattle.judge.proofs.flat.flat_row.Goals as goal
 
 pub returns-then-not-whole_records : goal.returns-then-not-whole_records

@@ -1,11 +1,6 @@
-use borrow.Author.Rules.{rules}
-use borrow.Author.Tests.{not-false}
-use native.Mathlib.Omega.{arith}
 use Prim.Native.Nat.{◌-◌}
-use mathlib.Core.Path.{sym, ◌∙◌}
 use Rattle.rules.specs.Reading.{limits}
-use Rattle.judge.proofs.Once.{later_not}
-use Rattle.judge.proofs.Columns.{Along, row_said_lem, along_first, column_in, column_flat, along_next, row_seen}
+use Rattle.judge.proofs.Columns.{Along}
 use Rattle.judge.proofs.flat.flat_row.Given as goal
 
 abbrev pub invariant-loop-i : goal.invariant-loop-i

@@ -1,15 +1,9 @@
 use Rattle.rules.specs.Reading.{limits}
-use Rattle.leaves.specs.Shapes.{shape_of}
-use Rattle.judge.specs.Table.{whole_end, value_standing_at}
-use Rattle.judge.specs.Judging.{judge_pos, judged_at}
-use Rattle.judge.proofs.Going.{closing_short, Going, known, wrong_count, begins, bounds, ends_there, there, asks, no_pick, narrow, child, no_child_fits, goes_on_lem, whole_inside, whole_deep}
-use borrow.Author.Rules.{rules}
+use Rattle.judge.proofs.Going.{closing_short, known, wrong_count, begins, bounds, ends_there, there, asks, no_pick, narrow, child, no_child_fits, goes_on_lem, whole_inside, whole_deep}
 use native.Mathlib.Omega.{arith}
-use Prim.Native.Nat.{ℕ, ◌-◌}
 use mathlib.Core.Path.{◌∙◌}
 use Rattle.judge.proofs.Going.{whole_inside}
 use Rattle.judge.proofs.Leaves.{code_known, leaf_bounds, other_kind, leaf_answer, opened}
-use Prim.Native.Nat.{ℕ}
 use mathlib.Core.Path.{sym, ◌∙◌}
 use Rattle.judge.proofs.walk.+judge_children_judge_value.Goals as goal
 

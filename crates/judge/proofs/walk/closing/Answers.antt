@@ -1,7 +1,6 @@
 use native.Mathlib.Omega.{arith}
 use Rattle.leaves.proofs.Codes.{shape_variant, shape_repeated, shape_tuple}
 use Rattle.judge.specs.Judging.{closing_bytes}
-use borrow.Author.Rules.{rules}
 use Rattle.judge.proofs.walk.closing.Goals as goal
 
 pub returns-then-code-lt17 : goal.returns-then-code-lt17

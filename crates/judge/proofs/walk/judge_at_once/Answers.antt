@@ -1,7 +1,6 @@
 use Rattle.rules.specs.Reading.{limits}
-use borrow.Author.Rules.{rules}
 use native.Mathlib.Omega.{arith}
-use mathlib.Core.Path.{sym, ◌∙◌}
+use mathlib.Core.Path.{◌∙◌}
 use Rattle.judge.proofs.Once.{later_not, fits_on, below_there, below_asks, below_in, few_bytes_on, below_bounds, judged_once}
 use Rattle.judge.proofs.walk.judge_at_once.Goals as goal
 

@@ -1,7 +1,6 @@
 use borrow.Author.Tests.{lt-ltb, le-ltb, lt-leb, le-leb}
 use Rattle.rules.specs.Choice.{pick}
 use Rattle.judge.specs.Judging.{leaf_of}
-use borrow.Author.Rules.{rules}
 use Rattle.judge.proofs.walk.judge_leaf.Goals as goal
 
 pub returns-then-code-lt13 : goal.returns-then-code-lt13

@@ -3,7 +3,6 @@ use mathlib.Core.Path.{sym, ◌∙◌}
 use Rattle.judge.proofs.Going.{whole_inside}
 use Rattle.judge.proofs.Leaves.{code_known, other_kind, opened}
 use Rattle.judge.proofs.Root.{root_judgeable, row_judged}
-use borrow.Author.Rules.{rules}
 use Rattle.judge.proofs.walk.judge_row.Goals as goal
 
 pub value_record_at-own-requires : goal.value_record_at-own-requires

@@ -3,7 +3,6 @@ use Rattle.rules.specs.Choice.{pick}
 use Rattle.leaves.proofs.Codes.{shape_tuple}
 use Rattle.judge.specs.Judging.{tagged_of, chosen_of}
 use Rattle.judge.proofs.Codes.{picked_tag}
-use borrow.Author.Rules.{rules}
 use Rattle.judge.proofs.walk.next_child.Goals as goal
 
 pub returns-then-code-gt18 : goal.returns-then-code-gt18

@@ -1,4 +1,3 @@
-use borrow.Author.Rules.{rules}
 use Rattle.leaves.specs.Budget.{longest}
 use Rattle.leaves.proofs.budget.blob_limit.Goals as goal
 

@@ -1,5 +1,4 @@
 use native.Mathlib.Omega.{arith}
-use borrow.Author.Rules.{rules}
 use Rattle.rules.specs.Wire.{end_tag}
 use Rattle.wire.proofs.CodeTable.{tag_two}
 use Rattle.leaves.specs.Shapes.{ends_at}

@@ -2,7 +2,6 @@ use borrow.Author.Tests.{le-leb, lt-leb}
 use Rattle.rules.specs.Choice.{pick}
 use Rattle.leaves.specs.Leaf.{◌>>=◌, reading, skim_charge, having, bytes_past, stored, skim_bytes, skim_blob}
 use Rattle.leaves.proofs.Steps.{number_past}
-use borrow.Author.Rules.{rules}
 use Rattle.leaves.proofs.leaf.skip_blob.Goals as goal
 
 pub returns-in_default : goal.returns-in_default

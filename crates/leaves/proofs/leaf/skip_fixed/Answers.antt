@@ -1,7 +1,6 @@
 use borrow.Author.Tests.{le-leb, lt-leb}
 use Rattle.rules.specs.Choice.{pick}
 use Rattle.leaves.specs.Leaf.{◌>>=◌, bytes_past, stored, skim_bytes, skim_fixed}
-use borrow.Author.Rules.{rules}
 use Rattle.leaves.proofs.leaf.skip_fixed.Goals as goal
 
 pub returns-then-input-at : goal.returns-then-input-at

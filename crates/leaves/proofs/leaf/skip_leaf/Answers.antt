@@ -1,7 +1,6 @@
 use borrow.Author.Tests.{lt-ltb, le-ltb}
 use Rattle.rules.specs.Choice.{pick}
 use Rattle.leaves.specs.Leaf.{skim_leaf}
-use borrow.Author.Rules.{rules}
 use Rattle.leaves.proofs.leaf.skip_leaf.Goals as goal
 
 pub returns-in_default : goal.returns-in_default

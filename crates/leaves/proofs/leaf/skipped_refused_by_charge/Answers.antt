@@ -1,4 +1,3 @@
-use borrow.Author.Rules.{rules}
 use Rattle.leaves.proofs.leaf.skipped_refused_by_charge.Goals as goal
 
 pub returns-in-Refused : goal.returns-in-Refused

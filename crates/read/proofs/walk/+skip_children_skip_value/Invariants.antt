@@ -1,21 +1,10 @@
 use lib.ListN.{length}
 use Rattle.leaves.specs.Shapes.{shape_of}
-use Rattle.leaves.specs.Leaf.{◌>>=◌}
 use Rattle.read.specs.Skim.{skim_node, skim}
 use Rattle.read.specs.Ready.{Ready}
-use Rattle.leaves.proofs.Codes.{shape_variant}
-use Rattle.read.proofs.Turn.{moved, steps, go_on, Fuelled, fuel_all, fuel_next, turn_child, turn_end, turn_refused, turn_on, Moved, wide_shape, picked_child}
-use Rattle.read.proofs.Onward.{skim_at}
-use Rattle.read.proofs.Nodes.{node_code, node_children, node_start_lem}
-use borrow.Author.Rules.{rules}
-use native.Mathlib.Omega.{arith}
-use Prim.Native.Nat.{ℕ, suc, ◌+◌, ◌-◌, ◌≤◌}
+use Rattle.read.proofs.Turn.{steps, Fuelled}
+use Prim.Native.Nat.{ℕ, ◌+◌, ◌-◌, ◌≤◌}
 use mathlib.Core.Path.{◌≡◌}
-use Rattle.rules.specs.Block.{node_start}
-use Rattle.leaves.specs.Leaf.{standing}
-use Rattle.read.proofs.Steps.{ready_paid}
-use Rattle.read.proofs.Nodes.{skim_none, skim_dear, skim_paid}
-use Rattle.read.proofs.Leads.{reached_leaf, reached_children}
 use Prim.Native.Nat.{ℕ, ◌+◌, ◌-◌}
 use Prim.Native.Nat.{◌*◌}
 use Rattle.read.proofs.walk.+skip_children_skip_value.Given as goal

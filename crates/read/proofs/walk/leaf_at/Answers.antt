@@ -1,7 +1,6 @@
 use Rattle.read.proofs.Leads.{leads_self, leads_on, leads_child}
 use Rattle.read.proofs.Nodes.{node_children}
 use native.Mathlib.Omega.{arith}
-use borrow.Author.Rules.{rules}
 use Rattle.read.proofs.walk.leaf_at.Goals as goal
 
 pub returns-then-code-lt15 : goal.returns-then-code-lt15

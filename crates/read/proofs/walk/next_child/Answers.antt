@@ -3,7 +3,6 @@ use Rattle.rules.specs.Choice.{pick}
 use Rattle.read.specs.Children.{by_tag, picked}
 use Rattle.leaves.proofs.Codes.{shape_tuple}
 use Rattle.read.proofs.Tags.{picked_tag}
-use borrow.Author.Rules.{rules}
 use Rattle.read.proofs.walk.next_child.Goals as goal
 
 pub returns-then-count-i : goal.returns-then-count-i

@@ -1,4 +1,3 @@
-use borrow.Author.Rules.{rules}
 use Rattle.read.proofs.walk.pick_refused_by_tag.Goals as goal
 
 pub returns-in-Refused : goal.returns-in-Refused

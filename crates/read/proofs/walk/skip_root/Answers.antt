@@ -1,6 +1,5 @@
 use mathlib.Core.Path.{sym, ◌∙◌}
 use Rattle.read.proofs.Root.{root_dear, root_paid, root_ready}
-use borrow.Author.Rules.{rules}
 use native.Mathlib.Omega.{arith}
 use Rattle.read.proofs.walk.skip_root.Goals as goal
 

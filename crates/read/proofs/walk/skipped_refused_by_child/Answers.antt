@@ -1,4 +1,3 @@
-use borrow.Author.Rules.{rules}
 use Rattle.read.proofs.walk.skipped_refused_by_child.Goals as goal
 
 pub returns-in-Refused : goal.returns-in-Refused

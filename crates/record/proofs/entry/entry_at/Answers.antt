@@ -1,4 +1,3 @@
-use borrow.Author.Rules.{rules}
 use Rattle.rules.specs.Format.{entry_at}
 use Rattle.record.proofs.entry.entry_at.Goals as goal
 

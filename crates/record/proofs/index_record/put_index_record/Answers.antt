@@ -1,4 +1,3 @@
-use borrow.Author.Rules.{rules}
 use Rattle.rules.specs.Index.{index_record_start}
 use Rattle.record.proofs.Fields.{index_record_fields}
 use Rattle.record.proofs.index_record.put_index_record.Goals as goal

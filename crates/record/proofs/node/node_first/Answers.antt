@@ -1,4 +1,3 @@
-use borrow.Author.Rules.{rules}
 use Rattle.rules.specs.Block.{node_at}
 use Rattle.record.proofs.node.node_first.Goals as goal
 

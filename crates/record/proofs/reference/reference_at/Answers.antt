@@ -1,4 +1,3 @@
-use borrow.Author.Rules.{rules}
 use Rattle.rules.specs.Format.{reference_at}
 use Rattle.record.proofs.reference.reference_at.Goals as goal
 

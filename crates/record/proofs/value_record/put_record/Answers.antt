@@ -1,4 +1,3 @@
-use borrow.Author.Rules.{rules}
 use Rattle.rules.specs.ValueRecord.{value_record_start}
 use Rattle.record.proofs.Fields.{record_fields}
 use Rattle.record.proofs.value_record.put_record.Goals as goal

@@ -1,4 +1,3 @@
-use borrow.Author.Rules.{rules}
 use Rattle.rules.specs.ValueRecord.{value_record_at}
 use Rattle.record.proofs.value_record.value_record_at.Goals as goal
 

@@ -1,4 +1,3 @@
-use borrow.Author.Rules.{rules}
 use Rattle.rules.specs.Choice.{◌and◌}
 use Rattle.schema.proofs.Given.{depths_is}
 use Rattle.schema.proofs.depths.depths_ok.Goals as goal

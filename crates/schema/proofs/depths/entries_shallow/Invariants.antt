@@ -1,14 +1,10 @@
-use native.Mathlib.Omega.{arith}
 use Prim.Native.Nat.{◌-◌, ◌≤◌}
-use mathlib.Core.Path.{◌≡◌, refl}
+use mathlib.Core.Path.{◌≡◌}
 use mathlib.Core.Bool.{true}
 use mathlib.Core.List.{[]}
-use borrow.Author.Tests.{not-true, not-false}
 use Rattle.rules.specs.Choice.{all}
 use Rattle.rules.specs.Format.{entry_depth_ok}
 use Rattle.schema.specs.Slices.{slices}
-use Rattle.block.proofs.Turns.{test_on, test_off, test_end}
-use Rattle.schema.proofs.Given.{entry_shallow}
 use Rattle.schema.proofs.depths.entries_shallow.Given as goal
 
 abbrev pub invariant-loop-j : goal.invariant-loop-j

@@ -1,11 +1,6 @@
 use native.Mathlib.Omega.{arith}
-use Prim.Native.Nat.{◌-◌, ◌≤◌}
-use mathlib.Core.Path.{◌≡◌, refl}
-use mathlib.Core.Bool.{true}
-use mathlib.Core.List.{[]}
+use mathlib.Core.Path.{refl}
 use Rattle.rules.specs.Choice.{all}
-use Rattle.rules.specs.Format.{reference_depth_ok}
-use Rattle.schema.specs.Slices.{slices}
 use Rattle.block.proofs.Turns.{test_on, test_off, test_end}
 use Rattle.schema.proofs.Given.{reference_deep}
 use Rattle.schema.proofs.depths.references_shallow.Goals as goal

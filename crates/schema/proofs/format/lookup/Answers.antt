@@ -1,11 +1,8 @@
-use borrow.Author.Rules.{rules}
 use native.Mathlib.Omega.{arith}
-use Prim.Native.Nat.{◌+◌, ◌-◌, ◌/◌, ◌≤◌, ◌<◌}
+use Prim.Native.Nat.{◌+◌, ◌-◌, ◌/◌, ◌<◌}
 use mathlib.Core.Path.{refl}
-use Rattle.rules.specs.Bytes.{part}
 use Rattle.rules.specs.Block.{records}
-use Rattle.rules.specs.Format.{entry_count}
-use Rattle.schema.proofs.Lookups.{Between, between_all, between_none, between_later, between_earlier, lookup_hit}
+use Rattle.schema.proofs.Lookups.{between_all, between_none, between_later, between_earlier, lookup_hit}
 use Rattle.schema.proofs.format.lookup.Goals as goal
 
 pub loop-low-init : goal.loop-low-init

@@ -1,11 +1,7 @@
-use borrow.Author.Rules.{rules}
-use native.Mathlib.Omega.{arith}
-use Prim.Native.Nat.{◌+◌, ◌-◌, ◌/◌, ◌≤◌, ◌<◌}
-use mathlib.Core.Path.{refl}
+use Prim.Native.Nat.{◌-◌, ◌≤◌}
 use Rattle.rules.specs.Bytes.{part}
-use Rattle.rules.specs.Block.{records}
 use Rattle.rules.specs.Format.{entry_count}
-use Rattle.schema.proofs.Lookups.{Between, between_all, between_none, between_later, between_earlier, lookup_hit}
+use Rattle.schema.proofs.Lookups.{Between}
 use Rattle.schema.proofs.format.lookup.Given as goal
 
 abbrev pub invariant-loop-low : goal.invariant-loop-low

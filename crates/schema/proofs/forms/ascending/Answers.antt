@@ -1,4 +1,3 @@
-use borrow.Author.Rules.{rules}
 use native.Mathlib.Omega.{arith}
 use Rattle.rules.specs.Format.{ascending}
 use Rattle.schema.proofs.Given.{ascending_suc}

@@ -1,11 +1,6 @@
 use native.Mathlib.Omega.{arith}
-use Prim.Native.Nat.{◌-◌, ◌≤◌}
-use mathlib.Core.Path.{◌≡◌, refl}
-use mathlib.Core.Bool.{true}
-use mathlib.Core.List.{[]}
+use mathlib.Core.Path.{refl}
 use Rattle.rules.specs.Choice.{all}
-use Rattle.rules.specs.Format.{entry_ok}
-use Rattle.schema.specs.Slices.{slices}
 use Rattle.block.proofs.Turns.{test_on, test_off, test_end}
 use Rattle.schema.proofs.forms.entries_ok.Goals as goal
 

@@ -1,4 +1,3 @@
-use borrow.Author.Rules.{rules}
 use Rattle.rules.specs.Bytes.{is_less}
 use Rattle.schema.proofs.forms.is_less.Goals as goal
 

@@ -1,12 +1,6 @@
-use borrow.Author.Rules.{rules}
 use native.Mathlib.Omega.{arith}
-use Prim.Native.Nat.{◌-◌, ◌≤◌}
-use mathlib.Core.Path.{◌≡◌, refl}
-use mathlib.Core.Bool.{true}
-use mathlib.Core.List.{[]}
+use mathlib.Core.Path.{refl}
 use Rattle.rules.specs.Choice.{all}
-use Rattle.rules.specs.Format.{reference_form_ok}
-use Rattle.schema.specs.Slices.{slices}
 use Rattle.block.proofs.Turns.{test_on, test_off, test_end}
 use Rattle.schema.proofs.Given.{reference_form}
 use Rattle.schema.proofs.forms.references_ok.Goals as goal

@@ -1,13 +1,8 @@
 use native.Mathlib.Omega.{arith}
-use Prim.Native.Nat.{◌-◌, ◌≤◌}
-use mathlib.Core.Path.{◌≡◌, refl}
-use mathlib.Core.Bool.{true}
-use mathlib.Core.List.{[]}
+use mathlib.Core.Path.{refl}
 use Rattle.rules.specs.Choice.{all}
-use Rattle.rules.specs.Format.{entry_utf8}
 use Rattle.rules.proofs.Tests.{all_each}
 use Rattle.schema.proofs.Given.{entry_form}
-use Rattle.schema.specs.Slices.{slices}
 use Rattle.block.proofs.Turns.{test_on, test_off, test_end}
 use Rattle.schema.proofs.Naming.{entry_names}
 use Rattle.schema.proofs.names.entries_utf8.Goals as goal

@@ -1,4 +1,3 @@
-use borrow.Author.Rules.{rules}
 use Rattle.rules.specs.Choice.{◌and◌}
 use Rattle.schema.proofs.names.entry_utf8.Goals as goal
 

@@ -1,4 +1,3 @@
-use borrow.Author.Rules.{rules}
 use mathlib.Core.Path.{sym, ◌∙◌}
 use Rattle.rules.specs.Choice.{◌and◌}
 use Rattle.schema.proofs.Naming.{names_is, forms_both, all_ascii}

@@ -1,12 +1,7 @@
 use native.Mathlib.Omega.{arith}
-use Prim.Native.Nat.{◌-◌, ◌≤◌}
-use mathlib.Core.Path.{◌≡◌, refl}
-use mathlib.Core.Bool.{true}
-use mathlib.Core.List.{[]}
+use mathlib.Core.Path.{refl}
 use Rattle.rules.specs.Choice.{all}
-use Rattle.rules.specs.Format.{reference_utf8}
 use Rattle.schema.proofs.Given.{each_reference}
-use Rattle.schema.specs.Slices.{slices}
 use Rattle.block.proofs.Turns.{test_on, test_off, test_end}
 use Rattle.schema.proofs.Naming.{reference_names}
 use Rattle.schema.proofs.names.references_utf8.Goals as goal

@@ -1,13 +1,8 @@
-use borrow.Author.Rules.{rules}
-use native.Mathlib.Omega.{arith}
 use Prim.Native.Nat.{◌+◌, ◌-◌, ◌≤◌}
-use mathlib.Core.Path.{◌≡◌, sym, ◌∙◌}
+use mathlib.Core.Path.{◌≡◌}
 use Rattle.rules.specs.Refusals.{in_order}
 use Rattle.rules.specs.Format.{reference_rule}
-use Rattle.rules.proofs.Checks.{in_order_none, in_order_end}
 use Rattle.schema.specs.Slices.{slices}
-use Rattle.block.proofs.Turns.{turn_on, turn_off}
-use Rattle.schema.proofs.Tables.{table_turn}
 use Rattle.schema.proofs.order.references_rule.Given as goal
 
 abbrev pub invariant-loop-t : goal.invariant-loop-t

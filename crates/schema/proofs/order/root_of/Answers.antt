@@ -1,4 +1,3 @@
-use borrow.Author.Rules.{rules}
 use Rattle.rules.specs.Format.{root_of}
 use Rattle.schema.proofs.order.root_of.Goals as goal
 

@@ -1,6 +1,5 @@
 -- By the parity of the digit.
 -- Assumes nothing.
-use borrow.Author.Rules.{rules}
 use borrow.Author.Tests.{eq-eqb, ne_eqb}
 use Rattle.rules.specs.Choice.{pick}
 use Rattle.text_hex.specs.Digits.{digit_at}

@@ -1,9 +1,6 @@
 -- From above, until a digit is not 0.
 -- Assumes nothing.
-use Prim.Native.Nat.{◌*◌, ◌^◌, ◌≤◌, ◌<◌}
 use native.Mathlib.Omega.{arith}
-use borrow.Author.Rules.{rules}
-use Rattle.rules.specs.Bytes.{le_at}
 use Rattle.rules.proofs.Stands.{le_at_lt}
 use Rattle.text_hex.proofs.Digits.{two_to_a_byte, counted_here, counted_below, count_one}
 use Rattle.text_hex.proofs.integers.digit_count.Goals as goal

@@ -1,7 +1,6 @@
 -- In the order of the tests.
 -- Assumes nothing.
 use native.Mathlib.Omega.{arith}
-use borrow.Author.Rules.{rules}
 use Rattle.rules.specs.Reading.{room}
 use Rattle.rules.specs.Numerals.{signed_bytes, integer_text}
 use Rattle.text_hex.proofs.Texts.{no_integer, no_text_room, text_put}

@@ -1,10 +1,8 @@
 -- What is left to write, over what is written, is the whole.
 -- Assumes nothing.
-use Prim.Native.Nat.{◌-◌}
 use mathlib.Core.Path.{◌∙◌}
 use native.Mathlib.Omega.{arith}
-use borrow.Author.Rules.{rules}
-use Rattle.text_hex.proofs.Negated.{Negates, negates_first, negates_turn, negates_end}
+use Rattle.text_hex.proofs.Negated.{negates_first, negates_turn, negates_end}
 use Rattle.text_hex.proofs.integers.negated.Goals as goal
 
 pub loop-k-init : goal.loop-k-init

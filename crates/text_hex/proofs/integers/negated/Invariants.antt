@@ -1,8 +1,5 @@
 use Prim.Native.Nat.{◌-◌}
-use mathlib.Core.Path.{◌∙◌}
-use native.Mathlib.Omega.{arith}
-use borrow.Author.Rules.{rules}
-use Rattle.text_hex.proofs.Negated.{Negates, negates_first, negates_turn, negates_end}
+use Rattle.text_hex.proofs.Negated.{Negates}
 use Rattle.text_hex.proofs.integers.negated.Given as goal
 
 abbrev pub invariant-loop-k : goal.invariant-loop-k

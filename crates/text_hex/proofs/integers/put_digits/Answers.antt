@@ -1,9 +1,8 @@
 -- What is left to put, over what is put, is the whole.
 -- Assumes nothing.
 use native.Mathlib.Omega.{arith}
-use borrow.Author.Rules.{rules}
 use Rattle.text_hex.proofs.Digits.{digit_small}
-use Rattle.text_hex.proofs.Turns.{PutsDigits, digits_first, digits_turn, digits_end}
+use Rattle.text_hex.proofs.Turns.{digits_first, digits_turn, digits_end}
 use Rattle.text_hex.proofs.integers.put_digits.Goals as goal
 
 pub loop-left-init : goal.loop-left-init

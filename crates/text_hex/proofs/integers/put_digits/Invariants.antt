@@ -1,7 +1,4 @@
-use native.Mathlib.Omega.{arith}
-use borrow.Author.Rules.{rules}
-use Rattle.text_hex.proofs.Digits.{digit_small}
-use Rattle.text_hex.proofs.Turns.{PutsDigits, digits_first, digits_turn, digits_end}
+use Rattle.text_hex.proofs.Turns.{PutsDigits}
 use Rattle.text_hex.proofs.integers.put_digits.Given as goal
 
 abbrev pub invariant-loop-left : goal.invariant-loop-left

@@ -2,7 +2,6 @@
 -- Assumes nothing.
 use mathlib.Core.Path.{ap, ◌∙◌}
 use native.Mathlib.Omega.{arith}
-use borrow.Author.Rules.{rules}
 use lib.ListN.{length}
 use Rattle.text_hex.proofs.Texts.{negative_length, not_negative, signed_few}
 use Rattle.text_hex.proofs.integers.signed_length.Goals as goal

@@ -1,8 +1,5 @@
-use Prim.Native.Nat.{◌-◌, ◌%◌, ◌≤◌}
-use mathlib.Core.Path.{◌≡◌, sym, ◌∙◌}
-use mathlib.Core.Bool.{true}
+use mathlib.Core.Path.{sym, ◌∙◌}
 use native.Mathlib.Omega.{arith}
-use Rattle.utf8.specs.Ascii.{ascii_at}
 use Rattle.utf8.proofs.Runs.{nothing, next}
 use Rattle.utf8.proofs.ascii.ascii_eights.Goals as goal
 

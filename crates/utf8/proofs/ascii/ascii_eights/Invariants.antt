@@ -1,10 +1,7 @@
 use Prim.Native.Nat.{◌-◌, ◌%◌, ◌≤◌}
-use mathlib.Core.Path.{◌≡◌, sym, ◌∙◌}
+use mathlib.Core.Path.{◌≡◌}
 use mathlib.Core.Bool.{true}
-use native.Mathlib.Omega.{arith}
-use borrow.Author.Tests.{not-true, not-false}
 use Rattle.utf8.specs.Ascii.{ascii_at}
-use Rattle.utf8.proofs.Runs.{nothing, next}
 use Rattle.utf8.proofs.ascii.ascii_eights.Given as goal
 
 abbrev pub invariant-loop-i : goal.invariant-loop-i

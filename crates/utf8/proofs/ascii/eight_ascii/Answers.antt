@@ -1,4 +1,3 @@
-use borrow.Author.Rules.{rules}
 use Rattle.utf8.proofs.Runs.{word_ascii}
 use Rattle.utf8.proofs.Words.{high_bits}
 use Rattle.utf8.proofs.ascii.eight_ascii.Goals as goal

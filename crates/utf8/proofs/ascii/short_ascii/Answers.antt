@@ -1,4 +1,3 @@
-use borrow.Author.Rules.{rules}
 use borrow.Author.Tests.{le-leb, lt-leb}
 use Rattle.rules.specs.Choice.{◌and◌}
 use Rattle.utf8.specs.Ascii.{short_ascii}

@@ -1,4 +1,3 @@
-use borrow.Author.Rules.{rules}
 use mathlib.Core.Path.{refl}
 use native.Mathlib.Omega.{arith}
 use Rattle.utf8.proofs.Steps.{begins_none, one_byte, bytes_off, bytes_on, begins_in, begins_nothing, awaits_one, awaits_two, awaits_three, plain_bounds}

@@ -1,8 +1,5 @@
-use Prim.Native.Nat.{◌-◌, ◌≤◌}
-use mathlib.Core.Path.{◌≡◌, sym, ◌∙◌}
+use mathlib.Core.Path.{sym, ◌∙◌}
 use native.Mathlib.Omega.{arith}
-use Rattle.rules.specs.Bytes.{part}
-use Rattle.rules.specs.Utf8.{is_utf8}
 use Rattle.utf8.proofs.Steps.{from_eights, ended}
 use Rattle.utf8.proofs.check.is_utf8.Goals as goal
 

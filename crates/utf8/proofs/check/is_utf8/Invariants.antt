@@ -1,9 +1,7 @@
 use Prim.Native.Nat.{◌-◌, ◌≤◌}
-use mathlib.Core.Path.{◌≡◌, sym, ◌∙◌}
-use native.Mathlib.Omega.{arith}
+use mathlib.Core.Path.{◌≡◌}
 use Rattle.rules.specs.Bytes.{part}
 use Rattle.rules.specs.Utf8.{is_utf8}
-use Rattle.utf8.proofs.Steps.{from_eights, ended}
 use Rattle.utf8.proofs.check.is_utf8.Given as goal
 
 abbrev pub invariant-loop-i : goal.invariant-loop-i

@@ -1,4 +1,3 @@
-use borrow.Author.Rules.{rules}
 use native.Mathlib.Omega.{arith}
 use Rattle.rules.specs.Wire.{wire_types}
 use Rattle.rules.specs.Names.{spelling, ascii, name_of}

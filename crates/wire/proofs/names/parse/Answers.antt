@@ -1,7 +1,6 @@
-use borrow.Author.Rules.{rules}
 use native.Mathlib.Omega.{arith}
-use Prim.Native.Nat.{◌-◌, ◌<◌}
-use Rattle.wire.proofs.NameTable.{Left, left_all, left_none, left_found, left_next, code_small}
+use Prim.Native.Nat.{◌<◌}
+use Rattle.wire.proofs.NameTable.{left_all, left_none, left_found, left_next, code_small}
 use Rattle.wire.proofs.names.parse.Goals as goal
 
 pub loop-t-init : goal.loop-t-init

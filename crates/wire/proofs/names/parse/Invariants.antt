@@ -1,7 +1,5 @@
-use borrow.Author.Rules.{rules}
-use native.Mathlib.Omega.{arith}
-use Prim.Native.Nat.{◌-◌, ◌<◌}
-use Rattle.wire.proofs.NameTable.{Left, left_all, left_none, left_found, left_next, code_small}
+use Prim.Native.Nat.{◌-◌}
+use Rattle.wire.proofs.NameTable.{Left}
 use Rattle.wire.proofs.names.parse.Given as goal
 
 abbrev pub invariant-loop-t : goal.invariant-loop-t

@@ -1,4 +1,3 @@
-use borrow.Author.Rules.{rules}
 use native.Mathlib.Omega.{arith}
 use Rattle.wire.proofs.CodeTable.{code_below}
 use Rattle.wire.proofs.NameTable.{in_order_lem, spells}

@@ -1,9 +1,6 @@
-use borrow.Author.Rules.{rules}
-use native.Mathlib.Omega.{arith}
-use Prim.Native.Nat.{◌+◌, ◌-◌, ◌≤◌, ◌<◌, ◌^◌}
-use mathlib.Core.Path.{◌≡◌, ◌∙◌}
+use Prim.Native.Nat.{◌+◌, ◌-◌, ◌≤◌}
+use mathlib.Core.Path.{◌≡◌}
 use Rattle.rules.specs.Bytes.{le_at}
-use Rattle.wire.proofs.Fields.{le-within, le-none, le-all, le_step}
 use Rattle.wire.proofs.numbers.by_bytes.Given as goal
 
 abbrev pub invariant-loop-k : goal.invariant-loop-k

@@ -1,4 +1,3 @@
-use borrow.Author.Rules.{rules}
 use Rattle.wire.proofs.Fields.{byte}
 use Rattle.wire.proofs.numbers.field.Goals as goal
 

@@ -1,4 +1,3 @@
-use borrow.Author.Rules.{rules}
 use native.Mathlib.Omega.{arith}
 use Rattle.wire.proofs.Fields.{byte, read_parts}
 use Rattle.wire.proofs.numbers.u16_at.Goals as goal

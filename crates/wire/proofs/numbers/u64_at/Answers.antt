@@ -1,6 +1,5 @@
 use Prim.Native.Nat.{◌+◌, ◌*◌, ◌^◌, ◌<◌}
 use native.Mathlib.Omega.{arith}
-use borrow.Author.Rules.{rules}
 use Rattle.wire.proofs.Fields.{read_parts, parts_fit}
 use Rattle.wire.proofs.numbers.u64_at.Goals as goal
 

@@ -1,4 +1,3 @@
-use borrow.Author.Rules.{rules}
 use Rattle.rules.specs.Bytes.{is_equal}
 use Rattle.wire.proofs.order.is_equal.Goals as goal
 

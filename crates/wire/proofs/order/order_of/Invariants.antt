@@ -1,12 +1,6 @@
-use borrow.Author.Rules.{rules}
-use native.Mathlib.Omega.{arith}
 use Prim.Native.Nat.{◌+◌, ◌-◌, ◌≤◌}
-use mathlib.Core.Path.{◌≡◌, sym, ◌∙◌}
-use mathlib.Core.List.{◌∷◌}
-use lib.ListN.{get_or}
+use mathlib.Core.Path.{◌≡◌}
 use Rattle.rules.specs.Bytes.{part, order}
-use Rattle.wire.proofs.Parts.{part_none, part_step, part_end}
-use Rattle.rules.proofs.Orders.{order_cons_same, order_cons_less, order_cons_greater}
 use Rattle.wire.proofs.order.order_of.Given as goal
 
 -- the rest decides as the whole does

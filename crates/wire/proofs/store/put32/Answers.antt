@@ -1,4 +1,3 @@
-use borrow.Author.Rules.{rules}
 use Rattle.wire.proofs.Fields.{write_parts}
 use Rattle.wire.proofs.store.put32.Goals as goal
 

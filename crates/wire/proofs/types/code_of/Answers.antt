@@ -1,4 +1,3 @@
-use borrow.Author.Rules.{rules}
 use Rattle.rules.specs.Wire.{code_of}
 use Rattle.wire.proofs.types.code_of.Goals as goal
 

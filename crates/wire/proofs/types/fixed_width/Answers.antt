@@ -1,4 +1,3 @@
-use borrow.Author.Rules.{rules}
 use Rattle.wire.proofs.CodeTable.{fixed_in, fixed_out}
 use Rattle.wire.proofs.types.fixed_width.Goals as goal
 

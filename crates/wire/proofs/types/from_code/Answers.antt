@@ -1,4 +1,3 @@
-use borrow.Author.Rules.{rules}
 use Rattle.rules.specs.Wire.{type_of, wire_types}
 use Rattle.wire.proofs.CodeTable.{type_in_lem, type_out}
 use Rattle.wire.proofs.types.from_code.Goals as goal
