@@ -1,0 +1,30 @@
+// Reading into a slice.
+ghost use Rattle.std.specs.Prelude.{◌≤◌, length};
+
+use std::io::Read;
+
+// Reads until the slice is full, the input ends or a read fails, and answers how many bytes it put at the start of the slice. A failed read
+// is no error here: whoever has to know asks with one more read. On an empty slice it makes no call.
+pub fn read_full<R: Read>(input: &mut R, space: &mut [u8]) -> usize
+    ensures { result ≤ length space.new }
+{
+    let mut done = 0;
+    while done < space.len() {
+        let got = input.read(&mut space[done..]);
+        match got {
+            Ok(n) if n > 0 => done += n,
+            _ => return done,
+        }
+    }
+    done
+}
+
+// What one more read answers: 0 at the end of the input, 1 where there is more, or less than 0 where it fails.
+pub fn read_one_more<R: Read>(input: &mut R) -> isize {
+    let mut one = [0u8; 1];
+    let got = input.read(&mut one);
+    match got {
+        Ok(n) => n as isize,
+        Err(_) => -1,
+    }
+}
