@@ -107,6 +107,7 @@ module _ (inp : List ℕ) (lim : Limits) where
 
     fields_refused : (i n : ℕ) (p : Pos) (spent : ℕ) (r : Refusal) → ValidAll (trees_from tree i n) → p.at ≤ length inp → Spent lim p spent → FieldsReason inp lim (trees_from tree i n) p.at spent r → fields_of rec i n p ≡ Refused r
     unfolding fields_of trees_from ◌>>=◌
+    fields_refused i zero p spent r _ h m x = elim x [ ]
     fields_refused i (suc n) p spent r (a_schema v a) h m (this_field x) = rw (refuse i p spent r v h m x)
     fields_refused i (suc n) p spent r (a_schema v a) h m (later_field {spent' = spent'} k x) =
         let s = whole_span p m k in

@@ -104,7 +104,7 @@ module _ (table : List ℕ) where
   variant_kept t tag n m v e k = record { before = k.before; stands = rw e (kept_below (variant t v) tag n k) }
 
   -- Each value that the walk meets has its records in the table, from the number on that the walk has for it.
-  pub met_kept : (sch : List ℕ) {whole v : Value} {i₀ r₀ tag j n : ℕ} → Kept table whole tag r₀ → Met sch whole i₀ r₀ v j n → (t : ℕ) × Kept table v t n
+  pub met_kept : (sch : List ℕ) {whole : Value} {i₀ r₀ tag : ℕ} {v : Value} {j n : ℕ} → Kept table whole tag r₀ → Met sch whole i₀ r₀ v j n → (t : ℕ) × Kept table v t n
   unfolding below
   met_kept sch {tag = tag} k itself = (tag, k)
   met_kept sch k (in_variant {r = r} {t = t} {n = n} {v = v} m l e f) = let h = met_kept sch k m in (t, variant_kept t h.0 r n v f h.1)

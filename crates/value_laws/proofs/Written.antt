@@ -38,7 +38,7 @@ module _ (sch store : List ℕ) where
   denote_values : {j n : ℕ} {ss : Schemas} {vs : Values} → SuitV ss vs → DenoteAll sch store j n ss → values vs ≡ n
   unfolding values
   denote_values s_none no_node = refl
-  denote_values (s_more c h) (a_node d a) = ap suc (denote_values h a)
+  denote_values {j = j} (s_more c h) (a_node d a) = ap suc (denote_values {j = j + 1} h a)
 
 -- v conforms to the schema, each blob is within the limit of its kind, and b is the canonical writing
 pub record Fair (lim : Limits) (s : Schema) (v : Value) (b : List ℕ) : Type 0 where
