@@ -18,13 +18,3 @@ pub fn read_full<R: Read>(input: &mut R, space: &mut [u8]) -> usize
     }
     done
 }
-
-// What one more read answers: 0 at the end of the input, 1 where there is more, or less than 0 where it fails.
-pub fn read_one_more<R: Read>(input: &mut R) -> isize {
-    let mut one = [0u8; 1];
-    let got = input.read(&mut one);
-    match got {
-        Ok(n) => n as isize,
-        Err(_) => -1,
-    }
-}
