@@ -32,7 +32,7 @@ pub fn lower(before: RowBudget, bytes: u64, place: u64) -> Lowered
 
 // The same through a reference: so many bytes less, or 13 at `place`, and then the allowance stays.
 pub fn charge(budget: &mut RowBudget, bytes: u64, place: u64) -> Checked
-    ensures { record { budget = budget.exit.now; answer = result } ≡ lowering budget.entry.now bytes place }
+    ensures { record { budget = budget.new; answer = result } ≡ lowering budget.old bytes place }
 {
     let lowered = lower(*budget, bytes, place);
     *budget = lowered.budget;

@@ -1,0 +1,13 @@
+use borrow.Author.Rules.{rules}
+use Prim.Native.Nat.{◌+◌, ◌-◌, ◌≤◌}
+use mathlib.Core.Path.{◌≡◌, sym, ◌∙◌}
+use lib.ListN.{length, length-set}
+use Rattle.rules.specs.Bytes.{le, over}
+use Rattle.write.proofs.Numbers.{le-none, le_turn, le-end}
+use Rattle.write.proofs.put.put_bytes.Given as goal
+
+abbrev pub invariant-loop-k : goal.invariant-loop-k
+invariant-loop-k l = (l.k ≤ l.width) × ((length l.out ≡ length l.initial.out) × (over l.out (l.at + l.k) (le (l.width - l.k) l.left) ≡ over l.initial.out l.at (le l.width l.x)))
+
+abbrev pub decreases-loop-k : goal.decreases-loop-k
+decreases-loop-k l = l.width - l.k
