@@ -1,0 +1,18 @@
+use Rattle.rules.specs.Listing.{lines_below_i}
+use Rattle.judge.specs.Table.{whole_value, whole_end, value_standing_at}
+use Rattle.value_laws.proofs.Children.{children}
+use Rattle.listing_lines.proofs.Walks.{Going, none_left, record_in, has_depth, line_asked, count_low, from_low, going_first, listed, child_listable, going_next}
+use borrow.Author.Rules.{rules}
+use native.Mathlib.Omega.{arith}
+use Prim.Native.Nat.{ℕ, ◌-◌}
+use mathlib.Core.Path.{refl, ◌∙◌}
+use Rattle.listing_lines.proofs.rows.+list_value.Given as goal
+
+abbrev pub decreases-list_value : goal.decreases-list_value
+decreases-list_value l = l.depth
+
+abbrev pub invariant-loop-left : goal.invariant-loop-left
+invariant-loop-left l = Going l.records l.store (l.depth - 1) l.node.row (65 - (l.depth - 1)) (whole_end (value_standing_at l.records l.store l.depth l.node.at l.node.from)) l.initial.q (lines_below_i l.node.row (65 - (l.depth - 1)) (children (whole_value (value_standing_at l.records l.store l.depth l.node.at l.node.from)))) l.initial.text l.text l.q l.left
+
+abbrev pub decreases-loop-left : goal.decreases-loop-left
+decreases-loop-left l = l.left
