@@ -4,7 +4,7 @@
 ghost use Rattle.std.specs.Prelude.{◌≤◌, ◌≡◌, length};
 ghost use Rattle.rules.specs.Bytes.{longest_slice};
 ghost use Rattle.rules.specs.Reading.{run_rule, ran_of};
-ghost use Rattle.rules.specs.Windows.{moved as Windows·moved, PlaceInside, goes_on, added, run_after};
+ghost use Rattle.rules.specs.Windows.{moved, PlaceInside, goes_on, added, run_after};
 ghost use Rattle.schema.specs.Slices.{slices};
 ghost use Rattle.windows.specs.Bounds.{Counted, Further};
 
@@ -29,7 +29,7 @@ pub fn goes_on(stop: Stop) -> bool
 // A refusal of a window, told of the stream in which the window starts at `by`.
 fn moved(refusal: Refusal, by: u64) -> Refusal
     requires { PlaceInside longest_slice refusal × (by ≤ longest_slice) }
-    ensures { result ≡ Windows·moved by refusal }
+    ensures { result ≡ moved by refusal }
 {
     let why = refusal.why;
     let line = why.line();

@@ -12,16 +12,16 @@ pub returns-in-Refused : goal.returns-in-Refused
 returns-in-Refused c = door_refused _ _ _ _ _ _ _ c.if-index-gt-LONGEST.false _ c.door-entry.ensures _ c.in-Refused.is
 
 pub returns-then-index_records_in-row : goal.returns-then-index_records_in-row
-returns-then-index_records_in-row c = no_such_row _ _ _ _ _ _ _ c.if-index-gt-LONGEST.false _ c.door-entry.ensures (λ r x. not_third (rw x at c.in_default.in_default-own.keys2)) _ c.index_records_in.ensures c.if-index_records_in-row.true
+returns-then-index_records_in-row c = no_such_row _ _ _ _ _ _ _ c.if-index-gt-LONGEST.false _ c.door-entry.ensures c.in_default.not-Refused _ c.index_records_in.ensures c.if-index_records_in-row.true
 
 pub index_record_at-indexed-requires : goal.index_record_at-indexed-requires
 index_record_at-indexed-requires c = omega (arith, c.if-index_records_in-row.false, c.index_records_in.ensures)
 
 pub returns-then-input-indexed : goal.returns-then-input-indexed
-returns-then-input-indexed c = past_the_end _ _ _ _ _ _ _ c.if-index-gt-LONGEST.false _ c.door-entry.ensures (λ r x. not_third (rw x at c.in_default.in_default-own.keys2)) _ c.index_records_in.ensures c.if-index_records_in-row.false _ c.index_record_at-indexed.ensures c.if-input-indexed.true
+returns-then-input-indexed c = past_the_end _ _ _ _ _ _ _ c.if-index-gt-LONGEST.false _ c.door-entry.ensures c.in_default.not-Refused _ c.index_records_in.ensures c.if-index_records_in-row.false _ c.index_record_at-indexed.ensures c.if-input-indexed.true
 
 pub decode_record-requires : goal.decode_record-requires
-decode_record-requires c = row_asked _ _ _ _ _ c.args.records.now c.args.payload.now c.if-index-gt-LONGEST.false _ c.door-entry.ensures (λ r x. not_third (rw x at c.in_default.in_default-own.keys2)) _ c.index_records_in.ensures c.if-index_records_in-row.false _ c.index_record_at-indexed.ensures c.if-input-indexed.false
+decode_record-requires c = row_asked _ _ _ _ _ c.args.records.now c.args.payload.now c.if-index-gt-LONGEST.false _ c.door-entry.ensures c.in_default.not-Refused _ c.index_records_in.ensures c.if-index_records_in-row.false _ c.index_record_at-indexed.ensures c.if-input-indexed.false
 
 pub returns : goal.returns
-returns c = row_found_there _ _ _ _ _ _ _ c.if-index-gt-LONGEST.false _ c.door-entry.ensures (λ r x. not_third (rw x at c.in_default.in_default-own.keys2)) _ c.index_records_in.ensures c.if-index_records_in-row.false _ c.index_record_at-indexed.ensures c.if-input-indexed.false _ c.decode_record.ensures
+returns c = row_found_there _ _ _ _ _ _ _ c.if-index-gt-LONGEST.false _ c.door-entry.ensures c.in_default.not-Refused _ c.index_records_in.ensures c.if-index_records_in-row.false _ c.index_record_at-indexed.ensures c.if-input-indexed.false _ c.decode_record.ensures

@@ -1,3 +1,5 @@
+use mathlib.Core.Bool.{not}
+use mathlib.Core.Path.{ap}
 -- Each return by what was found, judged, held to the record and tested on its way.
 -- Assumes nothing.
 use native.Mathlib.Omega.{arith}
@@ -27,11 +29,11 @@ returns-in_default c = let p = block_found _ _ _ _ _ _ c.block_at-found.ensures 
 
 pub returns-then-not-is_that_row : goal.returns-then-not-is_that_row
 returns-then-not-is_that_row c = let p = block_found _ _ _ _ _ _ c.block_at-found.ensures _ _ _ c.in-Block.is in
-    another_row _ _ _ _ _ _ _ (c.row_of-read.ensures ∙ row_block _ _ _ _ _ _ _ _ _ p.0 p.1.0 p.1.1 _ _ refl) _ c.in-Row.is _ c.is_that_row.ensures c.if-not-is_that_row.true
+    another_row _ _ _ _ _ _ _ (c.row_of-read.ensures ∙ row_block _ _ _ _ _ _ _ _ _ p.0 p.1.0 p.1.1 _ _ refl) _ c.in-Row.is _ c.is_that_row.ensures (ap not c.if-not-is_that_row.true)
 
 pub returns-in_default-fits : goal.returns-in_default-fits
 returns-in_default-fits c = let p = block_found _ _ _ _ _ _ c.block_at-found.ensures _ _ _ c.in-Block.is in
-    its_row _ _ _ _ _ _ _ (c.row_of-read.ensures ∙ row_block _ _ _ _ _ _ _ _ _ p.0 p.1.0 p.1.1 _ _ refl) _ c.in-Row.is _ c.is_that_row.ensures c.if-not-is_that_row.false _
+    its_row _ _ _ _ _ _ _ (c.row_of-read.ensures ∙ row_block _ _ _ _ _ _ _ _ _ p.0 p.1.0 p.1.1 _ _ refl) _ c.in-Row.is _ c.is_that_row.ensures (ap not c.if-not-is_that_row.false) _
     (no_room _ _ _ (λ j. omega (arith, c.type_inv.input j)) _ _ _ _ (omega (arith, p.0)) _ (row_found _ _ _ _ _ _ _ _ _ p.0 p.1.0 p.1.1 _ _ refl) _ _ _ c.row_of-read.ensures _ c.in-Row.is _ c.room_for-fits.ensures c.in_default-fits.not-Row)
 
 pub fill_at-requires : goal.fill_at-requires
@@ -46,5 +48,5 @@ returns-in-Refused c = let r = block_refused _ _ _ _ _ _ c.block_at-found.ensure
 
 pub returns-in-Row-fits : goal.returns-in-Row-fits
 returns-in-Row-fits c = let p = block_found _ _ _ _ _ _ c.block_at-found.ensures _ _ _ c.in-Block.is in
-    its_row _ _ _ _ _ _ _ (c.row_of-read.ensures ∙ row_block _ _ _ _ _ _ _ _ _ p.0 p.1.0 p.1.1 _ _ refl) _ c.in-Row.is _ c.is_that_row.ensures c.if-not-is_that_row.false _
+    its_row _ _ _ _ _ _ _ (c.row_of-read.ensures ∙ row_block _ _ _ _ _ _ _ _ _ p.0 p.1.0 p.1.1 _ _ refl) _ c.in-Row.is _ c.is_that_row.ensures (ap not c.if-not-is_that_row.false) _
     (row_filled _ _ _ (λ j. omega (arith, c.type_inv.input j)) _ _ _ _ (omega (arith, p.0)) _ (row_found _ _ _ _ _ _ _ _ _ p.0 p.1.0 p.1.1 _ _ refl) _ _ _ c.row_of-read.ensures _ c.in-Row.is _ c.room_for-fits.ensures _ c.in-Row-fits.is _ _ c.fill_at.ensures.records c.fill_at.ensures.payload)

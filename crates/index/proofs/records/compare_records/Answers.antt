@@ -1,3 +1,5 @@
+use mathlib.Core.Bool.{not}
+use mathlib.Core.Path.{ap}
 -- At each turn the records so far are those of the rows so far.
 -- Assumes nothing.
 use Prim.Native.Nat.{◌-◌}
@@ -21,7 +23,7 @@ pub index_record_at-requires : goal.index_record_at-requires
 index_record_at-requires c = omega (arith, c.loop-i-test.true, c.requires.within)
 
 pub returns-then-not-same_span : goal.returns-then-not-same_span
-returns-then-not-same_span c = compared_other _ _ _ (λ j. omega (arith, c.type_inv.input j)) c.requires.ended _ _ (λ j. omega (arith, c.type_inv.index j)) c.requires.few c.requires.within _ _ c.loop-i.invariant c.loop-i-test.true _ c.row_at-read.ensures _ c.in-Row.is (λ z. not_same _ _ _ _ c.if-not-same_span.true c.same_span.ensures c.index_record_at.ensures z)
+returns-then-not-same_span c = compared_other _ _ _ (λ j. omega (arith, c.type_inv.input j)) c.requires.ended _ _ (λ j. omega (arith, c.type_inv.index j)) c.requires.few c.requires.within _ _ c.loop-i.invariant c.loop-i-test.true _ c.row_at-read.ensures _ c.in-Row.is (λ z. not_same _ _ _ _ (ap not c.if-not-same_span.true) c.same_span.ensures c.index_record_at.ensures z)
 
 pub overflow_add-at : goal.overflow_add-at
 overflow_add-at c = let g = turn_goes _ _ _ (λ j. omega (arith, c.type_inv.input j)) c.requires.ended _ _ c.loop-i.invariant.passing (inr (omega (arith, c.loop-i-test.true, c.requires.few))) _ c.row_at-read.ensures _ c.in-Row.is in
@@ -35,7 +37,7 @@ pub loop-i-smaller : goal.loop-i-smaller
 loop-i-smaller c = omega (arith, c.loop-i-test.true)
 
 pub loop-i-preserved : goal.loop-i-preserved
-loop-i-preserved c = comparing_on _ _ _ (λ j. omega (arith, c.type_inv.input j)) c.requires.ended _ _ (λ j. omega (arith, c.type_inv.index j)) c.requires.few c.requires.within _ _ c.loop-i.invariant c.loop-i-test.true _ c.row_at-read.ensures _ c.in-Row.is (told_same _ _ _ _ c.if-not-same_span.false c.same_span.ensures c.index_record_at.ensures)
+loop-i-preserved c = comparing_on _ _ _ (λ j. omega (arith, c.type_inv.input j)) c.requires.ended _ _ (λ j. omega (arith, c.type_inv.index j)) c.requires.few c.requires.within _ _ c.loop-i.invariant c.loop-i-test.true _ c.row_at-read.ensures _ c.in-Row.is (told_same _ _ _ _ (ap not c.if-not-same_span.false) c.same_span.ensures c.index_record_at.ensures)
 
 pub returns : goal.returns
 returns c = compared_same _ _ _ (λ j. omega (arith, c.type_inv.input j)) c.requires.ended _ _ (λ j. omega (arith, c.type_inv.index j)) c.requires.few c.requires.within _ _ c.loop-i.invariant c.loop-i-test.false

@@ -8,17 +8,16 @@ use Rattle.windows.proofs.space.run_filled_window.Goals as goal
 -- Assumes nothing.
 
 pub returns-then-not-goes_on : goal.returns-then-not-goes_on
-returns-then-not-goes_on c = let both = (goes_nowhere _ _ _ _ (sym c.goes_on.ensures ∙ c.if-not-goes_on.true) _, (refl, search rules)) in
-    record { goes_over = both.0; ends_unchanged = both.1; registry_le_end = (both.2, both.3, both.4, both.5) }
+returns-then-not-goes_on c = record {
+  goes_over = goes_nowhere _ _ _ _ (sym c.goes_on.ensures ∙ c.if-not-goes_on.true) _;
+  ends_unchanged = refl;
+  registry_le_end = search rules;
+}
 
 pub returns : goal.returns
-returns c = let g = c in
-    let u = c.bytes_to_keep-n.ensures in let both = (
-      goes_over _ _ _ _ (sym g.goes_on.ensures ∙ c.if-not-goes_on.false) _ _ c.run_window-next.ensures.value
-          (left_in_front _ _ _ _ _ _ _ c.move_bytes.ensures u.0 (search rules)),
-      (
-        tables_stay c.requires.0 _ _ _ _ c.move_bytes.ensures (search rules),
-        search rules,
-      ),
-    ) in
-    record { goes_over = both.0; ends_unchanged = both.1; registry_le_end = (both.2, both.3, both.4, both.5) }
+returns c = let u = c.bytes_to_keep-n.ensures in record {
+  goes_over = goes_over _ _ _ _ (sym c.goes_on.ensures ∙ c.if-not-goes_on.false) _ _ c.run_window-next.ensures.value
+      (left_in_front _ _ _ _ _ _ _ c.move_bytes.ensures u.0 (search rules));
+  ends_unchanged = tables_stay c.requires.0 _ _ _ _ c.move_bytes.ensures (search rules);
+  registry_le_end = search rules;
+}
