@@ -1,7 +1,6 @@
 -- The format was accepted, so the names of its references and of its registry lie in the store.
 -- Assumes nothing.
 use mathlib.Core.Path.{sym, ◌∙◌}
-use borrow.Author.Rules.{rules}
 use Rattle.schema.proofs.Accepted.{accepted_rules, accepted_forms}
 use Rattle.replay.proofs.ops.located.Goals as goal
 
