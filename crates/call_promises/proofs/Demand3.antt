@@ -8,7 +8,7 @@ use mathlib.Core.Logic.{◌↔◌}
 use lib.ListN.{length, take}
 use contract.Lifetimes.{Lfts}
 use borrow.Fn.Kinds.{ended_of}
-use denote.Ref.{Bor}
+use denote.Ref.{Bor, MutBor}
 use denote.Triple.Clauses.{AtExit}
 use Rattle.rules.specs.Bytes.{Bytes, Stands, part, over}
 use Rattle.rules.specs.Answers.{Said, row_said, read_said, written_said}
@@ -47,7 +47,7 @@ decoded κs answer (settings, (table, (names, (references, (registry, (input, (p
 -- ---- encode
 
 -- Whatever meets encode's contract
-module _ (κs : Lfts 5) (settings : Settings) (table names : Bor (List ℕ)) (first count : ℕ) (records payload output : Bor (List ℕ)) (position : ℕ)
+module _ (κs : Lfts 5) (settings : Settings) (table names : Bor (List ℕ)) (first count : ℕ) (records payload : Bor (List ℕ)) (output : MutBor (List ℕ)) (position : ℕ)
     (answer : Written) (s : AtExit (ended_of 5 encode.Kinds.ps encode.Kinds.r) κs)
     (met : encode.Reads.Post κs (settings, (table, (names, (first, (count, (records, (payload, (output, (position, tt))))))))) answer s) where
   -- leaves the output, where it refuses,
@@ -89,7 +89,7 @@ module _ (κs : Lfts 5) (settings : Settings) (table names : Bor (List ℕ)) (fi
           settings' input.now position' (rw (ap (λ (d : Encoded). d.output) met) at ask)
 
       -- and whatever meets next_row's contract there, with room, answers it too, and leaves the very records and payload that were encoded.
-      pub decodes_to_the_value : (records' payload' : Bor (List ℕ)) → HasRoom e records'.now payload'.now →
+      pub decodes_to_the_value : (records' payload' : MutBor (List ℕ)) → HasRoom e records'.now payload'.now →
           (κs' : Lfts 7) (read : Read) (t : AtExit (ended_of 7 next_row.Kinds.ps next_row.Kinds.r) κs') →
           next_row.Reads.Post κs' (settings', (table', (names', (references', (registry', (input, (position', (records', (payload', tt))))))))) read t →
           decoded κs' read t ≡ decoded_as e records.now payload.now records'.now payload'.now
@@ -101,7 +101,7 @@ module _ (κs : Lfts 5) (settings : Settings) (table names : Bor (List ℕ)) (fi
 -- ---- next_row and skip_row
 
 -- Whatever meets next_row's contract:
-module _ (κs : Lfts 7) (settings : Settings) (table names references registry input : Bor (List ℕ)) (position : ℕ) (records payload : Bor (List ℕ))
+module _ (κs : Lfts 7) (settings : Settings) (table names references registry input : Bor (List ℕ)) (position : ℕ) (records payload : MutBor (List ℕ))
     (answer : Read) (s : AtExit (ended_of 7 next_row.Kinds.ps next_row.Kinds.r) κs)
     (met : next_row.Reads.Post κs (settings, (table, (names, (references, (registry, (input, (position, (records, (payload, tt))))))))) answer s) where
   -- a row conforms to its table's schema: its table is what is left, and the rest of both slices is as before;
@@ -125,7 +125,7 @@ module _ (κs : Lfts 7) (settings : Settings) (table names references registry i
 
   -- A row of table 0, whose table is encoded again under the same settings and with room:
   module _ (bs : Bytes input.now) (e : Extent) (row : read_said answer ≡ row_said e) (zero : e.table ≡ 0)
-      (table' names' : Bor (List ℕ)) (same-table : table'.now ≡ table.now) (same_names : names'.now ≡ names.now) (first count : ℕ) (records' payload' output : Bor (List ℕ)) (position' : ℕ)
+      (table' names' : Bor (List ℕ)) (same-table : table'.now ≡ table.now) (same_names : names'.now ≡ names.now) (first count : ℕ) (records' payload' : Bor (List ℕ)) (output : MutBor (List ℕ)) (position' : ℕ)
       (its-records : records'.now ≡ take (value_record_start e.records) (decoded κs answer s).records) (its-payload : payload'.now ≡ take e.payload (decoded κs answer s).payload)
       (asked : EncodeAsked (format table names references registry) settings first count records'.now payload'.now output.now position') (fits : position' + e.bytes ≤ room output.now)
       (κs' : Lfts 5) (written : Written) (t : AtExit (ended_of 5 encode.Kinds.ps encode.Kinds.r) κs')
@@ -147,7 +147,7 @@ module _ (κs : Lfts 7) (settings : Settings) (table names references registry i
         first count records'.now payload'.now output.now position' (rw (ap (λ (d : Decoded). d.records) met) at its-records) (rw (ap (λ (d : Decoded). d.payload) met) at its-payload) asked fits w b r st)
 
     -- and whatever meets next_row's contract on its bytes, anywhere in a stream, leaves the same table.
-    pub reads_again : (table'' names'' references'' registry'' input'' : Bor (List ℕ)) (position'' : ℕ) (records'' payload'' : Bor (List ℕ)) →
+    pub reads_again : (table'' names'' references'' registry'' input'' : Bor (List ℕ)) (position'' : ℕ) (records'' payload'' : MutBor (List ℕ)) →
         format table'' names'' references'' registry'' ≡ format table names references registry →
         Stands input''.now position'' (part (encoded κs' written t).output position' e.bytes) → length input''.now ≤ 4294967295 →
         e.records ≤ record_room records''.now → e.payload ≤ room payload''.now →

@@ -28,7 +28,7 @@ use Rattle.value.proofs.check_value_table as check-value-table
 use Rattle.row.proofs.skip_row as skip-row
 use Rattle.run.proofs.run as run
 use Rattle.windows.proofs.run_after as run_after_lem
-use Rattle.windows.proofs.goes_on as goes_on_lem
+use Rattle.windows.proofs.goes_on as goes_on
 use Rattle.decode.proofs.next_row as next_row
 use Rattle.encode.proofs.encode as encode
 use Rattle.skiff.proofs.reading.skiff2_skip as skiff2-skip

@@ -7,8 +7,7 @@ use super::ANSWER;
 use answers::{answer_of_checked, answer_of_known, give};
 
 // Whether four slices are a format.
-#[unsafe(no_mangle)]
-pub extern "C" fn skiff2_check_format(
+pub fn skiff2_check_format(
     table: &[u8],
     names: &[u8],
     references: &[u8],
@@ -27,8 +26,7 @@ pub extern "C" fn skiff2_check_format(
 }
 
 // Whether an encoder may write by a block of the record table.
-#[unsafe(no_mangle)]
-pub extern "C" fn skiff2_check_encoder_schema(
+pub fn skiff2_check_encoder_schema(
     table: &[u8],
     names: &[u8],
     first: u64,
@@ -46,8 +44,7 @@ pub extern "C" fn skiff2_check_encoder_schema(
 }
 
 // Whether bytes may be a name.
-#[unsafe(no_mangle)]
-pub extern "C" fn skiff2_check_name(name: &[u8], answer: &mut [u8]) -> u32
+pub fn skiff2_check_name(name: &[u8], answer: &mut [u8]) -> u32
     ensures { record { number = result; answer = answer.new } ≡ check_name_given name.now answer.old }
 {
     if answer.len() < ANSWER {
@@ -58,8 +55,7 @@ pub extern "C" fn skiff2_check_name(name: &[u8], answer: &mut [u8]) -> u32
 }
 
 // The wire type of a name.
-#[unsafe(no_mangle)]
-pub extern "C" fn skiff2_parse(name: &[u8], answer: &mut [u8]) -> u32
+pub fn skiff2_parse(name: &[u8], answer: &mut [u8]) -> u32
     ensures { record { number = result; answer = answer.new } ≡ parse_given name.now answer.old }
 {
     if answer.len() < ANSWER {

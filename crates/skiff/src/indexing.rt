@@ -10,8 +10,7 @@ use indexed_row::decode_indexed;
 use rules::Settings;
 
 // The index of all rows.
-#[unsafe(no_mangle)]
-pub extern "C" fn skiff2_build_index(
+pub fn skiff2_build_index(
     node_charge: u64,
     max_string32_bytes: u64,
     max_yson32_bytes: u64,
@@ -44,8 +43,7 @@ pub extern "C" fn skiff2_build_index(
 }
 
 // Whether a slice is the index of all rows.
-#[unsafe(no_mangle)]
-pub extern "C" fn skiff2_check_index(
+pub fn skiff2_check_index(
     node_charge: u64,
     max_string32_bytes: u64,
     max_yson32_bytes: u64,
@@ -78,8 +76,7 @@ pub extern "C" fn skiff2_check_index(
 }
 
 // The index of all rows, of which the first `old` have their records already.
-#[unsafe(no_mangle)]
-pub extern "C" fn skiff2_extend_index(
+pub fn skiff2_extend_index(
     node_charge: u64,
     max_string32_bytes: u64,
     max_yson32_bytes: u64,
@@ -115,8 +112,7 @@ pub extern "C" fn skiff2_extend_index(
 }
 
 // A row by its number, as value records and payload bytes in two slices of the host's.
-#[unsafe(no_mangle)]
-pub extern "C" fn skiff2_decode_indexed(
+pub fn skiff2_decode_indexed(
     node_charge: u64,
     max_string32_bytes: u64,
     max_yson32_bytes: u64,

@@ -6,8 +6,7 @@ use super::ANSWER;
 use answers::{answer_of_queried, give};
 
 // The value of one record of a value table, as far as the record can be judged alone.
-#[unsafe(no_mangle)]
-pub extern "C" fn skiff2_value(records: &[u8], index: u64, answer: &mut [u8]) -> u32
+pub fn skiff2_value(records: &[u8], index: u64, answer: &mut [u8]) -> u32
     ensures { record { number = result; answer = answer.new } ≡ value_given records.now index answer.old }
 {
     if answer.len() < ANSWER {

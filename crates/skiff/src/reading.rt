@@ -8,8 +8,7 @@ use answers::{answer_of_ran, answer_of_read, give};
 use rules::Settings;
 
 // The row at a position.
-#[unsafe(no_mangle)]
-pub extern "C" fn skiff2_skip(
+pub fn skiff2_skip(
     node_charge: u64,
     max_string32_bytes: u64,
     max_yson32_bytes: u64,
@@ -42,8 +41,7 @@ pub extern "C" fn skiff2_skip(
 }
 
 // All rows from the start on.
-#[unsafe(no_mangle)]
-pub extern "C" fn skiff2_run(
+pub fn skiff2_run(
     node_charge: u64,
     max_string32_bytes: u64,
     max_yson32_bytes: u64,
@@ -74,8 +72,7 @@ pub extern "C" fn skiff2_run(
 }
 
 // The row at a position, as value records and payload bytes in two slices of the host's.
-#[unsafe(no_mangle)]
-pub extern "C" fn skiff2_decode(
+pub fn skiff2_decode(
     node_charge: u64,
     max_string32_bytes: u64,
     max_yson32_bytes: u64,

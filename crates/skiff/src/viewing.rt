@@ -18,8 +18,7 @@ fn give_viewed(answer: &mut [u8], viewed: Viewed) -> u32
 }
 
 // The kind of a record.
-#[unsafe(no_mangle)]
-pub extern "C" fn skiff2_kind(records: &[u8], record: u64, answer: &mut [u8]) -> u32
+pub fn skiff2_kind(records: &[u8], record: u64, answer: &mut [u8]) -> u32
     ensures { record { number = result; answer = answer.new }
         ≡ view_given (kind_rule records.now «record») answer.old }
 {
@@ -28,8 +27,7 @@ pub extern "C" fn skiff2_kind(records: &[u8], record: u64, answer: &mut [u8]) ->
 }
 
 // The tag by which the parent of a record chose it.
-#[unsafe(no_mangle)]
-pub extern "C" fn skiff2_tag(records: &[u8], record: u64, answer: &mut [u8]) -> u32
+pub fn skiff2_tag(records: &[u8], record: u64, answer: &mut [u8]) -> u32
     ensures { record { number = result; answer = answer.new }
         ≡ view_given (tag_rule records.now «record») answer.old }
 {
@@ -38,8 +36,7 @@ pub extern "C" fn skiff2_tag(records: &[u8], record: u64, answer: &mut [u8]) -> 
 }
 
 // How many children a record has.
-#[unsafe(no_mangle)]
-pub extern "C" fn skiff2_child_count(records: &[u8], record: u64, answer: &mut [u8]) -> u32
+pub fn skiff2_child_count(records: &[u8], record: u64, answer: &mut [u8]) -> u32
     ensures { record { number = result; answer = answer.new }
         ≡ view_given (child_count_rule records.now «record») answer.old }
 {
@@ -48,8 +45,7 @@ pub extern "C" fn skiff2_child_count(records: &[u8], record: u64, answer: &mut [
 }
 
 // The record behind the tree of a record.
-#[unsafe(no_mangle)]
-pub extern "C" fn skiff2_after(records: &[u8], record: u64, answer: &mut [u8]) -> u32
+pub fn skiff2_after(records: &[u8], record: u64, answer: &mut [u8]) -> u32
     ensures { record { number = result; answer = answer.new }
         ≡ view_given (after_rule records.now «record») answer.old }
 {
@@ -58,8 +54,7 @@ pub extern "C" fn skiff2_after(records: &[u8], record: u64, answer: &mut [u8]) -
 }
 
 // A field of a record, which has to be a tuple.
-#[unsafe(no_mangle)]
-pub extern "C" fn skiff2_field(records: &[u8], record: u64, field: u64, answer: &mut [u8]) -> u32
+pub fn skiff2_field(records: &[u8], record: u64, field: u64, answer: &mut [u8]) -> u32
     ensures { record { number = result; answer = answer.new }
         ≡ view_given (field_rule records.now «record» field) answer.old }
 {

@@ -30,8 +30,7 @@ fn answer_of_window(rows: u64, bytes: u64, stop: Stop) -> AnswerNumbers
 }
 
 // All rows of a window, which begins where the rows so far end.
-#[unsafe(no_mangle)]
-pub extern "C" fn skiff2_run_window(
+pub fn skiff2_run_window(
     node_charge: u64,
     max_string32_bytes: u64,
     max_yson32_bytes: u64,

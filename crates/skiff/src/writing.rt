@@ -7,8 +7,7 @@ use answers::{answer_of_checked, answer_of_written, give};
 use rules::Settings;
 
 // The value of a value table, as a row at a position of the output.
-#[unsafe(no_mangle)]
-pub extern "C" fn skiff2_encode(
+pub fn skiff2_encode(
     node_charge: u64,
     max_string32_bytes: u64,
     max_yson32_bytes: u64,
@@ -44,8 +43,7 @@ pub extern "C" fn skiff2_encode(
 }
 
 // Whether records and payload are the table of some value.
-#[unsafe(no_mangle)]
-pub extern "C" fn skiff2_check_value_table(records: &[u8], payload: &[u8], answer: &mut [u8]) -> u32
+pub fn skiff2_check_value_table(records: &[u8], payload: &[u8], answer: &mut [u8]) -> u32
     ensures { record { number = result; answer = answer.new }
         ≡ check_value_table_given records.now payload.now answer.old }
 {

@@ -1,0 +1,6 @@
+use borrow.Author.Rules.{rules}
+use Rattle.skiff.proofs.Laws.{seen_given}
+use Rattle.skiff.proofs.viewing.skiff2_after.Goals as goal
+
+pub returns : goal.returns
+returns c = seen_given _ _ _ _ c.after_at-viewed.ensures c.give_viewed.ensures
