@@ -1,38 +1,48 @@
-// A line of standard output, from its start to its end.
+// A line of output, from its start to its end.
 ghost use Rattle.std.specs.Prelude.{◌≤◌};
 
 use crate::reports::stopped;
 use rules::{Ran, Report};
 use wire::wide;
 
-// Most are zeros, which take no division.
-pub fn write_number(n: u64) {
-    if n == 0 {
-        io::write_all(1, b" 0");
-        return;
-    }
-    io::write_all(1, b" ");
-    io::print_decimal(1, n);
+// A failed write is not told: there is nowhere to tell it.
+fn write_text(out: &impl Print, text: &[u8]) {
+    let _ = out.write_all(text);
 }
 
-pub fn write_report(r: Report) {
-    io::print_decimal(1, r.number as u64);
-    write_number(r.place);
-    write_number(r.a);
-    write_number(r.b);
-    write_number(r.c);
+// The same, of a number in decimal digits.
+fn write_decimal(out: &impl Print, n: u64) {
+    let _ = out.print(n);
+}
+
+// Most are zeros, which take no division.
+pub fn write_number(out: &impl Print, n: u64) {
+    if n == 0 {
+        write_text(out, b" 0");
+        return;
+    }
+    write_text(out, b" ");
+    write_decimal(out, n);
+}
+
+pub fn write_report(out: &impl Print, r: Report) {
+    write_decimal(out, r.number as u64);
+    write_number(out, r.place);
+    write_number(out, r.a);
+    write_number(out, r.b);
+    write_number(out, r.c);
 }
 
 // What a run answers: why it stopped, and then the rows and bytes that it accepted.
-pub fn write_ran(ran: Ran) {
+pub fn write_ran(out: &impl Print, ran: Ran) {
     let stop = ran.stop;
-    write_report(stopped(stop));
-    write_number(ran.rows);
-    write_number(ran.bytes);
+    write_report(out, stopped(stop));
+    write_number(out, ran.rows);
+    write_number(out, ran.bytes);
 }
 
-pub fn end_line() {
-    io::write_all(1, b"\n");
+pub fn end_line(out: &impl Print) {
+    write_text(out, b"\n");
 }
 
 const DIGITS: [u8; 16] = *b"0123456789abcdef";
@@ -48,12 +58,12 @@ pub fn shown(bytes: u64) -> usize
 }
 
 // All bytes of a slice, in hex, or a dash where there is none.
-pub fn write_bytes(s: &[u8]) {
+pub fn write_bytes(out: &impl Print, s: &[u8]) {
     if s.len() == 0 {
-        io::write_all(1, b" -");
+        write_text(out, b" -");
         return;
     }
-    io::write_all(1, b" ");
+    write_text(out, b" ");
     let n = shown(s.len() as u64);
     let mut text = [0u8; 8192];
     let mut i = 0;
@@ -63,5 +73,5 @@ pub fn write_bytes(s: &[u8]) {
         text[2 * i + 1] = DIGITS[byte % 16];
         i += 1;
     }
-    io::write_all(1, &text[0..2 * n]);
+    write_text(out, &text[0..2 * n]);
 }

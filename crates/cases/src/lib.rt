@@ -11,7 +11,9 @@ pub mod reports;
 
 ghost use Rattle.std.specs.Prelude.{◌+◌, ◌≤◌, length, ◌≡◌};
 
+use reads::filling::read_full;
 use rules::Settings;
+use std::io::Read;
 use wire::{u32_at, u64_at};
 
 // A case: where its first four byte strings end in the space, one after another, and how many bytes of the input its fifth has. None
@@ -34,8 +36,8 @@ pub struct Case {
 const MOST: u64 = 4194305;
 
 // Reads as much as there is, or as the slice holds; true if it is full.
-fn fill(s: &mut [u8]) -> bool {
-    io::read_full(0, s) == s.len()
+fn fill<R: Read>(cases: &mut R, s: &mut [u8]) -> bool {
+    read_full(cases, s) == s.len()
 }
 
 // A length of the header.
@@ -76,13 +78,13 @@ fn no_case() -> Case
     }
 }
 
-// Reads the next case; there is none where the input ends or is cut, or where it is too long for the space or the input.
-pub fn next_case(space: &mut [u8], input: &mut [u8]) -> Case
+// Reads the next case; there is none where the cases end, are cut or cannot be read, or where it is too long for the space or the input.
+pub fn next_case<R: Read>(cases: &mut R, space: &mut [u8], input: &mut [u8]) -> Case
     ensures records_le_names { (result.records ≤ result.names) × (result.names ≤ result.references) × (result.references ≤ result.registry) }
     ensures registry_in_bounds { (result.registry ≤ length space.new) × (result.input ≤ length input.new) }
 {
     let mut head = [0u8; 72];
-    if !fill(&mut head) {
+    if !fill(cases, &mut head) {
         return no_case();
     }
     let records = size_at(&head, 4);
@@ -96,10 +98,10 @@ pub fn next_case(space: &mut [u8], input: &mut [u8]) -> Case
     if input.len() < fifth {
         return no_case();
     }
-    if !fill(&mut space[0..registry]) {
+    if !fill(cases, &mut space[0..registry]) {
         return no_case();
     }
-    if !fill(&mut input[0..fifth]) {
+    if !fill(cases, &mut input[0..fifth]) {
         return no_case();
     }
     Case {

@@ -1,13 +1,14 @@
 -- What a run over a stream is told as, where the reading ends.
 -- Assumes nothing.
-use Prim.Native.Nat.{ℕ, ◌+◌, ◌≤◌, ◌<◌}
+use Prim.Native.Nat.{ℕ, zero, suc, ◌+◌, ◌-◌, ◌≤◌, ◌<◌}
 use mathlib.Core.Path.{◌≡◌, sym, ◌∙◌}
 use mathlib.Core.Bool.{true, false}
-use mathlib.Core.List.{List, ◌++◌}
+use mathlib.Core.List.{List, [], ◌∷◌, ◌++◌}
 use native.Mathlib.Omega.{arith}
 use borrow.Author.Tests.{eq-eqb, ne_eqb}
 use lib.IntN.{ℤ}
-use lib.ListN.{length}
+use lib.ListN.{length, take, drop}
+use lib.Seq.{get_or-drop}
 use Rattle.rules.specs.Bytes.{Bytes}
 use Rattle.rules.specs.Format.{Format}
 use Rattle.rules.specs.Refusals.{Setting}
@@ -22,6 +23,28 @@ use Rattle.reads.specs.Outcomes.{outcome_of}
 use Rattle.reads.specs.declared.Outcome.{Outcome}
 use Rattle.reads.specs.declared.Outcome.TheVariants.{Told}
 use Rattle.deliveries.specs.Outcomes.{Answers, read, long}
+
+-- bytes behind bytes
+bytes_both : (a b : List ℕ) → Bytes a → Bytes b → Bytes (a ++ b)
+bytes_both [] b h k i = k i
+bytes_both (x ∷ a) b h k zero = h 0
+bytes_both (x ∷ a) b h k (suc i) = bytes_both a b (λ j. h (suc j)) k i
+
+-- the first bytes
+bytes_take : (n : ℕ) (s : List ℕ) → Bytes s → Bytes (take n s)
+bytes_take zero s h i = omega arith
+bytes_take (suc n) [] h i = omega arith
+bytes_take (suc n) (x ∷ s) h zero = h 0
+bytes_take (suc n) (x ∷ s) h (suc i) = bytes_take n s (λ j. h (suc j)) i
+
+-- and those behind them
+bytes_drop : (n : ℕ) (s : List ℕ) → Bytes s → Bytes (drop n s)
+bytes_drop n s h i = rw (get_or-drop n s i 0) (h (n + i))
+
+-- a space that holds bytes holds bytes once others stand behind the window
+pub bytes_filled : (s : List ℕ) (end : ℕ) (ys : List ℕ) → Bytes s → Bytes ys → Bytes (filled s end ys)
+bytes_filled s end ys h k =
+    bytes_both (take end s) (ys ++ drop (length s - end) (drop end s)) (bytes_take end s h) (bytes_both ys (drop (length s - end) (drop end s)) k (bytes_drop (length s - end) (drop end s) (bytes_drop end s h)))
 
 module _ (f : Format) (set : Settings) {ends : Ends} {end n : ℕ} (s : List ℕ) (ran : Ran) (last : ℤ) (o : Outcome) (t : Stream f set ends s end ran n) where
   -- the window is full

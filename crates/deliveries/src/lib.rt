@@ -3,36 +3,53 @@
 // goes to standard error.
 #![tactic(auto)]
 
+mod arguments;
 mod reading;
 mod telling;
 
 ghost use Rattle.std.specs.Prelude.{◌≤◌, ◌≡◌, length, take};
 ghost use Rattle.windows.specs.Bounds.{Laid};
 
+use arguments::{argument_bytes, is_given};
 use failures::Failure;
 use reading::{read_one_more, run_stream};
+use reads::filling::read_full;
 use reads::{Outcome, TableRead, table_read};
 use rules::Settings;
+use std::fs::File;
+use std::str::from_utf8;
 use telling::{tell_failure, tell_run, tell_usage};
 use windows::space::Ends;
 
-// Opens the file that an argument names. Where that fails it tells so, and answers less than 0.
-fn open_file(argument: usize, file: &[u8]) -> i32
+// Opens a file for reading. The library opens files only by paths that are UTF-8 text.
+fn open_read(rt: &HostRuntime, path: &[u8]) -> Option<File> {
+    let text = from_utf8(path).ok()?;
+    File::open(rt, text).ok()
+}
+
+// Opens the file that an argument names. Where that fails it tells so, and answers none.
+fn open_file(rt: &HostRuntime, argument: usize, file: &[u8]) -> Option<File>
     requires { length file.now ≤ 16 }
 {
-    let mut path = io::buffer();
-    let n = os::arg(argument, &mut path);
-    let fd = os::open_read(&path[..n]);
-    if fd < 0 {
-        tell_failure(Failure::CannotOpen, file, argument);
+    let mut path = [0u8; 4096];
+    let n = argument_bytes(rt, argument, &mut path);
+    let opened = open_read(rt, &path[..n]);
+    if opened.is_none() {
+        tell_failure(rt, Failure::CannotOpen, file, argument);
     }
-    fd
+    opened
 }
 
 // Reads the file that an argument names into the space, from a position on, and answers where its bytes end: before the space's end, so
 // that there is room for the stream. Where that fails it tells so, and answers a position past the space. Given such a position it does
 // nothing and hands it on, so that a caller with several files tests the last answer alone.
-fn read_table(argument: usize, file: &[u8], space: &mut [u8], from: usize) -> usize
+fn read_table(
+    rt: &HostRuntime,
+    argument: usize,
+    file: &[u8],
+    space: &mut [u8],
+    from: usize,
+) -> usize
     requires { length file.now ≤ 16 }
     ensures lower_bound { from ≤ result }
     ensures space_unchanged { take from space.new ≡ take from space.old }
@@ -41,57 +58,54 @@ fn read_table(argument: usize, file: &[u8], space: &mut [u8], from: usize) -> us
         return from;
     }
     let past = space.len() + 1;
-    let fd = open_file(argument, file);
-    if fd < 0 {
+    let Some(mut opened) = open_file(rt, argument, file) else {
         return past;
-    }
-    let end = from + io::read_full(fd, &mut space[from..]);
-    let last = read_one_more(fd);
-    libc::close(fd);
+    };
+    let end = from + read_full(&mut opened, &mut space[from..]);
+    let last = read_one_more(&mut opened);
     let read = table_read(end, space.len(), last);
     match read {
         TableRead::Whole => end,
         TableRead::TooLong => {
-            tell_failure(Failure::TooLong, file, argument);
+            tell_failure(rt, Failure::TooLong, file, argument);
             past
         }
         TableRead::Unreadable => {
-            tell_failure(Failure::CannotRead, file, argument);
+            tell_failure(rt, Failure::CannotRead, file, argument);
             past
         }
     }
 }
 
 // Runs over the stream that an argument names, in the window that the tables leave, and tells how it came out.
-fn deliver_stream(argument: usize, space: &mut [u8], ends: Ends)
+fn deliver_stream(rt: &HostRuntime, argument: usize, space: &mut [u8], ends: Ends)
     requires { Laid ends ends.registry (length space.old) }
 {
-    let fd = open_file(argument, b"STREAM");
-    if fd < 0 {
+    let Some(mut stream) = open_file(rt, argument, b"STREAM") else {
         return;
-    }
-    let outcome = run_stream(Settings::new(), fd, space, ends);
-    libc::close(fd);
+    };
+    let outcome = run_stream(Settings::new(), &mut stream, space, ends);
     match outcome {
-        Outcome::Told(ran) => tell_run(ran),
+        Outcome::Told(ran) => tell_run(rt, ran),
         Outcome::NoRoom(position) => {
             let room = (space.len() - ends.registry) as u64;
-            tell_failure(Failure::NoRoom { position, room }, b"STREAM", argument);
+            tell_failure(rt, Failure::NoRoom { position, room }, b"STREAM", argument);
         }
-        Outcome::Unreadable => tell_failure(Failure::CannotRead, b"STREAM", argument),
+        Outcome::Unreadable => tell_failure(rt, Failure::CannotRead, b"STREAM", argument),
     }
 }
 
 // Runs over the delivery that five arguments name, the first of them by its number. The tables lie one behind the other in the space, so
 // that only their sum is limited, and the rest of it is the window.
-pub fn deliver_files(space: &mut [u8], first: u16) {
+pub fn deliver_files(rt: &HostRuntime, space: &mut [u8], first: u16) {
     let argument = first as usize;
-    let records = read_table(argument, b"RECORDS", space, 0);
-    let names = read_table(argument + 1, b"NAMES", space, records);
-    let references = read_table(argument + 2, b"REFERENCES", space, names);
-    let registry = read_table(argument + 3, b"REGISTRY", space, references);
+    let records = read_table(rt, argument, b"RECORDS", space, 0);
+    let names = read_table(rt, argument + 1, b"NAMES", space, records);
+    let references = read_table(rt, argument + 2, b"REFERENCES", space, names);
+    let registry = read_table(rt, argument + 3, b"REGISTRY", space, references);
     if registry <= space.len() {
         deliver_stream(
+            rt,
             argument + 4,
             space,
             Ends {
@@ -105,10 +119,10 @@ pub fn deliver_files(space: &mut [u8], first: u16) {
 }
 
 // The program: the delivery of its five arguments.
-pub fn deliver(space: &mut [u8]) {
-    if os::arg_count() != 6 {
-        tell_usage();
+pub fn deliver(rt: &HostRuntime, space: &mut [u8]) {
+    if !is_given(rt, 5) || is_given(rt, 6) {
+        tell_usage(rt);
         return;
     }
-    deliver_files(space, 1);
+    deliver_files(rt, space, 1);
 }

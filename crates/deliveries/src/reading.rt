@@ -4,19 +4,30 @@ ghost use Rattle.windows.specs.Bounds.{Laid};
 ghost use Rattle.windows.specs.Steps.{format_in};
 ghost use Rattle.deliveries.specs.Outcomes.{Answers};
 
+use reads::filling::read_full;
 use reads::{Outcome, outcome_of_last_read};
 use rules::{LONGEST, Refusal, Settings, Stop};
+use std::io::Read;
 use windows::no_rows;
 use windows::space::{Ends, run_filled_window, run_window};
 
 // What one more read answers: 0 at the end of the file, 1 where there is more, or less than 0.
-pub fn read_one_more(fd: i32) -> isize {
+pub fn read_one_more<R: Read>(file: &mut R) -> isize {
     let mut one = [0u8; 1];
-    libc::read(fd, &mut one)
+    let got = file.read(&mut one);
+    match got {
+        Ok(n) => n as isize,
+        Err(_) => -1,
+    }
 }
 
 // Runs over the stream, in the window behind the tables. What stands is always the run over the bytes read so far.
-pub fn run_stream(settings: Settings, fd: i32, space: &mut [u8], ends: Ends) -> Outcome
+pub fn run_stream<R: Read>(
+    settings: Settings,
+    stream: &mut R,
+    space: &mut [u8],
+    ends: Ends,
+) -> Outcome
     requires { Laid ends ends.registry (length space.old) }
     ensures { Answers (format_in space.old ends) settings ends space.new result }
 {
@@ -25,9 +36,9 @@ pub fn run_stream(settings: Settings, fd: i32, space: &mut [u8], ends: Ends) -> 
     let mut end = w;
     let mut read: u64 = 0;
     while end < space.len() {
-        let got = io::read_full(fd, &mut space[end..]);
+        let got = read_full(stream, &mut space[end..]);
         if got == 0 {
-            return outcome_of_last_read(read_one_more(fd), ran, false);
+            return outcome_of_last_read(read_one_more(stream), ran, false);
         }
         read += got as u64;
         if (LONGEST as u64) < read {
@@ -37,5 +48,5 @@ pub fn run_stream(settings: Settings, fd: i32, space: &mut [u8], ends: Ends) -> 
         ran = reading.ran;
         end = reading.end;
     }
-    outcome_of_last_read(read_one_more(fd), ran, true)
+    outcome_of_last_read(read_one_more(stream), ran, true)
 }

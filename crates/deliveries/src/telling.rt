@@ -1,8 +1,8 @@
 // What goes to the two outputs: each time one line, made in a buffer.
 ghost use Rattle.std.specs.Prelude.{◌≤◌, ◌≡◌, length};
 
+use crate::arguments::argument_bytes;
 use failures::{Failure, put_failure_line, put_usage_line};
-use libc::{STDERR_FILENO, STDOUT_FILENO};
 use lines::put_run_line;
 use rules::Ran;
 
@@ -14,25 +14,29 @@ fn line_room() -> [u8; 8192]
 }
 
 // A failed write is not told: there is nowhere to tell it.
-pub fn tell_run(ran: Ran) {
-    let mut line = line_room();
-    let n = put_run_line(&mut line, ran);
-    io::write_all(STDOUT_FILENO, &line[..n]);
+fn write_line(out: &impl Print, line: &[u8]) {
+    let _ = out.write_all(line);
 }
 
-pub fn tell_usage() {
+pub fn tell_run(rt: &HostRuntime, ran: Ran) {
+    let mut line = line_room();
+    let n = put_run_line(&mut line, ran);
+    write_line(&rt.stdout(), &line[..n]);
+}
+
+pub fn tell_usage(rt: &HostRuntime) {
     let mut line = line_room();
     let n = put_usage_line(&mut line);
-    io::write_all(STDERR_FILENO, &line[..n]);
+    write_line(&rt.stderr(), &line[..n]);
 }
 
 // Tells what is wrong with the file that an argument names.
-pub fn tell_failure(failure: Failure, file: &[u8], argument: usize)
+pub fn tell_failure(rt: &HostRuntime, failure: Failure, file: &[u8], argument: usize)
     requires { length file.now ≤ 16 }
 {
-    let mut path = io::buffer();
-    let n = os::arg(argument, &mut path);
+    let mut path = [0u8; 4096];
+    let n = argument_bytes(rt, argument, &mut path);
     let mut line = line_room();
     let m = put_failure_line(&mut line, failure, file, &path[..n]);
-    io::write_all(STDERR_FILENO, &line[..m]);
+    write_line(&rt.stderr(), &line[..m]);
 }

@@ -4,7 +4,7 @@
 
 use deliveries::deliver;
 
-fn main() {
+fn main(rt: HostRuntime) {
     let mut space = [0u8; 4194304];
-    deliver(&mut space);
+    deliver(&rt, &mut space);
 }

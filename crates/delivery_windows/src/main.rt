@@ -5,9 +5,9 @@
 
 use deliveries::deliver_files;
 
-fn main() {
+fn main(rt: HostRuntime) {
     let mut space = [0u8; 128];
-    deliver_files(&mut space, 1);
-    deliver_files(&mut space, 6);
-    deliver_files(&mut space, 11);
+    deliver_files(&rt, &mut space, 1);
+    deliver_files(&rt, &mut space, 6);
+    deliver_files(&rt, &mut space, 11);
 }

@@ -3,6 +3,6 @@
 
 use listings::list_files;
 
-fn main() {
-    list_files(b"schema.rec", b"schema.nam", b"rows.skf");
+fn main(rt: HostRuntime) {
+    list_files(&rt, b"schema.rec", b"schema.nam", b"rows.skf");
 }

@@ -5,8 +5,9 @@
 use listings::{list_files, tell_listing};
 
 // A tuple of every kind of column, a name each, and two rows.
-fn list_each_kind() {
+fn list_each_kind(out: &impl Print) {
     tell_listing(
+        out,
         b"\x13\x00\x00\x00\x00\x00\x00\x00\x01\x00\x00\x00\x12\x00\x00\x00\x00\x01\x01\x00\x00\x00\x00\x00\
           \x00\x00\x00\x00\x00\x00\x00\x00\x01\x01\x01\x00\x01\x00\x00\x00\x00\x00\x00\x00\x00\x00\x00\x00\
           \x02\x01\x01\x00\x02\x00\x00\x00\x00\x00\x00\x00\x00\x00\x00\x00\x03\x01\x01\x00\x03\x00\x00\x00\
@@ -38,8 +39,9 @@ fn list_each_kind() {
 }
 
 // Document 01's row, and one that is cut.
-fn list_refused_row() {
+fn list_refused_row(out: &impl Print) {
     tell_listing(
+        out,
         b"\x13\x00\x00\x00\x00\x00\x00\x00\x01\x00\x00\x00\x01\x00\x00\x00\x11\x01\x01\x00\x00\x00\x00\x00\
           \x02\x00\x00\x00\x02\x00\x00\x00\x01\x00\x00\x00\x00\x00\x00\x00\x00\x00\x00\x00\x00\x00\x00\x00\
           \x02\x00\x00\x00\x00\x00\x00\x00\x00\x00\x00\x00\x00\x00\x00\x00",
@@ -49,11 +51,12 @@ fn list_refused_row() {
 }
 
 // A row without items, and one of 4,095: with the repeated value and the root it has 4,097 records.
-fn list_long_row() {
+fn list_long_row(out: &impl Print) {
     let mut rows = [0u8; 4101];
     rows[2] = 255;
     rows[4100] = 255;
     tell_listing(
+        out,
         b"\x13\x00\x00\x00\x00\x00\x00\x00\x01\x00\x00\x00\x01\x00\x00\x00\x11\x01\x01\x00\x00\x00\x00\x00\
           \x02\x00\x00\x00\x01\x00\x00\x00\x00\x00\x00\x00\x00\x00\x00\x00\x00\x00\x00\x00\x00\x00\x00\x00",
         b"v",
@@ -62,8 +65,9 @@ fn list_long_row() {
 }
 
 // The ends of int128 and int256, -1 and 0, and numbers whose digits end within a byte or just behind one.
-fn list_wide_integers() {
+fn list_wide_integers(out: &impl Print) {
     tell_listing(
+        out,
         b"\x13\x00\x00\x00\x00\x00\x00\x00\x01\x00\x00\x00\x02\x00\x00\x00\x06\x01\x01\x00\x00\x00\x00\x00\
           \x00\x00\x00\x00\x00\x00\x00\x00\x07\x01\x01\x00\x01\x00\x00\x00\x00\x00\x00\x00\x00\x00\x00\x00",
         b"ab",
@@ -83,12 +87,12 @@ fn list_wide_integers() {
     );
 }
 
-fn main() {
-    list_each_kind();
-    list_refused_row();
-    list_long_row();
-    list_wide_integers();
+fn main(rt: HostRuntime) {
+    list_each_kind(&rt);
+    list_refused_row(&rt);
+    list_long_row(&rt);
+    list_wide_integers(&rt);
     // A file that is not there, and one that is too long.
-    list_files(b"schema.rec", b"none.nam", b"rows.skf");
-    list_files(b"schema.rec", b"schema.nam", b"long.skf");
+    list_files(&rt, b"schema.rec", b"none.nam", b"rows.skf");
+    list_files(&rt, b"schema.rec", b"schema.nam", b"long.skf");
 }

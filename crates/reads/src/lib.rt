@@ -1,6 +1,8 @@
 // What is decided from the numbers that reads answer: the end of a file is a read of no bytes, and a failed read is none.
 #![tactic(auto)]
 
+pub mod filling;
+
 ghost use Rattle.std.specs.Prelude.{◌≡◌};
 ghost use Rattle.reads.specs.Outcomes.{outcome_of, table_read};
 

@@ -7,6 +7,7 @@ use rules::Settings;
 
 // Decodes the row at a position and writes its line.
 fn write_into(
+    out: &impl Print,
     settings: Settings,
     table: &[u8],
     names: &[u8],
@@ -20,14 +21,15 @@ fn write_into(
     let row = next_row(
         settings, table, names, references, registry, input, position, records, payload,
     );
-    write_report(read(row));
-    write_bytes(records);
-    write_bytes(payload);
-    end_line();
+    write_report(out, read(row));
+    write_bytes(out, records);
+    write_bytes(out, payload);
+    end_line(out);
 }
 
 // The same with slices of its own, whose lengths are the halves of `sizes`.
 pub fn decode_row(
+    out: &impl Print,
     settings: Settings,
     table: &[u8],
     names: &[u8],
@@ -42,6 +44,7 @@ pub fn decode_row(
     let mut records = lent_room();
     let mut payload = lent_room();
     write_into(
+        out,
         settings,
         table,
         names,

@@ -15,8 +15,10 @@ use decoding::decode_row;
 use ops::answer;
 use rules::Settings;
 use run::run;
+use std::io::Read;
 
 fn answer_case(
+    out: &impl Print,
     op: u64,
     settings: Settings,
     records: &[u8],
@@ -29,22 +31,35 @@ fn answer_case(
 ) {
     match op {
         8 => {
-            write_ran(run(settings, records, names, references, registry, input));
-            end_line();
+            write_ran(
+                out,
+                run(settings, records, names, references, registry, input),
+            );
+            end_line(out);
         }
-        9 => decode_row(settings, records, names, references, registry, input, a, b),
+        9 => decode_row(
+            out, settings, records, names, references, registry, input, a, b,
+        ),
         _ => {
-            write_report(answer(
-                op, settings, records, names, references, registry, input, a, b,
-            ));
-            end_line();
+            write_report(
+                out,
+                answer(
+                    op, settings, records, names, references, registry, input, a, b,
+                ),
+            );
+            end_line(out);
         }
     }
 }
 
 // Answers the next case; false where there is none.
-fn answer_next(space: &mut [u8], input: &mut [u8]) -> bool {
-    let c = next_case(space, input);
+fn answer_next(
+    cases: &mut impl Read,
+    out: &impl Print,
+    space: &mut [u8],
+    input: &mut [u8],
+) -> bool {
+    let c = next_case(cases, space, input);
     if !c.whole {
         return false;
     }
@@ -55,6 +70,7 @@ fn answer_next(space: &mut [u8], input: &mut [u8]) -> bool {
     let w = c.registry;
     let n = c.input;
     answer_case(
+        out,
         c.op,
         settings,
         &space[0..x],
@@ -68,19 +84,18 @@ fn answer_next(space: &mut [u8], input: &mut [u8]) -> bool {
     true
 }
 
-// A proved loop has to end, and nothing says that the input does: it counts its turns down, from more than any run has.
-fn answer_all(space: &mut [u8], input: &mut [u8]) {
-    let mut turns = u64::MAX;
-    while 0 < turns {
-        if !answer_next(space, input) {
+// A proved loop has to end, and nothing says that the input does: it has more turns than any run takes.
+fn answer_all(cases: &mut impl Read, out: &impl Print, space: &mut [u8], input: &mut [u8]) {
+    for _ in 0..u64::MAX {
+        if !answer_next(cases, out, space, input) {
             return;
         }
-        turns -= 1;
     }
 }
 
-fn main() {
+fn main(rt: HostRuntime) {
+    let mut stdin = rt.stdin();
     let mut space = [0u8; 4194304];
     let mut input = [0u8; 4096];
-    answer_all(&mut space, &mut input);
+    answer_all(&mut stdin, &rt, &mut space, &mut input);
 }

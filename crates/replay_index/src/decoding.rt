@@ -7,6 +7,7 @@ use rules::Settings;
 
 // Decodes the row of a number and writes its line.
 fn write_into(
+    out: &impl Print,
     settings: Settings,
     table: &[u8],
     names: &[u8],
@@ -21,14 +22,15 @@ fn write_into(
     let found = decode_indexed(
         settings, table, names, references, registry, input, index, row, records, payload,
     );
-    write_report(read(found));
-    write_bytes(records);
-    write_bytes(payload);
-    end_line();
+    write_report(out, read(found));
+    write_bytes(out, records);
+    write_bytes(out, payload);
+    end_line(out);
 }
 
 // The same with slices of its own, whose lengths are the halves of `sizes`.
 pub fn decode_row(
+    out: &impl Print,
     settings: Settings,
     table: &[u8],
     names: &[u8],
@@ -44,6 +46,7 @@ pub fn decode_row(
     let mut records = lent_room();
     let mut payload = lent_room();
     write_into(
+        out,
         settings,
         table,
         names,

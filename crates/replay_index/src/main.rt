@@ -17,9 +17,11 @@ use cases::reports::nothing;
 use decoding::decode_row;
 use index::{build_index, check_index, extend_index};
 use rules::Settings;
+use std::io::Read;
 
 // Builds an index and writes its line.
 fn build(
+    out: &impl Print,
     settings: Settings,
     table: &[u8],
     names: &[u8],
@@ -28,13 +30,17 @@ fn build(
     input: &[u8],
     index: &mut [u8],
 ) {
-    write_ran(build_index(settings, table, names, references, registry, input, index));
-    write_bytes(index);
-    end_line();
+    write_ran(
+        out,
+        build_index(settings, table, names, references, registry, input, index),
+    );
+    write_bytes(out, index);
+    end_line(out);
 }
 
 // Extends an index and writes its line.
 fn extend(
+    out: &impl Print,
     settings: Settings,
     table: &[u8],
     names: &[u8],
@@ -44,14 +50,18 @@ fn extend(
     old: u64,
     index: &mut [u8],
 ) {
-    write_ran(extend_index(
-        settings, table, names, references, registry, input, old, index,
-    ));
-    write_bytes(index);
-    end_line();
+    write_ran(
+        out,
+        extend_index(
+            settings, table, names, references, registry, input, old, index,
+        ),
+    );
+    write_bytes(out, index);
+    end_line(out);
 }
 
 fn answer_index(
+    out: &impl Print,
     op: u64,
     settings: Settings,
     table: &[u8],
@@ -64,20 +74,25 @@ fn answer_index(
     sizes: u64,
 ) {
     match op {
-        12 => build(settings, table, names, references, registry, input, index),
+        12 => build(
+            out, settings, table, names, references, registry, input, index,
+        ),
         13 => {
-            write_ran(check_index(settings, table, names, references, registry, input, index));
-            end_line();
+            write_ran(
+                out,
+                check_index(settings, table, names, references, registry, input, index),
+            );
+            end_line(out);
         }
         14 => extend(
-            settings, table, names, references, registry, input, a, index,
+            out, settings, table, names, references, registry, input, a, index,
         ),
         15 => decode_row(
-            settings, table, names, references, registry, input, index, a, sizes,
+            out, settings, table, names, references, registry, input, index, a, sizes,
         ),
         _ => {
-            write_report(nothing());
-            end_line();
+            write_report(out, nothing());
+            end_line(out);
         }
     }
 }
@@ -93,6 +108,7 @@ fn registry_end(strings: &[u8], bytes: u64) -> usize
 }
 
 fn answer_case(
+    out: &impl Print,
     op: u64,
     settings: Settings,
     table: &[u8],
@@ -105,6 +121,7 @@ fn answer_case(
 ) {
     let end = registry_end(strings, b % 4294967296);
     answer_index(
+        out,
         op,
         settings,
         table,
@@ -119,8 +136,13 @@ fn answer_case(
 }
 
 // Answers the next case; false where there is none.
-fn answer_next(space: &mut [u8], index: &mut [u8]) -> bool {
-    let c = next_case(space, index);
+fn answer_next(
+    cases: &mut impl Read,
+    out: &impl Print,
+    space: &mut [u8],
+    index: &mut [u8],
+) -> bool {
+    let c = next_case(cases, space, index);
     if !c.whole {
         return false;
     }
@@ -131,6 +153,7 @@ fn answer_next(space: &mut [u8], index: &mut [u8]) -> bool {
     let w = c.registry;
     let n = c.input;
     answer_case(
+        out,
         c.op,
         settings,
         &space[0..x],
@@ -144,19 +167,18 @@ fn answer_next(space: &mut [u8], index: &mut [u8]) -> bool {
     true
 }
 
-// A proved loop has to end, and nothing says that the input does: it counts its turns down, from more than any run has.
-fn answer_all(space: &mut [u8], index: &mut [u8]) {
-    let mut turns = u64::MAX;
-    while 0 < turns {
-        if !answer_next(space, index) {
+// A proved loop has to end, and nothing says that the input does: it has more turns than any run takes.
+fn answer_all(cases: &mut impl Read, out: &impl Print, space: &mut [u8], index: &mut [u8]) {
+    for _ in 0..u64::MAX {
+        if !answer_next(cases, out, space, index) {
             return;
         }
-        turns -= 1;
     }
 }
 
-fn main() {
+fn main(rt: HostRuntime) {
+    let mut stdin = rt.stdin();
     let mut space = [0u8; 65536];
     let mut index = [0u8; 4096];
-    answer_all(&mut space, &mut index);
+    answer_all(&mut stdin, &rt, &mut space, &mut index);
 }

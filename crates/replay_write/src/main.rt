@@ -10,6 +10,7 @@ use cases::next_case;
 use cases::reports::{accepted_row, checked, nothing};
 use encode::encode;
 use rules::{Report, Settings, Written};
+use std::io::Read;
 use value::check_value_table;
 
 fn written(w: Written) -> Report {
@@ -21,6 +22,7 @@ fn written(w: Written) -> Report {
 
 // Encodes a value table and writes its line.
 fn encode_row(
+    out: &impl Print,
     settings: Settings,
     table: &[u8],
     names: &[u8],
@@ -41,12 +43,13 @@ fn encode_row(
         output,
         position,
     );
-    write_report(written(row));
-    write_bytes(output);
-    end_line();
+    write_report(out, written(row));
+    write_bytes(out, output);
+    end_line(out);
 }
 
 fn answer_case(
+    out: &impl Print,
     op: u64,
     settings: Settings,
     table: &[u8],
@@ -58,21 +61,26 @@ fn answer_case(
     b: u64,
 ) {
     match op {
-        10 => encode_row(settings, table, names, a, records, payload, output, b),
+        10 => encode_row(out, settings, table, names, a, records, payload, output, b),
         11 => {
-            write_report(checked(check_value_table(records, payload)));
-            end_line();
+            write_report(out, checked(check_value_table(records, payload)));
+            end_line(out);
         }
         _ => {
-            write_report(nothing());
-            end_line();
+            write_report(out, nothing());
+            end_line(out);
         }
     }
 }
 
 // Answers the next case; false where there is none.
-fn answer_next(space: &mut [u8], input: &mut [u8]) -> bool {
-    let c = next_case(space, input);
+fn answer_next(
+    cases: &mut impl Read,
+    out: &impl Print,
+    space: &mut [u8],
+    input: &mut [u8],
+) -> bool {
+    let c = next_case(cases, space, input);
     if !c.whole {
         return false;
     }
@@ -83,6 +91,7 @@ fn answer_next(space: &mut [u8], input: &mut [u8]) -> bool {
     let w = c.registry;
     let n = c.input;
     answer_case(
+        out,
         c.op,
         settings,
         &space[0..x],
@@ -96,19 +105,18 @@ fn answer_next(space: &mut [u8], input: &mut [u8]) -> bool {
     true
 }
 
-// A proved loop has to end, and nothing says that the input does: it counts its turns down, from more than any run has.
-fn answer_all(space: &mut [u8], input: &mut [u8]) {
-    let mut turns = u64::MAX;
-    while 0 < turns {
-        if !answer_next(space, input) {
+// A proved loop has to end, and nothing says that the input does: it has more turns than any run takes.
+fn answer_all(cases: &mut impl Read, out: &impl Print, space: &mut [u8], input: &mut [u8]) {
+    for _ in 0..u64::MAX {
+        if !answer_next(cases, out, space, input) {
             return;
         }
-        turns -= 1;
     }
 }
 
-fn main() {
+fn main(rt: HostRuntime) {
+    let mut stdin = rt.stdin();
     let mut space = [0u8; 65536];
     let mut input = [0u8; 4096];
-    answer_all(&mut space, &mut input);
+    answer_all(&mut stdin, &rt, &mut space, &mut input);
 }

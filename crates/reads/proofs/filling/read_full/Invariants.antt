@@ -1,0 +1,10 @@
+-- Each turn leaves less to fill.
+use Rattle.std.proofs.Common.{length, ◌-◌, ◌≤◌}
+use Rattle.rules.specs.Bytes.{Bytes}
+use Rattle.reads.proofs.filling.read_full.Given as goal
+
+abbrev pub invariant-loop-done : goal.invariant-loop-done
+invariant-loop-done g l = (l.done ≤ length l.space) × Bytes l.space
+
+abbrev pub decreases-loop-done : goal.decreases-loop-done
+decreases-loop-done g l = length l.initial.space - l.done
