@@ -17,7 +17,7 @@ use Rattle.rules.specs.Value.{Value}
 use Rattle.rules.specs.ValueRecord.{value_record_start}
 use Rattle.rules.specs.ValueTable.{TableOf}
 use Rattle.rules.specs.Grammar.{TableRow}
-use Rattle.rules.specs.Reading.{limits, schema_of, Decoded, decode_rule, room, record_room, room_test, untouched, NoRow, LeavesRow}
+use Rattle.rules.specs.Reading.{limits, schema_of, Decoded, room, record_room, room_test, untouched, NoRow, LeavesRow}
 use Rattle.rules.specs.Writing.{Encoded, encode_from}
 use Rattle.rules.specs.RoundTrip.{EncodeAsked, Encodable, encoded_into, EncodeRefuses, SkipAsked, HasRoom, decoded_as, PlainRow}
 use Rattle.rules.specs.declared.settings.Settings.{Settings}

@@ -1,7 +1,7 @@
 -- No second answer of the index's calls, C functions and steps, said of each one's own contract as in OneAnswer.
 -- Assumes nothing.
-use mathlib.Core.Path.{◌≡◌, refl, sym, ap, ◌∙◌}
-use mathlib.Core.List.{List, [], ◌∷◌}
+use mathlib.Core.Path.{refl, sym, ap, ◌∙◌}
+use mathlib.Core.List.{[], ◌∷◌}
 use Rattle.record.proofs.index_record.index_records_in as index-records-in
 use Rattle.record.proofs.index_record.are_index_records as are-index-records
 use Rattle.record.proofs.index_record.index_record_at as index-record-at

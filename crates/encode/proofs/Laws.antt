@@ -8,8 +8,8 @@ use native.Mathlib.Omega.{arith}
 use borrow.Author.Tests.{leb-true, leb-false, le-leb, lt-leb, eqb-true}
 use lib.Dec.{leb}
 use lib.ListN.{length}
-use Rattle.rules.specs.Choice.{pick, ◌and◌}
-use Rattle.rules.specs.Refusals.{◌then◌, Setting, BadValueTable}
+use Rattle.rules.specs.Choice.{pick}
+use Rattle.rules.specs.Refusals.{Setting, BadValueTable}
 use Rattle.rules.specs.Block.{records, block, node_at}
 use Rattle.rules.specs.SchemaRules.{root_rule, table_rule}
 use Rattle.rules.specs.Format.{one_block, encoder_rules}

@@ -1,6 +1,6 @@
 -- The three calls, by what the run answered and what the second pass found.
 -- Assumes nothing.
-use Prim.Native.Nat.{ℕ, ◌+◌, ◌*◌, ◌/◌, ◌≤◌, ◌<◌, min}
+use Prim.Native.Nat.{ℕ, ◌≤◌, ◌<◌, min}
 use mathlib.Core.Path.{◌≡◌, refl, sym, ap, ◌∙◌}
 use mathlib.Core.Bool.{Bool, true, false, not}
 use mathlib.Core.List.{List}
@@ -10,8 +10,8 @@ use lib.Dec.{eqb, leb}
 use lib.ListN.{length, take, drop, length-take}
 use lib.Seq.{take_all}
 use Rattle.rules.specs.Choice.{pick}
-use Rattle.rules.specs.Bytes.{part, over, order, is_equal}
-use Rattle.rules.specs.Format.{Format, short_ok}
+use Rattle.rules.specs.Bytes.{part, over}
+use Rattle.rules.specs.Format.{Format}
 use Rattle.rules.specs.Refusals.{Setting, NoIndexRoom, IndexMismatch}
 use Rattle.rules.specs.Reading.{run_rule, row_count, byte_count, ran_of, refused_run, room}
 use Rattle.rules.specs.Index.{Indexed, index_record_start, index_records_in, index_of, is_index_of, where_ended, refused_after, extended, build_rule, check_index_rule, extend_rule}
@@ -20,9 +20,8 @@ use Rattle.rules.specs.declared.refusal.Refusal.{Refusal}
 use Rattle.rules.specs.declared.answer.RowSpan.{RowSpan}
 use Rattle.rules.specs.declared.answer.Ran.{Ran}
 use Rattle.rules.specs.declared.answer.Stop.{Stop}
-use Rattle.rules.proofs.Orders.{is_equal_lem, order_same, order_equal}
+use Rattle.rules.proofs.Orders.{is_equal_lem, order_equal}
 use Rattle.rules.proofs.Stands.{length_part, part-whole}
-use Rattle.rules.proofs.Tests.{false_not}
 use Rattle.index_laws.proofs.Records.{length-index}
 use Rattle.index_laws.proofs.Ended.{rows}
 use Rattle.index.specs.declared.records.Compared.{Compared}

@@ -1,6 +1,6 @@
 -- The second pass over a stream whose run came to its end: what holds at each turn, comparing or writing.
 -- Assumes nothing.
-use Prim.Native.Nat.{ℕ, zero, suc, ◌+◌, ◌-◌, ◌^◌, ◌≤◌, ◌<◌}
+use Prim.Native.Nat.{ℕ, suc, ◌+◌, ◌-◌, ◌≤◌, ◌<◌}
 use mathlib.Core.Path.{◌≡◌, refl, sym, ap, ◌∙◌}
 use mathlib.Core.Bool.{Bool, true, false, not}
 use mathlib.Core.Logic.{◌⊎◌, inl, inr}
@@ -9,11 +9,11 @@ use native.Mathlib.Omega.{arith}
 use borrow.Author.Tests.{eq-eqb, eqb-true, not-true, not-false}
 use lib.ListN.{length, take, drop, length-drop, drop_of_length-le}
 use lib.Seq.{length-take-le, take-add}
-use Rattle.rules.specs.Choice.{pick, ◌and◌}
+use Rattle.rules.specs.Choice.{pick}
 use Rattle.rules.specs.Bytes.{Bytes, part, Stands, over, order, is_equal}
 use Rattle.rules.specs.Format.{Format}
 use Rattle.rules.specs.Reading.{limits, row_at, skipped, run_rule, row_count, byte_count}
-use Rattle.rules.specs.Index.{index_record_size, index_record_start, index_record, indexed_at, index_of, is_index_of, IndexRecordIn}
+use Rattle.rules.specs.Index.{index_record_start, index_record, indexed_at, index_of, is_index_of, IndexRecordIn}
 use Rattle.rules.specs.declared.settings.Settings.{Settings}
 use Rattle.rules.specs.declared.answer.Extent.{Extent}
 use Rattle.rules.specs.declared.answer.RowSpan.{RowSpan}
@@ -25,10 +25,9 @@ use Rattle.rules.proofs.Over.{over_none, over-at, length_over}
 use Rattle.rules.proofs.Stands.{stands_left, stands_right, stands_both, stands_part, part-stands}
 use Rattle.rules.proofs.Tests.{and_both, and_true, false_not}
 use Rattle.row.specs.Steps.{ThroughDoor}
-use Rattle.index_laws.proofs.Records.{Fits, length_record, stands_read, read_stands, length-index, index_append}
+use Rattle.index_laws.proofs.Records.{length_record, stands_read, read_stands, length-index, index_append}
 use Rattle.index_laws.proofs.Ended.{rows, Opened, Empty, opened, Passing, passing_first, passing_left, passing_inside, passing_opened}
 use Rattle.index_laws.proofs.Next.{span, one_taken, one_dropped, bytes_append, none_left, some_left, never_other, Next, next}
-use Rattle.index.specs.declared.records.Compared.{Compared}
 use Rattle.index.specs.declared.records.Compared.TheVariants.{Same, Other}
 use Rattle.index.specs.Passes.{compared_with, same_span}
 

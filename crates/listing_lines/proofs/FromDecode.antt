@@ -1,25 +1,25 @@
 -- A piece, by what decode answers and leaves.
 -- Assumes nothing.
-use Prim.Native.Nat.{ℕ, ◌+◌, ◌≤◌, ◌<◌, min}
+use Prim.Native.Nat.{ℕ, ◌+◌, ◌≤◌, ◌<◌}
 use mathlib.Core.Path.{◌≡◌, refl, sym, ap, ◌∙◌}
 use mathlib.Core.Bool.{Bool, true, false}
-use mathlib.Core.List.{List, [], ◌++◌}
+use mathlib.Core.List.{List, []}
 use native.Mathlib.Omega.{arith}
 use native.Mathlib.Nat.{zero-add}
 use borrow.Author.Tests.{le-leb, lt-leb}
 use lib.ListN.{length, take, drop, take-append-drop, length-replicate}
-use Rattle.rules.specs.Choice.{pick, ◌and◌}
-use Rattle.rules.specs.Bytes.{Bytes, Stands, over}
+use Rattle.rules.specs.Choice.{pick}
+use Rattle.rules.specs.Bytes.{Bytes, Stands}
 use Rattle.rules.specs.Block.{records}
 use Rattle.rules.specs.Format.{Format}
 use Rattle.rules.specs.Rows.{one_table, blank}
 use Rattle.rules.specs.Value.{Value, nothing, records_of, payload_of}
 use Rattle.rules.specs.ValueRecord.{value_record_start}
-use Rattle.rules.specs.ValueTable.{flat, heads, payload_bytes, Whole, Broken, value_at}
+use Rattle.rules.specs.ValueTable.{flat, heads, payload_bytes, Whole}
 use Rattle.rules.specs.Lines.{end_line}
 use Rattle.rules.specs.Walk.{Answer, Got, Refused, Pos, after}
-use Rattle.rules.specs.Reading.{defaults, limits, start, door, through, row_at, extent, skipped, skip_rule, room, room_for, room_test, Decoded, decode_rule}
-use Rattle.rules.specs.Answers.{row_said, read_said}
+use Rattle.rules.specs.Reading.{defaults, limits, start, door, through, row_at, skipped, skip_rule, room, room_test, Decoded, decode_rule}
+use Rattle.rules.specs.Answers.{read_said}
 use Rattle.rules.specs.Refusals.{Setting}
 use Rattle.rules.specs.Listing.{row_lines, refusal_line, Piece, row_piece, last_piece, piece_of, row_piece_of, piece_at, files_ok, files_piece}
 use Rattle.rules.specs.declared.settings.Settings.{Settings}
@@ -33,7 +33,6 @@ use Rattle.rules.proofs.Stands.{stands_seam}
 use Rattle.row_laws.proofs.TableRows.{row_accepts}
 use Rattle.row_laws.proofs.Decoding.{decode_tested, accepts_inside}
 use Rattle.value_laws.proofs.Records.{stand_shows}
-use Rattle.value_laws.proofs.Parse.{Reads}
 use Rattle.value_laws.proofs.Flat.{parses}
 use Rattle.value_laws.proofs.Sizes.{length-heads, length_pays}
 use Rattle.promises.proofs.Tables.{written_first, Held, decoded_held}

@@ -1,18 +1,18 @@
 -- What the record of a value tells is what is told of the value.
 -- Assumes nothing.
-use Prim.Native.Nat.{ℕ, ◌+◌, ◌*◌, ◌^◌, ◌≤◌, ◌<◌}
-use mathlib.Core.Path.{◌≡◌, refl, sym, ap, ◌∙◌}
+use Prim.Native.Nat.{ℕ, ◌+◌, ◌^◌, ◌≤◌, ◌<◌}
+use mathlib.Core.Path.{◌≡◌, refl, sym, ◌∙◌}
 use mathlib.Core.Bool.{Bool, true, false, false≢true}
-use mathlib.Core.List.{List, [], ◌∷◌}
+use mathlib.Core.List.{List}
 use native.Mathlib.Omega.{arith}
 use native.Mathlib.Nat.{lt_of_lt_of_le, pow-le-pow_right}
 use borrow.Author.Tests.{lt-ltb, le-ltb, ne_eqb, ltb-true, leb-true}
-use lib.Dec.{ltb, leb, eqb}
+use lib.Dec.{ltb, leb}
 use lib.ListN.{length}
 use Rattle.rules.specs.Choice.{pick, ◌and◌, all}
-use Rattle.rules.specs.Bytes.{part, Stands}
+use Rattle.rules.specs.Bytes.{Stands}
 use Rattle.rules.specs.Wire.{Form, empty, truth, fixed, raw, sized, variant_form, repeated_form, tuple_form, unknown, wire_types, type_in, type_of, written, written_if, form, width_of}
-use Rattle.rules.specs.Value.{Value, nothing, boolean, number, wide, blob, variant, repeated, tuple, Items, items, values, Fits}
+use Rattle.rules.specs.Value.{Value, nothing, boolean, number, wide, blob, variant, repeated, tuple, items, Fits}
 use Rattle.rules.specs.ValueRecord.{value_record_at}
 use Rattle.rules.specs.ValueTable.{bit, payload_bytes, value_kind, size_of, content_of, head_of, Spot}
 use Rattle.rules.specs.Lines.{decimal}
@@ -26,7 +26,7 @@ use Rattle.value_laws.proofs.Records.{size_is, content_is}
 use Rattle.value_laws.proofs.Parse.{Reads}
 use Rattle.judge.proofs.Codes.{fixed_range, sized_range, widest}
 use Rattle.value_laws.proofs.Children.{children}
-use Rattle.judge.proofs.Standing.{spot, head, kind_told, size_small, from_in, from_end, count_told, parent}
+use Rattle.judge.proofs.Standing.{spot, head, kind_told, from_in, from_end, count_told, parent}
 use Rattle.texts.specs.Records.{is_stored, kept, IsNumber, Told, payload_text, content_text}
 use Rattle.rules.specs.View.{child_count}
 

@@ -1,6 +1,6 @@
 -- A row of a checked format, step by step.
 -- Assumes nothing.
-use Prim.Native.Nat.{ℕ, ◌+◌, ◌-◌, ◌≤◌, ◌<◌}
+use Prim.Native.Nat.{ℕ, ◌+◌, ◌-◌, ◌≤◌}
 use mathlib.Core.Path.{◌≡◌, refl, sym, ◌∙◌, ap}
 use mathlib.Core.Bool.{Bool, true, false}
 use mathlib.Core.List.{List, []}
@@ -11,7 +11,7 @@ use lib.ListN.{length}
 use Rattle.rules.specs.Choice.{pick}
 use Rattle.rules.specs.Bytes.{le_at, Bytes}
 use Rattle.rules.specs.Schema.{Schema, TableRoot}
-use Rattle.rules.specs.Block.{node_start, node_at, block, Denotes, denotes}
+use Rattle.rules.specs.Block.{node_at, block, Denotes, denotes}
 use Rattle.rules.specs.Format.{Format, table_schema}
 use Rattle.rules.specs.Value.{Value}
 use Rattle.rules.specs.Walk as rule

@@ -15,7 +15,7 @@ use Rattle.rules.specs.declared.table_record.ValueRecord.{ValueRecord}
 use Rattle.rules.proofs.Over.{length_over, over_none}
 use Rattle.leaves.specs.Shapes.{shape_of}
 use Rattle.read.specs.Ready.{HasNode}
-use Rattle.judge.specs.Table.{whole_value, whole_end, value_standing_at}
+use Rattle.judge.specs.Table.{whole_end, value_standing_at}
 use Rattle.judge.specs.Tags.{tag_bytes}
 use Rattle.write.specs.Putting.{child_node, leaf_kept, leaf_size, leaf_bytes, put_of, written_at, Writable, Parted, Placed}
 use Rattle.write.specs.Leads.{Left, LeadsToPut}

@@ -36,7 +36,7 @@ use Rattle.judge.specs.declared.walk.Chosen.{Chosen}
 use Rattle.judge.specs.declared.walk.Chosen.TheVariants as chosen_is
 use Rattle.judge.proofs.Kids.{choosing, chosen_for, kids, unfit, opens}
 use Rattle.judge.proofs.Standing.{spot, stands, inside, size_small, tag_small, deep, parent, below_reads, count_told, Turn, turn, turn_stands}
-use Rattle.judge.proofs.Going.{compound_kind, Choice, choice, counted_tuple}
+use Rattle.judge.proofs.Going.{compound_kind, choice, counted_tuple}
 
 -- ---- what was put, taken apart
 

@@ -10,7 +10,7 @@ use lib.Dec.{leb}
 use lib.ListN.{length}
 use Rattle.rules.specs.Choice.{pick}
 use Rattle.rules.specs.Bytes.{over}
-use Rattle.rules.specs.Value.{Fits, records_of, payload_of}
+use Rattle.rules.specs.Value.{records_of, payload_of}
 use Rattle.rules.specs.ValueTable.{tag_at, table_value}
 use Rattle.rules.specs.Reading as reading
 use Rattle.rules.specs.Reading.{limits}

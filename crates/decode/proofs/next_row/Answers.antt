@@ -2,7 +2,6 @@
 -- Assumes nothing.
 use Rattle.rules.specs.Reading.{through, decode_rule}
 use Rattle.row.proofs.AtDoor.{asked}
-use borrow.Author.Rules.{rules}
 use Rattle.decode.proofs.next_row.Goals as goal
 
 pub decode_row-requires : goal.decode_row-requires

@@ -1,6 +1,5 @@
 use mathlib.Core.Path.{sym, ◌∙◌}
 use Rattle.encode.proofs.Laws.{out_of_bounds, schema_refused, within, flat_row, placeable, encoded}
-use borrow.Author.Rules.{rules}
 use Rattle.encode.proofs.encode.Goals as goal
 
 -- Each return by the tests on its way.

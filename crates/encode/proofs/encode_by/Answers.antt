@@ -1,7 +1,6 @@
 -- Each return by the tests on its way.
 -- Assumes nothing.
-use mathlib.Core.Path.{refl, sym, ◌∙◌}
-use borrow.Author.Rules.{rules}
+use mathlib.Core.Path.{refl}
 use Rattle.encode.proofs.Laws.{form_refused, judgeable, row_encoded}
 use Rattle.encode.proofs.encode_by.Goals as goal
 

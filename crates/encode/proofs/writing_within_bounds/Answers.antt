@@ -3,7 +3,6 @@ use Rattle.rules.specs.Choice.{◌and◌}
 use Rattle.rules.specs.Reading.{room}
 use Rattle.rules.specs.Writing.{encode_ok}
 use Rattle.encode.proofs.Laws.{within_both, beyond_both}
-use borrow.Author.Rules.{rules}
 use Rattle.encode.proofs.writing_within_bounds.Goals as goal
 
 -- Each test as it is met.

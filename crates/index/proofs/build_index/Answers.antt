@@ -4,7 +4,6 @@ use mathlib.Core.Path.{refl}
 use native.Mathlib.Omega.{arith}
 use Rattle.rules.specs.Reading.{byte_count}
 use Rattle.index.proofs.Calls.{not_end, build_refused, build_no_room, build_put, writable}
-use borrow.Author.Rules.{rules}
 use Rattle.index.proofs.build_index.Goals as goal
 
 pub returns-in_default : goal.returns-in_default

@@ -4,7 +4,6 @@ use mathlib.Core.Path.{ap}
 -- Assumes nothing.
 use mathlib.Core.Path.{◌∙◌}
 use Rattle.index.proofs.Calls.{not_end, not_other, check_long, check_refused, check_other_size, comparable, check_other, check_same}
-use borrow.Author.Rules.{rules}
 use Rattle.index.proofs.check_index.Goals as goal
 
 pub returns-then-index-gt-LONGEST : goal.returns-then-index-gt-LONGEST

@@ -1,7 +1,6 @@
 -- Each return by what the run answered and what was compared and tested after it.
 -- Assumes nothing.
 use Rattle.index.proofs.Calls.{not_end, not_other, extend_beyond, extend_refused, extend_few, extend_comparable, extend_other, extend_no_room, extend_writable, extend_put}
-use borrow.Author.Rules.{rules}
 use Rattle.index.proofs.extend_index.Goals as goal
 
 pub returns-then-room-old : goal.returns-then-room-old

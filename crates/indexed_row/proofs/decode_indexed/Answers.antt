@@ -1,8 +1,7 @@
 -- Each return by the test that it comes after.
 -- Assumes nothing.
 use native.Mathlib.Omega.{arith}
-use Rattle.indexed_row.proofs.Laws.{not_third, long_index, door_refused, no_such_row, past_the_end, row_asked, row_found_there}
-use borrow.Author.Rules.{rules}
+use Rattle.indexed_row.proofs.Laws.{long_index, door_refused, no_such_row, past_the_end, row_asked, row_found_there}
 use Rattle.indexed_row.proofs.decode_indexed.Goals as goal
 
 pub returns-then-index-gt-LONGEST : goal.returns-then-index-gt-LONGEST

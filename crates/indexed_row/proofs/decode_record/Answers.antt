@@ -7,9 +7,8 @@ use mathlib.Core.Path.{refl, ◌∙◌}
 use Rattle.rules.specs.Reading.{limits}
 use Rattle.schema.proofs.Accepted.{accepted_forms}
 use Rattle.row.proofs.Laws.{block_found, block_refused, row_found, row_block, walkable}
-use Rattle.decode.proofs.Laws.{not_first, refused_filled, row_other, no_room, granted, row_filled}
+use Rattle.decode.proofs.Laws.{refused_filled, row_other, no_room, granted, row_filled}
 use Rattle.indexed_row.proofs.Laws.{no_row, refused_row, another_row, its_row}
-use borrow.Author.Rules.{rules}
 use Rattle.indexed_row.proofs.decode_record.Goals as goal
 
 pub block_at-found-requires : goal.block_at-found-requires

@@ -2,7 +2,6 @@
 -- Assumes nothing.
 use Rattle.rules.specs.Reading.{skip_rule, through}
 use Rattle.row.proofs.AtDoor.{asked}
-use borrow.Author.Rules.{rules}
 use Rattle.row.proofs.skip_row.Goals as goal
 
 pub row_at-requires : goal.row_at-requires

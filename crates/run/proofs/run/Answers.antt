@@ -2,7 +2,6 @@
 -- Assumes nothing.
 use Rattle.rules.specs.Reading.{through, run_rule, ran_of, refused_run, ended_run, row_count, byte_count}
 use Rattle.row.proofs.AtDoor.{asked}
-use borrow.Author.Rules.{rules}
 use Rattle.run.proofs.run.Goals as goal
 
 pub run_rows-requires : goal.run_rows-requires

@@ -1,16 +1,11 @@
 -- The run goes on as long as skip accepts; what is left comes to the whole.
 -- Assumes nothing.
-use Prim.Native.Nat.{◌-◌}
 use mathlib.Core.Path.{refl, ap, ◌∙◌}
 use native.Mathlib.Omega.{arith}
-use borrow.Author.Rules.{rules}
-use lib.ListN.{length}
-use Rattle.rules.specs.Reading.{limits}
 use Rattle.rules.specs.declared.answer.Stop.{Stop}
-use Rattle.schema.specs.Slices.{slices}
 use Rattle.schema.proofs.Accepted.{accepted_forms}
 use Rattle.row.proofs.Laws.{block_refused}
-use Rattle.run.proofs.Runs.{Going, going_first, row_inside, going_on, ends_end, ends_refused, ends_last}
+use Rattle.run.proofs.Runs.{going_first, row_inside, going_on, ends_end, ends_refused, ends_last}
 use Rattle.run.proofs.Found.{along, row_there}
 use Rattle.run.proofs.run_rows.Goals as goal
 

@@ -1,4 +1,3 @@
-use borrow.Author.Rules.{rules}
 use Rattle.run.proofs.stop_refused_by_block.Goals as goal
 
 pub returns-in-Refused : goal.returns-in-Refused

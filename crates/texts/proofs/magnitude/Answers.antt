@@ -1,6 +1,5 @@
 -- Below 0 the number is one less than 0 less some number, and from 0 on it is itself.
 -- Assumes nothing.
-use borrow.Author.Rules.{rules}
 use Rattle.texts.proofs.Integers.{less_one_fits, less_one_cast, one_more_fits, one_more_lem, high_cast}
 use Rattle.texts.proofs.magnitude.Goals as goal
 

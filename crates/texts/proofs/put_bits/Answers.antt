@@ -2,7 +2,6 @@
 -- Assumes nothing.
 use native.Mathlib.Omega.{arith}
 use Rattle.texts.proofs.Records.{put_signed, put_unsigned, put_double}
-use borrow.Author.Rules.{rules}
 use Rattle.texts.proofs.put_bits.Goals as goal
 
 pub signed-requires : goal.signed-requires

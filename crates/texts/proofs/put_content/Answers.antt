@@ -4,7 +4,6 @@ use mathlib.Core.Path.{sym, ◌∙◌}
 use native.Mathlib.Omega.{arith}
 use Rattle.rules.specs.Names.{ascii}
 use Rattle.texts.proofs.Records.{kept_is, put_stored, put_count, put_nothing, put_truth, put_the_number}
-use borrow.Author.Rules.{rules}
 use Rattle.texts.proofs.put_content.Goals as goal
 
 pub put_payload-requires : goal.put_payload-requires

@@ -4,7 +4,6 @@ use native.Mathlib.Omega.{arith}
 use Rattle.rules.specs.Names.{ascii}
 use Rattle.lines.proofs.Putting.{put_both}
 use Rattle.texts.specs.Records.{line_front}
-use borrow.Author.Rules.{rules}
 use Rattle.texts.proofs.put_front.Goals as goal
 
 pub returns : goal.returns

@@ -1,7 +1,6 @@
 -- By the sign.
 -- Assumes nothing.
 use native.Mathlib.Omega.{arith}
-use borrow.Author.Rules.{rules}
 use Rattle.rules.specs.Names.{ascii}
 use Rattle.texts.proofs.Integers.{put_low, put_high}
 use Rattle.texts.proofs.put_integer.Goals as goal

@@ -4,7 +4,6 @@ use native.Mathlib.Omega.{arith}
 use Rattle.rules.specs.Names.{ascii}
 use Rattle.lines.proofs.Putting.{put_both}
 use Rattle.texts.proofs.Records.{put_the_line}
-use borrow.Author.Rules.{rules}
 use Rattle.texts.proofs.put_line.Goals as goal
 
 pub returns : goal.returns

@@ -1,7 +1,6 @@
 -- By the kind.
 -- Assumes nothing.
 use native.Mathlib.Omega.{arith}
-use borrow.Author.Rules.{rules}
 use Rattle.text_hex.proofs.Texts.{signed_few}
 use Rattle.texts.proofs.Records.{put_integer_payload, put_blob_payload}
 use Rattle.texts.proofs.put_payload.Goals as goal

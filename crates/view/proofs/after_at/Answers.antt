@@ -1,5 +1,4 @@
 use native.Mathlib.Omega.{arith}
-use borrow.Author.Rules.{rules}
 use Rattle.rules.specs.View.{after_seen, after_rule}
 use Rattle.query.proofs.Says.{seen_short}
 use Rattle.view.proofs.after_at.Goals as goal

@@ -1,4 +1,3 @@
-use borrow.Author.Rules.{rules}
 use Rattle.rules.specs.View.{viewed_of, child_count_rule}
 use Rattle.view.proofs.child_count_at.Goals as goal
 

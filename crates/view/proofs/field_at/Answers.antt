@@ -1,11 +1,9 @@
-use Prim.Native.Nat.{◌≤◌, ◌<◌}
+use Prim.Native.Nat.{◌<◌}
 use mathlib.Core.Path.{◌≡◌, sym, ◌∙◌}
 use mathlib.Core.Bool.{true}
 use native.Mathlib.Omega.{arith}
-use borrow.Author.Rules.{rules}
 use lib.ListN.{length}
 use Rattle.rules.specs.ValueRecord.{value_records_in, whole_value_records}
-use Rattle.rules.specs.Query.{record_alone}
 use Rattle.view.proofs.Fields.{size_small}
 use Rattle.view.proofs.FieldSteps.{field_long, field_out, field_kind, field_less, field_ragged, field_bad, field_refused, field_past, field_found}
 use Rattle.view.proofs.field_at.Goals as goal

@@ -1,4 +1,3 @@
-use borrow.Author.Rules.{rules}
 use Rattle.rules.specs.View.{viewed_of, kind_rule}
 use Rattle.view.proofs.kind_at.Goals as goal
 

@@ -1,10 +1,8 @@
-use Prim.Native.Nat.{◌+◌, ◌-◌, ◌*◌, ◌≤◌, ◌<◌}
+use Prim.Native.Nat.{◌<◌}
 use mathlib.Core.Path.{◌≡◌, refl, sym, ◌∙◌}
 use native.Mathlib.Omega.{arith}
-use borrow.Author.Rules.{rules}
 use lib.ListN.{length}
 use Rattle.rules.specs.ValueRecord.{value_records_in}
-use Rattle.rules.specs.View.{past_trees, records_from}
 use Rattle.value_laws.proofs.Steps.{past_none, past_out, past_bad, past_on}
 use Rattle.view.proofs.Fields.{count_small}
 use Rattle.view.proofs.past_trees.Goals as goal

@@ -1,13 +1,6 @@
 use Prim.Native.Nat.{◌+◌, ◌-◌, ◌*◌, ◌≤◌, ◌<◌}
-use mathlib.Core.Path.{◌≡◌, refl, sym, ◌∙◌}
-use native.Mathlib.Omega.{arith}
-use borrow.Author.Rules.{rules}
-use borrow.Author.Tests.{not-true, not-false}
-use lib.ListN.{length}
-use Rattle.rules.specs.ValueRecord.{value_records_in}
+use mathlib.Core.Path.{◌≡◌}
 use Rattle.rules.specs.View.{past_trees, records_from}
-use Rattle.value_laws.proofs.Steps.{past_none, past_out, past_bad, past_on}
-use Rattle.view.proofs.Fields.{count_small}
 use Rattle.view.proofs.past_trees.Given as goal
 
 -- what is left to pass, from here, comes to the whole; and each record adds less than 2 ^ 32 trees

@@ -1,4 +1,3 @@
-use borrow.Author.Rules.{rules}
 use Rattle.rules.specs.View.{viewed_of, tag_rule}
 use Rattle.view.proofs.tag_at.Goals as goal
 

@@ -1,6 +1,5 @@
 -- At the end it goes on, and where the refusal's number is 12.
 -- Assumes nothing.
-use borrow.Author.Rules.{rules}
 use Rattle.rules.specs.Refusals.{report_of}
 use Rattle.rules.specs.Windows.{goes_on}
 use Rattle.windows.proofs.goes_on.Goals as goal

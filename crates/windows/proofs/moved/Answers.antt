@@ -1,6 +1,5 @@
 use borrow.Author.Tests.{not-true, not-false}
 use native.Mathlib.Omega.{arith}
-use borrow.Author.Rules.{rules}
 use Rattle.windows.proofs.Moves.{place_stays, place_moves, place_fits}
 use Rattle.windows.proofs.moved.Goals as goal
 

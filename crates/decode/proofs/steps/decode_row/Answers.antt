@@ -5,8 +5,7 @@ use mathlib.Core.Path.{refl}
 use Rattle.rules.specs.Reading.{limits}
 use Rattle.schema.proofs.Accepted.{accepted_forms}
 use Rattle.row.proofs.Laws.{block_found, block_refused, row_found, walkable}
-use Rattle.decode.proofs.Laws.{not_first, refused_filled, row_other, no_room, granted, row_filled}
-use borrow.Author.Rules.{rules}
+use Rattle.decode.proofs.Laws.{refused_filled, row_other, no_room, granted, row_filled}
 use Rattle.decode.proofs.steps.decode_row.Goals as goal
 
 pub block_at-found-requires : goal.block_at-found-requires

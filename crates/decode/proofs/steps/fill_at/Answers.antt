@@ -1,6 +1,5 @@
 -- The block is the part of the record table.
 -- Assumes nothing.
-use borrow.Author.Rules.{rules}
 use Rattle.decode.proofs.steps.fill_at.Goals as goal
 
 pub fill_row-requires : goal.fill_row-requires

@@ -3,7 +3,6 @@
 use borrow.Author.Tests.{le-leb, lt-leb}
 use Rattle.rules.specs.Choice.{pick}
 use Rattle.rules.specs.Reading.{room_for}
-use borrow.Author.Rules.{rules}
 use Rattle.decode.proofs.steps.room_for.Goals as goal
 
 pub returns-then-records_in-row : goal.returns-then-records_in-row

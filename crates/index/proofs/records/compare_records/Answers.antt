@@ -2,12 +2,9 @@ use mathlib.Core.Bool.{not}
 use mathlib.Core.Path.{ap}
 -- At each turn the records so far are those of the rows so far.
 -- Assumes nothing.
-use Prim.Native.Nat.{◌-◌}
 use mathlib.Core.Logic.{inr}
 use native.Mathlib.Omega.{arith}
-use borrow.Author.Rules.{rules}
-use Rattle.schema.specs.Slices.{slices}
-use Rattle.index.proofs.Passes.{Comparing, comparing_first, asked, reads_row, turn_goes, turn_short, not_same, told_same, comparing_on, compared_same, compared_other, not_first}
+use Rattle.index.proofs.Passes.{comparing_first, asked, reads_row, turn_goes, turn_short, not_same, told_same, comparing_on, compared_same, compared_other}
 use Rattle.index.proofs.records.compare_records.Goals as goal
 
 pub loop-i-init : goal.loop-i-init

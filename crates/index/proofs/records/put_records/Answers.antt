@@ -1,12 +1,8 @@
 -- At each turn the records of the rows that are left are still to be written.
 -- Assumes nothing.
-use Prim.Native.Nat.{◌-◌}
 use mathlib.Core.Logic.{inl}
 use native.Mathlib.Omega.{arith}
-use borrow.Author.Rules.{rules}
-use lib.ListN.{length}
-use Rattle.schema.specs.Slices.{slices}
-use Rattle.index.proofs.Passes.{Writing, writing_first, asked, reads_row, turn_goes, turn_short, row_left, record_room_lem, writing_on, written, not_first}
+use Rattle.index.proofs.Passes.{writing_first, asked, reads_row, turn_goes, turn_short, row_left, record_room_lem, writing_on, written}
 use Rattle.index.proofs.records.put_records.Goals as goal
 
 pub loop-at-init : goal.loop-at-init

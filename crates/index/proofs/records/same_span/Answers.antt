@@ -1,6 +1,5 @@
 -- Number by number.
 -- Assumes nothing.
-use Prim.Native.Nat.{ℕ}
 use borrow.Author.Tests.{eq-eqb, ne_eqb}
 use Rattle.rules.specs.Choice.{pick, ◌and◌}
 use Rattle.index.specs.Passes.{same_span}

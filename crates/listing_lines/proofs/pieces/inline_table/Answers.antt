@@ -3,7 +3,6 @@
 use mathlib.Core.Path.{refl}
 use Rattle.rules.specs.Bytes.{le}
 use Rattle.rules.specs.Rows.{one_table}
-use borrow.Author.Rules.{rules}
 use Rattle.listing_lines.proofs.pieces.inline_table.Goals as goal
 
 pub returns : goal.returns

@@ -2,7 +2,6 @@ use mathlib.Core.Path.{sym, ◌∙◌}
 use native.Mathlib.Omega.{arith}
 use Rattle.listing_lines.specs.Pieces.{shown_length}
 use Rattle.listing_lines.proofs.FromDecode.{no_room, too_long, in_room}
-use borrow.Author.Rules.{rules}
 use Rattle.listing_lines.proofs.pieces.put_piece.Goals as goal
 
 -- By the tests, and then by what is read.

@@ -3,7 +3,6 @@
 use native.Mathlib.Omega.{arith}
 use Rattle.listing_lines.specs.Pieces.{shown_length}
 use Rattle.listing_lines.proofs.FromDecode.{row_listable, read_row, read_end, read_refused}
-use borrow.Author.Rules.{rules}
 use Rattle.listing_lines.proofs.pieces.put_read.Goals as goal
 
 pub list_row-requires : goal.list_row-requires

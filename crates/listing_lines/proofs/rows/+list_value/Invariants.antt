@@ -1,11 +1,8 @@
 use Rattle.rules.specs.Listing.{lines_below_i}
 use Rattle.judge.specs.Table.{whole_value, whole_end, value_standing_at}
 use Rattle.value_laws.proofs.Children.{children}
-use Rattle.listing_lines.proofs.Walks.{Going, none_left, record_in, has_depth, line_asked, count_low, from_low, going_first, listed, child_listable, going_next}
-use borrow.Author.Rules.{rules}
-use native.Mathlib.Omega.{arith}
-use Prim.Native.Nat.{ℕ, ◌-◌}
-use mathlib.Core.Path.{refl, ◌∙◌}
+use Rattle.listing_lines.proofs.Walks.{Going}
+use Prim.Native.Nat.{◌-◌}
 use Rattle.listing_lines.proofs.rows.+list_value.Given as goal
 
 abbrev pub decreases-list_value : goal.decreases-list_value

@@ -1,7 +1,6 @@
 -- The root is a node like any other.
 -- Assumes nothing.
 use Rattle.listing_lines.proofs.Walks.{root_listable, row_listed}
-use borrow.Author.Rules.{rules}
 use Rattle.listing_lines.proofs.rows.list_row.Goals as goal
 
 pub list_value-q-requires : goal.list_value-q-requires

@@ -1,6 +1,5 @@
 use mathlib.Core.Path.{sym, ◌∙◌}
 use Rattle.row.proofs.AtDoor.{door_bounds, door_beyond, door_format, door_end, door_open}
-use borrow.Author.Rules.{rules}
 use Rattle.row.proofs.door.door.Goals as goal
 
 -- Each return by the tests on its way.

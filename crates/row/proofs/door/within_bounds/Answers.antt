@@ -1,7 +1,6 @@
 use borrow.Author.Tests.{le-leb, lt-leb}
 use Rattle.rules.specs.Choice.{◌and◌}
 use Rattle.rules.specs.Format.{sizes_ok}
-use borrow.Author.Rules.{rules}
 use Rattle.row.proofs.door.within_bounds.Goals as goal
 
 -- Each test as it is met.

@@ -1,7 +1,6 @@
 -- Each return by what was read on its way.
 -- Assumes nothing.
 use Rattle.row.specs.Steps.{row_block_in, row_block_by}
-use borrow.Author.Rules.{rules}
 use Rattle.row.proofs.steps.block_at.Goals as goal
 
 pub returns-in-Refused : goal.returns-in-Refused

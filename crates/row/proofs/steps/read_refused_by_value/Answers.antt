@@ -1,4 +1,3 @@
-use borrow.Author.Rules.{rules}
 use Rattle.row.proofs.steps.read_refused_by_value.Goals as goal
 
 pub returns-in-Refused : goal.returns-in-Refused

@@ -4,7 +4,6 @@ use mathlib.Core.Path.{refl, ◌∙◌}
 use Rattle.rules.specs.Reading.{limits}
 use Rattle.schema.proofs.Accepted.{accepted_forms}
 use Rattle.row.proofs.Laws.{block_found, block_refused, row_block, walkable}
-use borrow.Author.Rules.{rules}
 use Rattle.row.proofs.steps.row_at.Goals as goal
 
 pub block_at-found-requires : goal.block_at-found-requires

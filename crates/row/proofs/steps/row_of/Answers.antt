@@ -3,7 +3,6 @@
 use mathlib.Core.Path.{◌∙◌}
 use native.Mathlib.Omega.{arith}
 use Rattle.row.proofs.Laws.{value_refused, value_row, value_ends}
-use borrow.Author.Rules.{rules}
 use Rattle.row.proofs.steps.row_of.Goals as goal
 
 pub skip_root-value-requires : goal.skip_root-value-requires

@@ -1,4 +1,3 @@
-use borrow.Author.Rules.{rules}
 use Rattle.skiff.specs.Calls.{check_name_given}
 use Rattle.answers.specs.Answers.{answer_of_checked}
 use Rattle.skiff.proofs.Laws.{short_given, room_given}

@@ -1,4 +1,3 @@
-use borrow.Author.Rules.{rules}
 use Rattle.skiff.specs.Calls.{decode_indexed_given}
 use Rattle.skiff.proofs.Laws.{short_row, room_row}
 use Rattle.skiff.proofs.indexing.skiff2_decode_indexed.Goals as goal

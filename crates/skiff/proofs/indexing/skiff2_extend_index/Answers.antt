@@ -1,5 +1,4 @@
 use mathlib.Core.Path.{ap}
-use borrow.Author.Rules.{rules}
 use Rattle.rules.specs.Index.{Indexed}
 use Rattle.answers.specs.Answers.{answer_of_ran}
 use Rattle.skiff.specs.Calls.{extend_index_given}

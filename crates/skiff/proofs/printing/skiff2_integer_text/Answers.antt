@@ -1,5 +1,4 @@
 use mathlib.Core.Path.{ap}
-use borrow.Author.Rules.{rules}
 use Rattle.rules.specs.Numerals.{TextLeft}
 use Rattle.answers.specs.Answers.{answer_of_text}
 use Rattle.skiff.specs.Calls.{integer_text_given}

@@ -1,4 +1,3 @@
-use borrow.Author.Rules.{rules}
 use Rattle.skiff.specs.Calls.{decode_given}
 use Rattle.skiff.proofs.Laws.{short_row, room_row}
 use Rattle.skiff.proofs.reading.skiff2_decode.Goals as goal

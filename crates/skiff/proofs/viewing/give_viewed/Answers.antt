@@ -1,5 +1,4 @@
 use mathlib.Core.Path.{refl}
-use borrow.Author.Rules.{rules}
 use Rattle.skiff.specs.Calls.{view_given}
 use Rattle.answers.specs.Answers.{answer_of_viewed}
 use Rattle.skiff.proofs.Laws.{short_given, room_given}

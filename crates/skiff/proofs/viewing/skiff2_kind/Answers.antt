@@ -1,4 +1,3 @@
-use borrow.Author.Rules.{rules}
 use Rattle.skiff.proofs.Laws.{seen_given}
 use Rattle.skiff.proofs.viewing.skiff2_kind.Goals as goal
 

@@ -1,4 +1,3 @@
-use borrow.Author.Rules.{rules}
 use Rattle.rules.specs.Choice.{pick}
 use Rattle.answers.proofs.Told.{window_told}
 use Rattle.skiff.proofs.window.answer_of_window.Goals as goal

@@ -1,5 +1,4 @@
 use mathlib.Core.Path.{ap}
-use borrow.Author.Rules.{rules}
 use Rattle.rules.specs.Writing.{Encoded}
 use Rattle.answers.specs.Answers.{answer_of_written}
 use Rattle.skiff.specs.Calls.{encode_given}

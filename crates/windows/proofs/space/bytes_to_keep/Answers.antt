@@ -2,7 +2,6 @@
 -- Assumes nothing.
 use native.Mathlib.Omega.{arith}
 use Rattle.rules.specs.Choice.{pick}
-use borrow.Author.Rules.{rules}
 use Rattle.windows.proofs.space.bytes_to_keep.Goals as goal
 
 pub returns-then-goes_on : goal.returns-then-goes_on

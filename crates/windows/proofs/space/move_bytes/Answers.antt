@@ -1,8 +1,6 @@
 -- What is left to write, over what is written, is the whole.
 -- Assumes nothing.
-use Prim.Native.Nat.{◌-◌}
-use borrow.Author.Rules.{rules}
-use Rattle.windows.proofs.MovingBytes.{Moved, moved_none, moved_turn, moved_end}
+use Rattle.windows.proofs.MovingBytes.{moved_none, moved_turn, moved_end}
 use Rattle.windows.proofs.space.move_bytes.Goals as goal
 
 pub loop-k-init : goal.loop-k-init

@@ -1,6 +1,5 @@
 use Prim.Native.Nat.{◌-◌}
-use borrow.Author.Rules.{rules}
-use Rattle.windows.proofs.MovingBytes.{Moved, moved_none, moved_turn, moved_end}
+use Rattle.windows.proofs.MovingBytes.{Moved}
 use Rattle.windows.proofs.space.move_bytes.Given as goal
 
 abbrev pub invariant-loop-k : goal.invariant-loop-k

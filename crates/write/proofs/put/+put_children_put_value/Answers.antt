@@ -1,16 +1,10 @@
-use Rattle.leaves.specs.Shapes.{shape_of}
-use Rattle.judge.specs.Table.{whole_end, value_standing_at}
-use Rattle.write.specs.Putting.{put_of, written_at}
-use Rattle.write.proofs.Putting.{Filling, record_in, has_depth, code_in, fill_first, last_room, placed, record_there_lem, sums, tag_room, may_write, fill_next}
+use Rattle.write.proofs.Putting.{record_in, has_depth, code_in, fill_first, last_room, placed, record_there_lem, sums, tag_room, may_write, fill_next}
 use native.Mathlib.Omega.{arith}
-use Prim.Native.Nat.{ℕ, ◌-◌}
 use mathlib.Core.Path.{refl, ◌∙◌}
 use Rattle.write.proofs.Putting.{record_in}
 use Rattle.write.proofs.Stored.{parted_node}
 use Rattle.write.proofs.Leads.{reached_room, reached_places, reached_children}
-use borrow.Author.Rules.{rules}
 use mathlib.Core.Path.{◌∙◌}
-use Prim.Native.Nat.{ℕ}
 use Rattle.write.proofs.put.+put_children_put_value.Goals as goal
 
 pub put_children-node_first-first-requires : goal.put_children-node_first-first-requires

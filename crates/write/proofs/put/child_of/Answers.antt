@@ -1,7 +1,6 @@
 use Rattle.leaves.proofs.Codes.{shape_tuple}
 use Rattle.write.specs.Putting.{child_node}
 use Rattle.write.proofs.Codes.{tagged_child_lem}
-use borrow.Author.Rules.{rules}
 use Rattle.write.proofs.put.child_of.Goals as goal
 
 pub returns-then-code-lt19 : goal.returns-then-code-lt19

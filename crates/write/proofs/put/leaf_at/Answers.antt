@@ -1,4 +1,3 @@
-use borrow.Author.Rules.{rules}
 use native.Mathlib.Omega.{arith}
 use Rattle.write.proofs.Leads.{leads_self, leads_on, below_in, child_sums, child_in, tag_in, leads_child}
 use Rattle.write.proofs.put.leaf_at.Goals as goal

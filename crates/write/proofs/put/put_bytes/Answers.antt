@@ -1,8 +1,6 @@
 use borrow.Author.Rules.{rules}
-use Prim.Native.Nat.{◌+◌, ◌-◌, ◌≤◌}
-use mathlib.Core.Path.{◌≡◌, sym, ◌∙◌}
-use lib.ListN.{length, length-set}
-use Rattle.rules.specs.Bytes.{le, over}
+use mathlib.Core.Path.{sym, ◌∙◌}
+use lib.ListN.{length-set}
 use Rattle.write.proofs.Numbers.{le-none, le_turn, le-end}
 use Rattle.write.proofs.put.put_bytes.Goals as goal
 

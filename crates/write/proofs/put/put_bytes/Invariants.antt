@@ -1,9 +1,7 @@
-use borrow.Author.Rules.{rules}
 use Prim.Native.Nat.{◌+◌, ◌-◌, ◌≤◌}
-use mathlib.Core.Path.{◌≡◌, sym, ◌∙◌}
-use lib.ListN.{length, length-set}
+use mathlib.Core.Path.{◌≡◌}
+use lib.ListN.{length}
 use Rattle.rules.specs.Bytes.{le, over}
-use Rattle.write.proofs.Numbers.{le-none, le_turn, le-end}
 use Rattle.write.proofs.put.put_bytes.Given as goal
 
 abbrev pub invariant-loop-k : goal.invariant-loop-k

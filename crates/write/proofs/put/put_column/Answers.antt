@@ -1,7 +1,6 @@
 use Rattle.write.proofs.Putting.{record_in}
 use Rattle.write.proofs.Stored.{parted_node}
 use Rattle.write.proofs.Leads.{reached_room, reached_places, reached_children}
-use borrow.Author.Rules.{rules}
 use native.Mathlib.Omega.{arith}
 use mathlib.Core.Path.{◌∙◌}
 use Rattle.write.proofs.put.put_column.Goals as goal

@@ -2,7 +2,6 @@ use mathlib.Core.List.{[]}
 use native.Mathlib.Omega.{arith}
 use Rattle.write.proofs.Codes.{no_end, tuple_end, end_8, end_16}
 use Rattle.write.proofs.Numbers.{nothing_put, number_room, number_put}
-use borrow.Author.Rules.{rules}
 use Rattle.write.proofs.put.put_end.Goals as goal
 
 pub returns-then-code-gt18 : goal.returns-then-code-gt18

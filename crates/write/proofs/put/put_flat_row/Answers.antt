@@ -1,8 +1,6 @@
 use Rattle.write.proofs.Root.{tag_fits, root_in, row_placed}
-use Rattle.write.proofs.RowColumns.{Columns, columns_first, column_sum, column_writable, columns_next, columns_end}
-use borrow.Author.Rules.{rules}
+use Rattle.write.proofs.RowColumns.{columns_first, column_sum, column_writable, columns_next, columns_end}
 use native.Mathlib.Omega.{arith}
-use Prim.Native.Nat.{◌-◌}
 use mathlib.Core.Path.{refl, ap, ◌∙◌}
 use Rattle.write.proofs.put.put_flat_row.Goals as goal
 

@@ -3,7 +3,6 @@ use native.Mathlib.Omega.{arith}
 use native.Mathlib.Nat.{add-zero}
 use Rattle.leaves.proofs.Codes.{wide_width}
 use Rattle.write.proofs.Numbers.{blob_is, wide_is, narrow_is, leaf_put, blob_put}
-use borrow.Author.Rules.{rules}
 use Rattle.write.proofs.put.put_leaf.Goals as goal
 
 pub put32-requires : goal.put32-requires

@@ -1,5 +1,3 @@
-use borrow.Author.Rules.{rules}
-use mathlib.Core.Path.{refl}
 use Rattle.rules.specs.Bytes.{le, over}
 use Rattle.write.proofs.put.put_number.Goals as goal
 

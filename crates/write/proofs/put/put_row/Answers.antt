@@ -1,5 +1,4 @@
 use Rattle.write.proofs.Root.{tag_fits, root_in, root_writable, root_parted, row_placed}
-use borrow.Author.Rules.{rules}
 use Rattle.write.proofs.put.put_row.Goals as goal
 
 pub put16-requires : goal.put16-requires

@@ -1,4 +1,3 @@
-use borrow.Author.Rules.{rules}
 use Rattle.write.proofs.steps.not_written.Goals as goal
 
 pub returns-in-Refused : goal.returns-in-Refused

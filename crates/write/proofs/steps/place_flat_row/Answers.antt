@@ -1,6 +1,5 @@
 use mathlib.Core.Path.{refl, sym, ◌∙◌}
 use Rattle.write.proofs.Rows.{row_answer, row_unplaced, row_writable, row_left}
-use borrow.Author.Rules.{rules}
 use Rattle.write.proofs.steps.place_flat_row.Goals as goal
 
 pub returns-in_default : goal.returns-in_default

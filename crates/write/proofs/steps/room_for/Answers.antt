@@ -1,5 +1,4 @@
 use Rattle.write.proofs.Rows.{no_room, has_room}
-use borrow.Author.Rules.{rules}
 use Rattle.write.proofs.steps.room_for.Goals as goal
 
 pub returns-then-room_in-at : goal.returns-then-room_in-at

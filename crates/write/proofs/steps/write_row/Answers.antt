@@ -1,6 +1,5 @@
 use mathlib.Core.Path.{sym, ◌∙◌}
 use Rattle.write.proofs.Rows.{row_refused}
-use borrow.Author.Rules.{rules}
 use Rattle.write.proofs.steps.write_row.Goals as goal
 
 pub returns-in_default : goal.returns-in_default
