@@ -59,7 +59,7 @@ module _ (table names : List ℕ) (first n : ℕ) where
         SchemaReason r →
         TableReason r
     -- 9: the schema's root is no tuple; the place is its record
-    not_tuple_lem : ((node_at (block table first n) 0).code ≡ 19 → ⊥) →
+    root_not_tuple : ((node_at (block table first n) 0).code ≡ 19 → ⊥) →
         TableReason (TableSchemaMustBeTuple (node_at (block table first n) 0).code first)
     -- 10: child k of the root has no name, or an empty one; the place is its record
     no_name : {k : ℕ} →
@@ -169,7 +169,7 @@ module _ (table names : List ℕ) (first n : ℕ) where
   encoder_says : CheckSays (TableReason table names first n) (encoder_rule table names first n)
   unfolding not_tuple
   encoder_says = rw (encoder_is table names first n)
-      (says_then _ _ _ (says_map (λ r b. of_schema b) schema_says) (root_says _ Purpose.Encoder (block table first n) names first not_tuple_lem (λ k l h. no_name {k = k} l h)))
+      (says_then _ _ _ (says_map (λ r b. of_schema b) schema_says) (root_says _ Purpose.Encoder (block table first n) names first root_not_tuple (λ k l h. no_name {k = k} l h)))
 
   -- So is a block for the encoder.
   pub encoder_honest : (r : Refusal) → encoder_rule table names first n ≡ Refused r → TableReason table names first n r
@@ -190,7 +190,7 @@ module _ (table names : List ℕ) (first n : ℕ) where
       ((refusal_number r ≤ 5) ⊎ (refusal_number r ≡ 33)) ⊎ ((refusal_number r ≡ 9) ⊎ (refusal_number r ≡ 10))
   unfolding line_of
   table_number r (of_schema h) = inl (schema_number r h)
-  table_number _ (not_tuple_lem h) = inr (inl refl)
+  table_number _ (root_not_tuple h) = inr (inl refl)
   table_number _ (no_name l h) = inr (inr refl)
 
   -- A schema is refused by 1 to 5 and 33 alone.

@@ -75,7 +75,7 @@ module _ (f : Format) where
         ((j : ℕ) → j < entry_count f.registry → entry_name f.names f.registry j ≡ part f.names (reference_at f.references t).start (reference_at f.references t).len → ⊥) →
         FormatReason (UnknownRegistryReference t)
     -- 8: the root of table t's schema is no tuple; the place is its record
-    not_tuple_lem : {t first n : ℕ} →
+    root_not_tuple : {t first n : ℕ} →
         t < tables f → table_schema f t ≡ Block first n → ((node_at (block f.table first n) 0).code ≡ 19 → ⊥) →
         FormatReason (TableSchemaRootMustBeTuple (node_at (block f.table first n) 0).code first)
     -- 10: child k of the root of table t's schema has no name, or an empty one; the place is its record
@@ -125,7 +125,7 @@ module _ (f : Format) where
 
   rooted_says : (t : ℕ) → t < tables f → (l : Located) → table_schema f t ≡ l → (l ≡ NoTable → ⊥) → (l ≡ NoEntry → FormatReason f (UnknownRegistryReference t)) → CheckSays (FormatReason f) (root_of f t l)
   unfolding root_of not_tuple
-  rooted_says t h (Block first n) e a b = root_says _ Purpose.Format (block f.table first n) f.names first (λ q. not_tuple_lem {t = t} {first = first} {n = n} h e q) (λ k l q. no_name {t = t} {first = first} {n = n} h e l q)
+  rooted_says t h (Block first n) e a b = root_says _ Purpose.Format (block f.table first n) f.names first (λ q. root_not_tuple {t = t} {first = first} {n = n} h e q) (λ k l q. no_name {t = t} {first = first} {n = n} h e l q)
   rooted_says t h NoTable e a b = absurd (a refl)
   rooted_says t h NoEntry e a b = says (b refl)
 
@@ -182,7 +182,7 @@ module _ (f : Format) where
   number r (broken b w) = let n = broken_number r w in inl (omega arith)
   number _ (no_tables h) = inl (omega arith)
   number _ (unknown h k n) = inl (omega arith)
-  number _ (not_tuple_lem h s c) = inl (omega arith)
+  number _ (root_not_tuple h s c) = inl (omega arith)
   number _ (no_name h s k c) = inr (inl refl)
 
   -- So a format is refused by 1 to 8, 10 and 33 alone.
@@ -200,7 +200,7 @@ module _ (f : Format) where
   stays r (broken b w) = broken_stays r w
   stays _ (no_tables h) = refl
   stays _ (unknown h k n) = refl
-  stays _ (not_tuple_lem h s c) = refl
+  stays _ (root_not_tuple h s c) = refl
   stays _ (no_name h s k c) = refl
 
   -- Where a format is refused, the place does not move with the stream.

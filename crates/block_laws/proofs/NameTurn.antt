@@ -23,7 +23,7 @@ use Rattle.block_laws.proofs.Utf8.{utf8_exactly}
 use Rattle.block_laws.proofs.Turns.{accepted_pick}
 use Rattle.block_laws.proofs.Good.{names_accept}
 use Rattle.block_laws.proofs.Honest.{broken_number}
-use Rattle.block_laws.proofs.FormatReasons.{BlockOf, of_entry, of_table, FormatReason, too_long, bad_form, too_deep, bad_node_name, bad_entry_name, bad_reference_name, broken, no_tables, unknown, not_tuple_lem, no_name, format_honest}
+use Rattle.block_laws.proofs.FormatReasons.{BlockOf, of_entry, of_table, FormatReason, too_long, bad_form, too_deep, bad_node_name, bad_entry_name, bad_reference_name, broken, no_tables, unknown, root_not_tuple, no_name, format_honest}
 
 -- a name by itself
 pub one_name : (name : List ℕ) → (name_answer name ≡ Accepted) ↔ ((length name ≤ longest_slice) × Utf8 name)
@@ -56,7 +56,7 @@ module _ (f : Format) (ok : format_utf8 f ≡ true) where
   no_bad_name r (broken b w) e = let n = broken_number r w in omega arith
   no_bad_name _ (no_tables h) e = omega arith
   no_bad_name _ (unknown h k n) e = omega arith
-  no_bad_name _ (not_tuple_lem h s c) e = omega arith
+  no_bad_name _ (root_not_tuple h s c) e = omega arith
   no_bad_name _ (no_name h s k c) e = omega arith
 
 -- after sizes, forms and depths, and before all the rest

@@ -22,7 +22,7 @@ use Rattle.leaves.specs.declared.budget.RowBudget.{RowBudget}
 use Rattle.leaves.specs.declared.budget.Charged.TheVariants as charged
 use Rattle.charge.specs.declared.Lowered.{Lowered}
 use Rattle.charge.specs.Lowering.{lowered_by, lowering}
-use Rattle.charge.specs.contracts.charge as charge
+use Rattle.charge.specs.contracts.charge
 
 -- the allowance afterwards
 abbrev pub later : (κs : Lfts 1) → AtExit charge.ended κs → RowBudget

@@ -26,9 +26,9 @@ use Rattle.rules.specs.declared.answer.Extent.{Extent}
 use Rattle.rules.specs.declared.answer.Read.{Read}
 use Rattle.rules.specs.declared.answer.Written.{Written}
 use Rattle.promises.proofs.Promises as rules
-use Rattle.row.proofs.skip_row as skip-row
-use Rattle.decode.proofs.next_row as next_row
-use Rattle.encode.proofs.encode as encode
+use Rattle.row.proofs.skip_row
+use Rattle.decode.proofs.next_row
+use Rattle.encode.proofs.encode
 
 -- the format that four slices hold
 abbrev pub format : Bor (List ℕ) → Bor (List ℕ) → Bor (List ℕ) → Bor (List ℕ) → Format
@@ -81,8 +81,8 @@ module _ (κs : Lfts 5) (settings : Settings) (table names : Bor (List ℕ)) (fi
         (same : schema_of (format table' names' references' registry') 0 ≡ schema_of (format table names references registry) 0)
         (ask : SkipAsked settings settings' v (part (encoded κs answer s).output position e.bytes) input.now position') where
       -- whatever meets skip_row's contract there answers that row,
-      pub skips_the_row : (κs' : Lfts 5) (read : Read) (t : AtExit (ended_of 5 skip-row.Kinds.ps skip-row.Kinds.r) κs') →
-          skip-row.Reads.Post κs' (settings', (table', (names', (references', (registry', (input, (position', tt))))))) read t → read ≡ Read.Row e
+      pub skips_the_row : (κs' : Lfts 5) (read : Read) (t : AtExit (ended_of 5 skip_row.Kinds.ps skip_row.Kinds.r) κs') →
+          skip_row.Reads.Post κs' (settings', (table', (names', (references', (registry', (input, (position', tt))))))) read t → read ≡ Read.Row e
       skips_the_row κs' read t p =
           p ∙ rules.skips_the_row (format table names references registry) settings first count records.now payload.now output.now position asked v is e
           (rw (ap (λ (d : Encoded). d.answer) met) at yes) (format table' names' references' registry') checked below same
@@ -117,34 +117,34 @@ module _ (κs : Lfts 7) (settings : Settings) (table names references registry i
       met ∙ (rules.decode_leaves_alone (format table names references registry) settings input.now position records.now payload.now (rw a at h) ∙ ap (λ x. untouched x records.now payload.now) (sym a))
 
   -- and whatever meets skip_row's contract on that input gives the same table, length or refusal, but for the two refusals for room.
-  pub skip_is_decode : (κs' : Lfts 5) (skip : Read) (t : AtExit (ended_of 5 skip-row.Kinds.ps skip-row.Kinds.r) κs') →
-      skip-row.Reads.Post κs' (settings, (table, (names, (references, (registry, (input, (position, tt))))))) skip t →
+  pub skip_is_decode : (κs' : Lfts 5) (skip : Read) (t : AtExit (ended_of 5 skip_row.Kinds.ps skip_row.Kinds.r) κs') →
+      skip_row.Reads.Post κs' (settings, (table, (names, (references, (registry, (input, (position, tt))))))) skip t →
       answer ≡ room_test position records.now payload.now skip
   skip_is_decode κs' skip t p =
       ap (λ (d : Decoded). d.answer) met ∙ (rules.skip_is_decode position records.now payload.now (format table names references registry) settings input.now ∙ ap (room_test position records.now payload.now) (sym p))
 
   -- A row of table 0, whose table is encoded again under the same settings and with room:
   module _ (bs : Bytes input.now) (e : Extent) (row : read_said answer ≡ row_said e) (zero : e.table ≡ 0)
-      (table' names' : Bor (List ℕ)) (same-table : table'.now ≡ table.now) (same_names : names'.now ≡ names.now) (first count : ℕ) (records' payload' : Bor (List ℕ)) (output : MutBor (List ℕ)) (position' : ℕ)
-      (its-records : records'.now ≡ take (value_record_start e.records) (decoded κs answer s).records) (its-payload : payload'.now ≡ take e.payload (decoded κs answer s).payload)
+      (table' names' : Bor (List ℕ)) (same_table : table'.now ≡ table.now) (same_names : names'.now ≡ names.now) (first count : ℕ) (records' payload' : Bor (List ℕ)) (output : MutBor (List ℕ)) (position' : ℕ)
+      (its_records : records'.now ≡ take (value_record_start e.records) (decoded κs answer s).records) (its_payload : payload'.now ≡ take e.payload (decoded κs answer s).payload)
       (asked : EncodeAsked (format table names references registry) settings first count records'.now payload'.now output.now position') (fits : position' + e.bytes ≤ room output.now)
       (κs' : Lfts 5) (written : Written) (t : AtExit (ended_of 5 encode.Kinds.ps encode.Kinds.r) κs')
       (wrote : encode.Reads.Post κs' (settings, (table', (names', (first, (count, (records', (payload', (output, (position', tt))))))))) written t) where
     rule_wrote : encoded κs' written t ≡ encode_from (format table names references registry) settings first count records'.now payload'.now output.now position'
-    rule_wrote = rw (same-table, same_names) at wrote
+    rule_wrote = rw (same_table, same_names) at wrote
 
     -- whatever meets encode's contract answers that row, with its very counts,
     pub encodes_again : written ≡ Written.Row e
     encodes_again =
         ap (λ (d : Encoded). d.answer) rule_wrote ∙ rules.encodes_again (format table names references registry) settings input.now position records.now payload.now bs e (rw (ap (λ (d : Decoded). d.answer) met) at row) zero
-        first count records'.now payload'.now output.now position' (rw (ap (λ (d : Decoded). d.records) met) at its-records) (rw (ap (λ (d : Decoded). d.payload) met) at its-payload) asked fits
+        first count records'.now payload'.now output.now position' (rw (ap (λ (d : Decoded). d.records) met) at its_records) (rw (ap (λ (d : Decoded). d.payload) met) at its_payload) asked fits
 
     -- leaves in the output the very bytes of the row that stood in the stream, exactly where every boolean byte of it is 0 or 1,
     pub writes_again : (w : Value) (b : List ℕ) (r : TableRow (tables (format table names references registry)) (schema_of (format table names references registry)) 0 w b) → Stands input.now position b →
         ((encoded κs' written t).output ≡ over output.now position' (part input.now position e.bytes)) ↔ PlainRow r
     writes_again w b r st =
         rw (ap (λ (d : Encoded). d.output) rule_wrote) (rules.writes_again (format table names references registry) settings input.now position records.now payload.now bs e (rw (ap (λ (d : Decoded). d.answer) met) at row) zero
-        first count records'.now payload'.now output.now position' (rw (ap (λ (d : Decoded). d.records) met) at its-records) (rw (ap (λ (d : Decoded). d.payload) met) at its-payload) asked fits w b r st)
+        first count records'.now payload'.now output.now position' (rw (ap (λ (d : Decoded). d.records) met) at its_records) (rw (ap (λ (d : Decoded). d.payload) met) at its_payload) asked fits w b r st)
 
     -- and whatever meets next_row's contract on its bytes, anywhere in a stream, leaves the same table.
     pub reads_again : (table'' names'' references'' registry'' input'' : Bor (List ℕ)) (position'' : ℕ) (records'' payload'' : MutBor (List ℕ)) →
@@ -156,5 +156,5 @@ module _ (κs : Lfts 7) (settings : Settings) (table names references registry i
         decoded κs'' read u ≡ decoded_as e records'.now payload'.now records''.now payload''.now
     reads_again table'' names'' references'' registry'' input'' position'' records'' payload'' same stands short nodes enough κs'' read u p =
         p ∙ rw same (rules.reads_again (format table names references registry) settings input.now position records.now payload.now bs e (rw (ap (λ (d : Decoded). d.answer) met) at row) zero
-        first count records'.now payload'.now output.now position' (rw (ap (λ (d : Decoded). d.records) met) at its-records) (rw (ap (λ (d : Decoded). d.payload) met) at its-payload) asked fits
+        first count records'.now payload'.now output.now position' (rw (ap (λ (d : Decoded). d.records) met) at its_records) (rw (ap (λ (d : Decoded). d.payload) met) at its_payload) asked fits
         input''.now position'' records''.now payload''.now (rw (ap (λ (d : Encoded). d.output) rule_wrote) at stands) short nodes enough)

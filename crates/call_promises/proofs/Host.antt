@@ -11,34 +11,34 @@ use contract.Monad.{Fun, fact, fact_use, fact_i}
 use denote.Triple.Entry.{Args, Res}
 use denote.Triple.Clauses.{Ended, Clauses, AtExit}
 use Rattle.call_promises.proofs.OneAnswer.{OneAnswer}
-use Rattle.value.proofs.record_alone as record-alone
-use Rattle.query.proofs.record_seen as record-seen
-use Rattle.query.proofs.value_of as value_of_lem
-use Rattle.view.proofs.children_of as children-of
-use Rattle.view.proofs.kind_at as kind_at
-use Rattle.view.proofs.tag_at as tag_at
-use Rattle.view.proofs.child_count_at as child-count-at
-use Rattle.view.proofs.after_at as after-at
-use Rattle.view.proofs.field_at as field_at
+use Rattle.value.proofs.record_alone
+use Rattle.query.proofs.record_seen
+use Rattle.query.proofs.value_of
+use Rattle.view.proofs.children_of
+use Rattle.view.proofs.kind_at
+use Rattle.view.proofs.tag_at
+use Rattle.view.proofs.child_count_at
+use Rattle.view.proofs.after_at
+use Rattle.view.proofs.field_at
 use Rattle.view.specs.contracts.RowView.kind as view_kind
 use Rattle.view.specs.contracts.RowView.tag as view_tag
 use Rattle.view.specs.contracts.RowView.child_count as view_child_count
-use Rattle.view.specs.contracts.RowView.value as view-value
+use Rattle.view.specs.contracts.RowView.value as view_value
 use Rattle.view.specs.contracts.RowView.after as view_after
 use Rattle.view.specs.contracts.RowView.field as view_field
 
 -- ---- one record
-pub record_alone_one_answer : OneAnswer record-alone.Kinds.ps record-alone.Kinds.r record-alone.Reads.Post
+pub record_alone_one_answer : OneAnswer record_alone.Kinds.ps record_alone.Kinds.r record_alone.Reads.Post
 record_alone_one_answer κs a x y s t p q = p ∙ sym q
 
-pub record_seen_one_answer : OneAnswer record-seen.Kinds.ps record-seen.Kinds.r record-seen.Reads.Post
+pub record_seen_one_answer : OneAnswer record_seen.Kinds.ps record_seen.Kinds.r record_seen.Reads.Post
 record_seen_one_answer κs a x y s t p q = p ∙ sym q
 
-pub value_of_one_answer : OneAnswer value_of_lem.Kinds.ps value_of_lem.Kinds.r value_of_lem.Reads.Post
+pub value_of_one_answer : OneAnswer value_of.Kinds.ps value_of.Kinds.r value_of.Reads.Post
 value_of_one_answer κs a x y s t p q = p ∙ sym q
 
 -- ---- what is seen from it
-pub children_of_one_answer : OneAnswer children-of.Kinds.ps children-of.Kinds.r children-of.Reads.Post
+pub children_of_one_answer : OneAnswer children_of.Kinds.ps children_of.Kinds.r children_of.Reads.Post
 children_of_one_answer κs a x y s t p q = p ∙ sym q
 
 pub kind_at_one_answer : OneAnswer kind_at.Kinds.ps kind_at.Kinds.r kind_at.Reads.Post
@@ -47,10 +47,10 @@ kind_at_one_answer κs a x y s t p q = p ∙ sym q
 pub tag_at_one_answer : OneAnswer tag_at.Kinds.ps tag_at.Kinds.r tag_at.Reads.Post
 tag_at_one_answer κs a x y s t p q = p ∙ sym q
 
-pub child_count_at_one_answer : OneAnswer child-count-at.Kinds.ps child-count-at.Kinds.r child-count-at.Reads.Post
+pub child_count_at_one_answer : OneAnswer child_count_at.Kinds.ps child_count_at.Kinds.r child_count_at.Reads.Post
 child_count_at_one_answer κs a x y s t p q = p ∙ sym q
 
-pub after_at_one_answer : OneAnswer after-at.Kinds.ps after-at.Kinds.r after-at.Reads.Post
+pub after_at_one_answer : OneAnswer after_at.Kinds.ps after_at.Kinds.r after_at.Reads.Post
 after_at_one_answer κs a x y s t p q = p ∙ sym q
 
 pub field_at_one_answer : OneAnswer field_at.Kinds.ps field_at.Kinds.r field_at.Reads.Post
@@ -77,7 +77,7 @@ module _ {M : Type 1} {𝓤 : Ura M} (𝓛 : Logic 𝓤) (mem : Memory → SProp
   pub view_child_count_one_answer : OneSaid view_child_count.ended (view_child_count.clauses 𝓛 mem run)
   view_child_count_one_answer κs a g x y s t = from_both _ _ _ (λ p q. p ∙ sym q)
 
-  pub view_value_one_answer : OneSaid view-value.ended (view-value.clauses 𝓛 mem run)
+  pub view_value_one_answer : OneSaid view_value.ended (view_value.clauses 𝓛 mem run)
   view_value_one_answer κs a g x y s t = from_both _ _ _ (λ p q. p ∙ sym q)
 
   pub view_after_one_answer : OneSaid view_after.ended (view_after.clauses 𝓛 mem run)

@@ -12,55 +12,55 @@ use Rattle.rules.proofs.Tests.{and_both}
 use Rattle.rules.proofs.Codes.{every_form}
 
 -- only code 0 has no bytes, only 1 is a truth value; numbers have at most eight bytes, tags two; scalars and blobs are codes below 15
-unfoldable code_ok_lem : Form → ℕ → Bool
-code_ok_lem empty k = eqb k 0
-code_ok_lem truth k = eqb k 1
-code_ok_lem (fixed w) k = ltb k 15 and leb w 8
-code_ok_lem (raw w) k = ltb k 15
-code_ok_lem sized k = ltb k 15
-code_ok_lem (variant_form w) k = leb w 2
-code_ok_lem (repeated_form w) k = leb w 2
-code_ok_lem tuple_form k = true
-code_ok_lem unknown k = true
+unfoldable code_ok : Form → ℕ → Bool
+code_ok empty k = eqb k 0
+code_ok truth k = eqb k 1
+code_ok (fixed w) k = ltb k 15 and leb w 8
+code_ok (raw w) k = ltb k 15
+code_ok sized k = ltb k 15
+code_ok (variant_form w) k = leb w 2
+code_ok (repeated_form w) k = leb w 2
+code_ok tuple_form k = true
+code_ok unknown k = true
 
-code_ok : (k : ℕ) → code_ok_lem (form k) k ≡ true
-unfolding code_ok_lem all form written written_if type_of type_in wire_types ◌and◌
-code_ok k = every_form code_ok_lem refl (λ i. refl) k
+code_ok_lem : (k : ℕ) → code_ok (form k) k ≡ true
+unfolding code_ok all form written written_if type_of type_in wire_types ◌and◌
+code_ok_lem k = every_form code_ok refl (λ i. refl) k
 
 -- only code 0 has no bytes
 pub empty_code : (k : ℕ) → form k ≡ empty → k ≡ 0
-unfolding code_ok_lem
-empty_code k e = eqb-true k 0 (rw e at (code_ok k))
+unfolding code_ok
+empty_code k e = eqb-true k 0 (rw e at (code_ok_lem k))
 
 -- only code 1 is a truth value
 pub truth_code : (k : ℕ) → form k ≡ truth → k ≡ 1
-unfolding code_ok_lem
-truth_code k e = eqb-true k 1 (rw e at (code_ok k))
+unfolding code_ok
+truth_code k e = eqb-true k 1 (rw e at (code_ok_lem k))
 
 -- a number is a code below 15, in at most eight bytes
 pub fixed_code : (k w : ℕ) → form k ≡ fixed w → (k < 15) × (w ≤ 8)
-unfolding code_ok_lem
-fixed_code k w e = let h = and_both _ _ (rw e at (code_ok k)) in (ltb-true k 15 h.0, leb-true w 8 h.1)
+unfolding code_ok
+fixed_code k w e = let h = and_both _ _ (rw e at (code_ok_lem k)) in (ltb-true k 15 h.0, leb-true w 8 h.1)
 
 -- int128 and int256 are codes below 15
 pub raw_code : (k w : ℕ) → form k ≡ raw w → k < 15
-unfolding code_ok_lem
-raw_code k w e = ltb-true k 15 (rw e at (code_ok k))
+unfolding code_ok
+raw_code k w e = ltb-true k 15 (rw e at (code_ok_lem k))
 
 -- a blob is a code below 15
 pub sized_code : (k : ℕ) → form k ≡ sized → k < 15
-unfolding code_ok_lem
-sized_code k e = ltb-true k 15 (rw e at (code_ok k))
+unfolding code_ok
+sized_code k e = ltb-true k 15 (rw e at (code_ok_lem k))
 
 -- a variant's tag has at most two bytes
 pub variant_width : (k w : ℕ) → form k ≡ variant_form w → w ≤ 2
-unfolding code_ok_lem
-variant_width k w e = leb-true w 2 (rw e at (code_ok k))
+unfolding code_ok
+variant_width k w e = leb-true w 2 (rw e at (code_ok_lem k))
 
 -- so has the tag of a repeated variant
 pub repeated_width : (k w : ℕ) → form k ≡ repeated_form w → w ≤ 2
-unfolding code_ok_lem
-repeated_width k w e = leb-true w 2 (rw e at (code_ok k))
+unfolding code_ok
+repeated_width k w e = leb-true w 2 (rw e at (code_ok_lem k))
 
 -- ---- which codes take a value of a kind
 
