@@ -7,7 +7,8 @@ use mathlib.Core.List.{List}
 use native.Mathlib.Omega.{arith}
 use borrow.Author.Tests.{leb-true}
 use lib.ListN.{length, take, drop, length-take, length-drop}
-use Rattle.rules.specs.Block.{node_size, node_start, records, block, Closed}
+use Rattle.rules.specs.Block.{node_size, node_start, NodeIn, node_at, records, block, Closed}
+use Rattle.rules.specs.declared.table_record.Node.{Node}
 use Rattle.rules.specs.Format.{block_form_ok}
 use Rattle.rules.proofs.Tests.{and_both}
 use Rattle.block_laws.proofs.Form.{ordered, closed}
@@ -31,3 +32,8 @@ module _ (table : List ℕ) (first n : ℕ) where
   -- what a walk over the block asks, its places being records of the table
   pub sound_walks : SoundBlock table first n → length table < 2 ^ 64 → (s : List ℕ) → s ≡ block table first n → Closed s × (node_size ≤ length s) × (first + records s < 2 ^ 64)
   sound_walks h b s e = rw e (closed _ h.order, omega (arith, h.order.size), omega (arith, h.within, block_length h.within))
+
+-- a node's children lie in a block that is closed
+pub children_inside : (s : List ℕ) → Closed s → (i : ℕ) → NodeIn i (length s) → (n : Node) → n ≡ node_at s i → node_start (n.first + n.children) ≤ length s
+unfolding Closed
+children_inside s h i l n is = rw is (h i l)

@@ -10,10 +10,7 @@ use rules::Node;
 pub fn span_ok(start: u64, len: u64, size: u64) -> bool
     ensures { result ≡ span_ok start len size }
 {
-    if start <= size {
-        return len <= size - start;
-    }
-    false
+    start <= size && len <= size - start
 }
 
 // An unnamed record has no span, and a named one's lies in the store.
@@ -23,16 +20,11 @@ fn name_ok(n: Node, store: u64) -> bool
     let named = n.named;
     let len = n.len;
     let start = n.start;
-    if named == 0 {
-        if len == 0 {
-            return start == 0;
-        }
-        return false;
+    match named {
+        0 => len == 0 && start == 0,
+        1 => span_ok(start, len, store),
+        _ => false,
     }
-    if named == 1 {
-        return span_ok(start, len, store);
-    }
-    false
 }
 
 // `next` is the first child that level order gives to the next node with children.
@@ -42,12 +34,10 @@ fn children_ok(n: Node, i: u64, next: u64) -> bool
     let first = n.first;
     let children = n.children;
     if children == 0 {
-        return first == 0;
+        first == 0
+    } else {
+        first == next && i < first
     }
-    if first == next {
-        return i < first;
-    }
-    false
 }
 
 // One record.
@@ -55,13 +45,7 @@ pub fn node_ok(n: Node, store: u64, i: u64, next: u64) -> bool
     ensures { result ≡ record_ok n store i next }
 {
     let code = n.code;
-    if 19 < code {
-        return false;
-    }
-    if name_ok(n, store) {
-        return children_ok(n, i, next);
-    }
-    false
+    code <= 19 && name_ok(n, store) && children_ok(n, i, next)
 }
 
 // The block has the form of a schema, whose names lie in a store of so many bytes. The bound on the records comes first:
@@ -76,16 +60,14 @@ pub fn block_ok(s: &[u8], store: u64) -> bool
     if 131072 < m {
         return false;
     }
-    let mut i = 0;
     let mut next = 1;
-    while i < m {
+    for i in 0..m {
         let n = node_at(s, i);
         if !node_ok(n, store, i, next) {
             return false;
         }
         let children = n.children;
         next += children;
-        i += 1;
     }
     m == next
 }
@@ -96,11 +78,10 @@ pub fn depth_of(s: &[u8]) -> u64
     ensures { result ≡ depth_of s.now }
 {
     let m = (s.len() / NODE_SIZE) as u64;
-    let mut i = 0;
     let mut next = 1;
     let mut edge = 0;
     let mut depth = 0;
-    while i < m {
+    for i in 0..m {
         if i == edge {
             depth += 1;
             edge = next;
@@ -108,7 +89,6 @@ pub fn depth_of(s: &[u8]) -> u64
         let n = node_at(s, i);
         let children = n.children;
         next += children;
-        i += 1;
     }
     depth
 }

@@ -14,10 +14,7 @@ fn name_utf8(names: &[u8], n: Node) -> bool
     let named = n.named;
     let start = n.start;
     let len = n.len;
-    if named == 1 {
-        return is_utf8(names, start as usize, len as usize);
-    }
-    true
+    named != 1 || is_utf8(names, start as usize, len as usize)
 }
 
 // Every name of a block that has the form. One that several records share is looked at for each of them.
@@ -26,12 +23,5 @@ pub fn names_utf8(s: &[u8], names: &[u8]) -> bool
     ensures { result ≡ names_utf8 s.now names.now }
 {
     let m = (s.len() / NODE_SIZE) as u64;
-    let mut i = 0;
-    while i < m {
-        if !name_utf8(names, node_at(s, i)) {
-            return false;
-        }
-        i += 1;
-    }
-    true
+    (0..m).all(|i| name_utf8(names, node_at(s, i)))
 }

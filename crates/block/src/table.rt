@@ -29,10 +29,7 @@ pub fn block_form_ok(table: &[u8], store: u64, first: u64, count: u64) -> bool
     ensures { result ≡ block_form_ok table.now store first count }
 {
     let m = (table.len() / NODE_SIZE) as u64;
-    if !span_ok(first, count, m) {
-        return false;
-    }
-    block_ok(block_of(table, first, count), store)
+    span_ok(first, count, m) && block_ok(block_of(table, first, count), store)
 }
 
 pub fn block_depth_ok(table: &[u8], first: u64, count: u64) -> bool
@@ -40,10 +37,7 @@ pub fn block_depth_ok(table: &[u8], first: u64, count: u64) -> bool
     ensures { result ≡ block_depth_ok table.now first count }
 {
     // So few records are never deeper than that.
-    if count <= 64 {
-        return true;
-    }
-    depth_of(block_of(table, first, count)) <= 64
+    count <= 64 || depth_of(block_of(table, first, count)) <= 64
 }
 
 // Its names are well-formed UTF-8. A store of no more bytes than the block, all of them ASCII, needs no look at each name.
@@ -52,10 +46,7 @@ pub fn block_utf8(table: &[u8], names: &[u8], first: u64, count: u64) -> bool
     ensures { result ≡ block_utf8 table.now names.now first count }
 {
     let s = block_of(table, first, count);
-    if short_ascii(names, s.len()) {
-        return true;
-    }
-    names_utf8(s, names)
+    short_ascii(names, s.len()) || names_utf8(s, names)
 }
 
 // The rules 4 and 5. A block of few records, which is never too deep, passes where each record passes, in whatever order they are asked:
@@ -106,14 +97,8 @@ pub fn block_stands(table: &[u8], names: &[u8], first: u64, count: u64) -> Check
 pub fn block_passes(table: &[u8], names: &[u8], first: u64, count: u64) -> bool
     ensures { result ≡ passes_at_once table.now names.now first count }
 {
-    if table.len() % NODE_SIZE != 0 {
-        return false;
-    }
-    if 64 < count {
-        return false;
-    }
-    if !span_ok(first, count, (table.len() / NODE_SIZE) as u64) {
-        return false;
-    }
-    passes(block_of(table, first, count), names.len() as u64, first)
+    table.len() % NODE_SIZE == 0
+        && count <= 64
+        && span_ok(first, count, (table.len() / NODE_SIZE) as u64)
+        && passes(block_of(table, first, count), names.len() as u64, first)
 }

@@ -54,13 +54,11 @@ pub fn level_rule(s: &[u8], base: u64) -> Checked
     ensures { result ≡ in_order (rule_at s.now base) 0 (records s.now) }
 {
     let m = (s.len() / NODE_SIZE) as u64;
-    let mut i = 0;
-    while i < m {
+    for i in 0..m {
         let own = node_rule(base + i, node_at(s, i));
         let Checked::Accepted = own else {
             return own;
         };
-        i += 1;
     }
     Checked::Accepted
 }
@@ -77,9 +75,8 @@ pub fn passes(s: &[u8], store: u64, base: u64) -> bool
     if 131072 < m {
         return false;
     }
-    let mut i = 0;
     let mut next = 1;
-    while i < m {
+    for i in 0..m {
         let node = node_at(s, i);
         if !node_ok(node, store, i, next) {
             return false;
@@ -90,7 +87,6 @@ pub fn passes(s: &[u8], store: u64, base: u64) -> bool
         };
         let children = node.children;
         next += children;
-        i += 1;
     }
     m == next
 }
@@ -111,15 +107,13 @@ pub fn validate(s: &[u8], base: u64, depth: u64, i: u64) -> Checked
     };
     let first = n.first;
     let children = n.children;
-    let mut k = 0;
-    while k < children {
+    for k in 0..children {
         // Copied for the call: so it is the copy that has to lie in memory.
         let block = s;
         let below = validate(block, base, depth - 1, first + k);
         let Checked::Accepted = below else {
             return below;
         };
-        k += 1;
     }
     Checked::Accepted
 }
@@ -156,10 +150,8 @@ fn name_rule(place: u64, index: u64, n: Node) -> Checked
 {
     let named = n.named;
     let len = n.len;
-    if named == 1 {
-        if 0 < len {
-            return Checked::Accepted;
-        }
+    if named == 1 && 0 < len {
+        return Checked::Accepted;
     }
     Checked::Refused(Refusal {
         why: Why::TableSchemaChildMissingName { index },
@@ -179,14 +171,12 @@ pub fn check_root(s: &[u8], base: u64, purpose: Purpose) -> Checked
     };
     let first = root.first;
     let children = root.children;
-    let mut k = 0;
-    while k < children {
+    for k in 0..children {
         let n = node_at(s, first + k);
         let column = name_rule(base + (first + k), k, n);
         let Checked::Accepted = column else {
             return column;
         };
-        k += 1;
     }
     Checked::Accepted
 }

@@ -66,12 +66,10 @@ pub fn write_bytes(out: &impl Print, s: &[u8]) {
     write_text(out, b" ");
     let n = shown(s.len() as u64);
     let mut text = [0u8; 8192];
-    let mut i = 0;
-    while i < n {
-        let byte = wide(s[i]) as usize;
-        text[2 * i] = DIGITS[byte / 16];
-        text[2 * i + 1] = DIGITS[byte % 16];
-        i += 1;
+    for (digits, byte) in text.chunks_exact_mut(2).zip(&s[..n]) {
+        let byte = wide(*byte) as usize;
+        digits[0] = DIGITS[byte / 16];
+        digits[1] = DIGITS[byte % 16];
     }
     write_text(out, &text[0..2 * n]);
 }

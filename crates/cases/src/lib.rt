@@ -9,18 +9,16 @@
 pub mod answer_lines;
 pub mod reports;
 
-ghost use Rattle.std.specs.Prelude.{◌+◌, ◌≤◌, length, ◌≡◌};
+ghost use Rattle.std.specs.Prelude.{◌+◌, ◌≤◌, length, ◌≡◌, IfSome};
 
 use reads::filling::read_full;
 use rules::Settings;
 use std::io::Read;
 use wire::{u32_at, u64_at};
 
-// A case: where its first four byte strings end in the space, one after another, and how many bytes of the input its fifth has. None
-// was read where it is not whole.
+// A case: where its first four byte strings end in the space, one after another, and how many bytes of the input its fifth has.
 #[derive(Clone, Copy)]
 pub struct Case {
-    pub whole: bool,
     pub op: u64,
     pub a: u64,
     pub b: u64,
@@ -61,31 +59,14 @@ fn settings_of(head: &[u8; 72]) -> Settings {
     }
 }
 
-fn no_case() -> Case
-    ensures { (result.records ≤ 0) × (result.names ≤ 0) × (result.references ≤ 0) × (result.registry ≤ 0) × (result.input ≤ 0) }
-{
-    Case {
-        whole: false,
-        op: 0,
-        a: 0,
-        b: 0,
-        settings: Settings::new(),
-        records: 0,
-        names: 0,
-        references: 0,
-        registry: 0,
-        input: 0,
-    }
-}
-
 // Reads the next case; there is none where the cases end, are cut or cannot be read, or where it is too long for the space or the input.
-pub fn next_case<R: Read>(cases: &mut R, space: &mut [u8], input: &mut [u8]) -> Case
-    ensures records_le_names { (result.records ≤ result.names) × (result.names ≤ result.references) × (result.references ≤ result.registry) }
-    ensures registry_in_bounds { (result.registry ≤ length space.new) × (result.input ≤ length input.new) }
+pub fn next_case<R: Read>(cases: &mut R, space: &mut [u8], input: &mut [u8]) -> Option<Case>
+    ensures records_le_names { IfSome result (λ c. (c.records ≤ c.names) × (c.names ≤ c.references) × (c.references ≤ c.registry)) }
+    ensures registry_in_bounds { IfSome result (λ c. (c.registry ≤ length space.new) × (c.input ≤ length input.new)) }
 {
     let mut head = [0u8; 72];
     if !fill(cases, &mut head) {
-        return no_case();
+        return None;
     }
     let records = size_at(&head, 4);
     let names = records + size_at(&head, 8);
@@ -93,19 +74,18 @@ pub fn next_case<R: Read>(cases: &mut R, space: &mut [u8], input: &mut [u8]) -> 
     let registry = references + size_at(&head, 16);
     let fifth = size_at(&head, 20);
     if space.len() < registry {
-        return no_case();
+        return None;
     }
     if input.len() < fifth {
-        return no_case();
+        return None;
     }
     if !fill(cases, &mut space[0..registry]) {
-        return no_case();
+        return None;
     }
     if !fill(cases, &mut input[0..fifth]) {
-        return no_case();
+        return None;
     }
-    Case {
-        whole: true,
+    Some(Case {
         op: u32_at(&head, 0),
         a: u64_at(&head, 24),
         b: u64_at(&head, 32),
@@ -115,7 +95,7 @@ pub fn next_case<R: Read>(cases: &mut R, space: &mut [u8], input: &mut [u8]) -> 
         references,
         registry,
         input: fifth,
-    }
+    })
 }
 
 // What every byte is before the call of a slice that a program lends, so that the line shows which of them were written.

@@ -33,6 +33,7 @@ pub fn run_stream<R: Read>(
 {
     let w = ends.registry;
     let mut ran = run_window(settings, no_rows(Stop::End), space, ends, w);
+    // Counted by hand: the end moves by what was read, and back by what the window has done with.
     let mut end = w;
     let mut read: u64 = 0;
     while end < space.len() {

@@ -203,6 +203,7 @@ fn fill_children(
         payload: s.payload,
     };
     let mut n = 0;
+    // A `loop`: an end tag may end the children, so that no count does.
     loop {
         let at = q.at;
         let next = next_child(code, first, count, input, n, at);

@@ -21,13 +21,7 @@ pub enum Compared {
 fn same_span(indexed: RowSpan, at: usize, row: Extent) -> bool
     ensures { result ≡ same_span indexed (record { offset = at; size = row.bytes; table = row.table }) }
 {
-    if indexed.offset != at as u64 {
-        return false;
-    }
-    if indexed.size != row.bytes {
-        return false;
-    }
-    indexed.table == row.table
+    indexed.offset == at as u64 && indexed.size == row.bytes && indexed.table == row.table
 }
 
 // The index's first `count` records, by the stream's first rows.
@@ -48,8 +42,7 @@ pub fn compare_records(
         count index.now }
 {
     let mut at: usize = 0;
-    let mut i: usize = 0;
-    while i < count {
+    for i in 0..count {
         let read = row_at(table, names, references, registry, input, at, settings);
         let Read::Row(row) = read else {
             return Compared::Other;
@@ -58,7 +51,6 @@ pub fn compare_records(
             return Compared::Other;
         }
         at += row.bytes as usize;
-        i += 1;
     }
     Compared::Same(at)
 }
@@ -81,6 +73,7 @@ pub fn put_records(
         input.now).rows)) }
 {
     let mut at: usize = start;
+    // Counted by hand: the input's end ends it, and not a count of rows.
     let mut i: usize = first;
     while at < input.len() {
         let read = row_at(table, names, references, registry, input, at, settings);

@@ -152,15 +152,13 @@ pub fn flat_row(block: &[u8], settings: Settings, records: &[u8], payload: &[u8]
         from: 0,
         bytes: 2,
     };
-    let mut i: u64 = 0;
-    while i < count {
+    for i in 0..count {
         let column = (first + i) as usize;
         let s = column_fits(block, column, settings, records, payload, q);
         let AtOnce::Fits(r) = s else {
             return AtOnce::Later;
         };
         q = r;
-        i += 1;
     }
     if q.at as u64 != total {
         return AtOnce::Later;

@@ -300,8 +300,7 @@ fn judge_children(
         from: p.from,
         bytes: p.bytes,
     };
-    let mut i: u64 = 0;
-    while i < size {
+    for i in 0..size {
         let at = q.at;
         let below = value_record_at(records, at);
         let pick = next_child(code, first, count, i, below.tag, at);
@@ -318,7 +317,6 @@ fn judge_children(
             return judged_refused_by_child(j);
         };
         q = r;
-        i += 1;
     }
     Judged::Fits(JudgePos {
         at: q.at,

@@ -1,14 +1,11 @@
 -- Texts put one behind another.
 -- Assumes nothing.
-use Prim.Native.Nat.{ℕ, suc, ◌+◌, ◌/◌, ◌%◌, ◌≤◌, ◌<◌}
-use mathlib.Core.Path.{◌≡◌, refl, ◌∙◌}
+use Prim.Native.Nat.{ℕ, zero, suc, ◌+◌, ◌/◌, ◌%◌, ◌≤◌, ◌<◌}
+use mathlib.Core.Path.{◌≡◌, refl, sym, ap, ◌∙◌}
 use mathlib.Core.Bool.{Bool, true, false}
 use mathlib.Core.List.{List, [], ◌∷◌, ◌++◌}
 use native.Mathlib.Omega.{arith}
-use native.Mathlib.Nat.{add-zero}
-use native.Mathlib.Numerals.{add-one}
-use lib.ListN.{length, get_or, set, drop, length-append, length-set, drop_of_length-le}
-use lib.Seq.{drop-cons}
+use lib.ListN.{length, get_or, set, take, length-append}
 use lib.Dec.{eqb}
 use borrow.Author.Tests.{ne_eqb, eq-eqb}
 use Rattle.rules.specs.Choice.{pick}
@@ -37,29 +34,6 @@ put_small s at n h = rw (decimal_small n h) (put_digit s at (48 + n))
 pub put_more : (s₀ s : List ℕ) (at last n : ℕ) → 10 ≤ n → TextPut s₀ at (decimal (n / 10)) s last → TextPut s₀ at (decimal n) (set s last (48 + n % 10)) (last + 1)
 put_more s₀ s at last n h p = rw (decimal_more n h) (put_both _ _ _ _ _ _ _ _ p (put_digit s last (48 + n % 10)))
 
--- byte by byte, turn by turn: what is left to put, over what is put, is the whole
-module _ (s₀ text : List ℕ) (at : ℕ) where
-  pub record Puts (s : List ℕ) (k : ℕ) : Type 0 where
-    pub within : k ≤ length text
-    pub size : length s ≡ length s₀
-    pub left : over s (at + k) (drop k text) ≡ over s₀ at text
-
-  pub puts_none : Puts s₀ 0
-  puts_none = record { within = omega arith; size = refl; left = rw add-zero }
-
-  module _ (s : List ℕ) (k : ℕ) (p : Puts s k) where
-    pub puts_turn : k < length text → Puts (set s (at + k) (get_or text k 0)) (k + 1)
-    unfolding over
-    puts_turn h =
-        let x : (at + k) + 1 ≡ at + (k + 1) = omega arith in
-        record { within = omega arith; size = length-set s (at + k) (get_or text k 0) ∙ p.size; left = rw (← x) (rw (drop-cons text k 0 h, ← add-one k) at p.left) }
-
-    pub puts_end : length text ≤ k → TextPut s₀ at text s (at + k)
-    unfolding over
-    puts_end h =
-        let e : k ≡ length text = omega (arith, p.within) in
-        record { holds = rw (drop_of_length-le {A = ℕ} text {i = k} h) at p.left; ends = rw e }
-
 -- ---- words
 
 -- a blank ends a word, and any other byte is of it
@@ -71,39 +45,14 @@ word_goes_on : (x : ℕ) (xs : List ℕ) → (x ≡ 32 → ⊥) → word (x ∷ 
 unfolding word pick
 word_goes_on x xs h = rw (ne_eqb x 32 h)
 
--- the same turn by turn for a text's word
-module _ (s₀ text : List ℕ) (at : ℕ) where
-  pub record PutsWord (s : List ℕ) (k : ℕ) : Type 0 where
-    pub within : k ≤ length text
-    pub size : length s ≡ length s₀
-    pub left : over s (at + k) (word (drop k text)) ≡ over s₀ at (word text)
-    pub count : k + length (word (drop k text)) ≡ length (word text)
-
-  pub puts_word_none : PutsWord s₀ 0
-  puts_word_none = record { within = omega arith; size = refl; left = rw add-zero; count = omega arith }
-
-  module _ (s : List ℕ) (k : ℕ) (p : PutsWord s k) where
-    pub puts_word_turn : k < length text → (get_or text k 0 ≡ 32 → ⊥) → PutsWord (set s (at + k) (get_or text k 0)) (k + 1)
-    unfolding over
-    puts_word_turn h n =
-        let x : (at + k) + 1 ≡ at + (k + 1) = omega arith in
-        let e : word (drop k text) ≡ get_or text k 0 ∷ word (drop (k + 1) text) = rw (drop-cons text k 0 h, ← add-one k) (word_goes_on (get_or text k 0) (drop (k + 1) text) n) in
-        record {
-          within = omega arith;
-          size = length-set s (at + k) (get_or text k 0) ∙ p.size;
-          left = rw (← x) (rw e at p.left);
-          count = let c = rw e at p.count in omega (arith, c);
-        }
-
-    ends_here : word (drop k text) ≡ [] → TextPut s₀ at (word text) s (at + k)
-    unfolding over
-    ends_here e = record { holds = rw e at p.left; ends = let c = rw e at p.count in omega (arith, c) }
-
-    pub puts_word_blank : k < length text → get_or text k 0 ≡ 32 → TextPut s₀ at (word text) s (at + k)
-    puts_word_blank h b = ends_here (rw (drop-cons text k 0 h) (word_ends (get_or text k 0) (drop (suc k) text) b))
-
-    pub puts_word_end : length text ≤ k → TextPut s₀ at (word text) s (at + k)
-    puts_word_end h = ends_here (rw (drop_of_length-le {A = ℕ} text {i = k} h) (unfold word in refl))
+-- a text's word is what stands before its first blank
+pub word_take : (text : List ℕ) (n : ℕ) → n ≤ length text → ((k : ℕ) → k < n → get_or text k 0 ≡ 32 → ⊥) → (n < length text → get_or text n 0 ≡ 32) → take n text ≡ word text
+word_take [] zero h before blank = unfold word in refl
+word_take [] (suc n) h before blank = absurd (omega arith)
+word_take (x ∷ xs) zero h before blank = sym (word_ends x xs (blank (omega arith)))
+word_take (x ∷ xs) (suc n) h before blank =
+    let rest = word_take xs n (omega arith) (λ k l. before (suc k) (omega arith)) (λ l. blank (omega arith)) in
+    ap (λ (ys : List ℕ). x ∷ ys) rest ∙ sym (word_goes_on x xs (before 0 (omega arith)))
 
 -- whether a text has a word
 pub none_empty : (text : List ℕ) → length text ≡ 0 → true ≡ is_none (word text)

@@ -1,24 +1,21 @@
 // Lines of text, made in a buffer: each function puts a text or a number at a position and answers where the next one goes.
 #![tactic(auto)]
 
-ghost use Rattle.std.specs.Prelude.{◌+◌, ◌≤◌, ◌++◌, length, ◌≡◌};
+ghost use Rattle.std.specs.Prelude.{ℕ, ◌+◌, ◌≤◌, ◌<◌, ◌++◌, length, slice_index, ◌≡◌, ◌≢◌};
 ghost use Rattle.rules.specs.Lines.{decimal, word, is_none, spaced, item, labelled, word_of, closing_bracket, carried, stopped_at, end_line, refused_line, run_line};
 ghost use Rattle.lines.specs.Puts.{TextPut, head};
 
 use rules::{Label, Labels, Ran, Refusal, RefusalLine, Stop};
 use words::{label_word, word_of};
 
-// A text, byte by byte.
+// A text.
 pub fn put_text(buffer: &mut [u8], at: usize, text: &[u8]) -> usize
     requires { at + length text.now ≤ length buffer.old }
     ensures { TextPut buffer.old at text.now buffer.new result }
 {
-    let mut k = 0;
-    while k < text.len() {
-        buffer[at + k] = text[k];
-        k += 1;
-    }
-    at + k
+    let end = at + text.len();
+    buffer[at..end].copy_from_slice(text);
+    end
 }
 
 // A number in decimal digits: those of a tenth of it, and then its last.
@@ -45,22 +42,24 @@ pub fn put_number(buffer: &mut [u8], at: usize, text: &[u8], n: u64) -> usize
     put_decimal(buffer, next, n)
 }
 
+// How many bytes of a text stand before its first blank.
+fn word_length(text: &[u8]) -> usize
+    ensures within { result ≤ length text.now }
+    ensures before { (k : ℕ) → k < result → slice_index text.now k ≢ 32 }
+    ensures blank { result < length text.now → slice_index text.now result ≡ 32 }
+{
+    let blank = text.iter().position(|byte| *byte == b' ');
+    blank.unwrap_or(text.len())
+}
+
 // A text up to its first blank.
 pub fn put_word(buffer: &mut [u8], at: usize, text: &[u8]) -> usize
     requires { at + length text.now ≤ length buffer.old }
     ensures text_put { TextPut buffer.old at (word text.now) buffer.new result }
     ensures upper_bound { result ≤ at + length text.now }
 {
-    let mut k = 0;
-    while k < text.len() {
-        let byte = text[k];
-        if byte == b' ' {
-            return at + k;
-        }
-        buffer[at + k] = byte;
-        k += 1;
-    }
-    at + k
+    let len = word_length(text);
+    put_text(buffer, at, &text[..len])
 }
 
 // Whether there is no word at a text's start.

@@ -38,13 +38,7 @@ fn row_room() -> [u8; 65536]
 fn files_ok(schema: &[u8], names: &[u8], stream: &[u8]) -> bool
     ensures { result ≡ files_ok schema.now names.now stream.now }
 {
-    if FILE_BYTES < schema.len() {
-        return false;
-    }
-    if FILE_BYTES < names.len() {
-        return false;
-    }
-    stream.len() <= FILE_BYTES
+    schema.len() <= FILE_BYTES && names.len() <= FILE_BYTES && stream.len() <= FILE_BYTES
 }
 
 // The reference of an inline table whose block is the first `count` records.

@@ -37,15 +37,13 @@ fn list_value(
         from: node.from + (own.size - count) as usize,
         to: put_line(text, to, node.row, (65 - depth) as u64, own, store),
     };
-    let mut left = count;
-    while 0 < left {
+    for _done in 0..count {
         let child = RowNode {
             row: node.row,
             at: q.at,
             from: q.from,
         };
         q = list_value(records, store, depth - 1, child, q.to, text);
-        left -= 1;
     }
     q
 }

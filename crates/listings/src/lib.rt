@@ -39,6 +39,7 @@ fn tell_pieces(out: &impl Print, schema: &[u8], names: &[u8], stream: &[u8], tex
     requires { 655360 ≤ length text.old }
     ensures { result ≡ length (pieces schema.now names.now stream.now) }
 {
+    // Counted by hand: what put_piece shows ends it, and says how far the position goes.
     let mut row: u64 = 0;
     let mut at: u64 = 0;
     loop {

@@ -12,10 +12,8 @@ fn copy_few(input: &[u8], from: usize, n: usize, payload: &mut [u8], to: usize)
     requires { (from + n ≤ length input.now) × (to + n ≤ length payload.old) }
     ensures { payload.new ≡ over payload.old to (part input.now from n) }
 {
-    let mut k = 0;
-    while k < n {
+    for k in 0..n {
         payload[to + k] = input[from + k];
-        k += 1;
     }
 }
 
@@ -61,6 +59,8 @@ pub fn copy(input: &[u8], from: usize, n: usize, payload: &mut [u8], to: usize)
         return;
     }
     let last = n - 8;
+
+    // Counted by hand: a turn moves whole words, and the last of them may lie over the one before.
     let mut k = 0;
     while k < last {
         k = copy_near(input, from, payload, to, k, last);

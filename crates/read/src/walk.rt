@@ -215,6 +215,7 @@ fn skip_children(
     let count = node_children(block, node);
     let mut q = p;
     let mut i: u64 = 0;
+    // A `loop`: an end tag may end the children, so that no count does.
     loop {
         let at = q.at;
         let budget = q.budget;

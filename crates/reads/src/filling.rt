@@ -1,5 +1,6 @@
 // Reading into a slice.
-ghost use Rattle.std.specs.Prelude.{◌≤◌, length};
+ghost use Rattle.std.specs.Prelude.{◌≤◌, length, take};
+ghost use Rattle.std.specs.Io.KnownBytes.{Consumes};
 ghost use Rattle.rules.specs.Bytes.{Bytes};
 
 use std::io::Read;
@@ -9,7 +10,9 @@ use std::io::Read;
 pub fn read_full<R: Read>(input: &mut R, space: &mut [u8]) -> usize
     ensures in_bounds { result ≤ length space.new }
     ensures bytes { Bytes space.new }
+    ensures taken { Consumes (R.remaining input.old) (R.remaining input.new) (take result space.new) }
 {
+    // Counted by hand: each read says how far it came.
     let mut done = 0;
     while done < space.len() {
         let got = input.read(&mut space[done..]);

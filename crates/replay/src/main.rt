@@ -59,10 +59,9 @@ fn answer_next(
     space: &mut [u8],
     input: &mut [u8],
 ) -> bool {
-    let c = next_case(cases, space, input);
-    if !c.whole {
+    let Some(c) = next_case(cases, space, input) else {
         return false;
-    }
+    };
     let settings = c.settings;
     let x = c.records;
     let y = c.names;

@@ -142,10 +142,9 @@ fn answer_next(
     space: &mut [u8],
     index: &mut [u8],
 ) -> bool {
-    let c = next_case(cases, space, index);
-    if !c.whole {
+    let Some(c) = next_case(cases, space, index) else {
         return false;
-    }
+    };
     let settings = c.settings;
     let x = c.records;
     let y = c.names;

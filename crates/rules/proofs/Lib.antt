@@ -10,3 +10,4 @@ pub mod Limits
 pub mod Listing
 pub mod Signed
 pub mod Integers
+pub mod Slices

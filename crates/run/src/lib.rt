@@ -46,6 +46,7 @@ pub fn run_rows(
 {
     let mut rows: u64 = 0;
     let mut at: usize = 0;
+    // A `while`: the position moves by a row's bytes, which no range counts.
     while at < input.len() {
         // `row_at`'s two steps, made here: a call of it would hand each row's answer through memory once more.
         let found = block_at(names, references, registry, input, at);

@@ -117,3 +117,20 @@ module _ (table names references : List ℕ) (ok : references_ok table names ref
 
   pub references_named : ReferencesNamed names references
   references_named t h z = name_inside table names _ (each_reference t h) z
+
+-- what a test of one entry or reference asks, of each that is read
+pub entry_sound : (table registry : List ℕ) → EntriesSound table registry → (j : ℕ) → j < entry_count registry → (e : Entry) → e ≡ entry_at registry j → SoundBlock table e.first e.count
+entry_sound table registry h j l e is = rw is (h j l)
+
+module _ (table names registry : List ℕ) (ok : entries_ok table names registry ≡ true) (j : ℕ) (l : j < entry_count registry) (e : Entry) (is : e ≡ entry_at registry j) where
+  pub entry_named : e.start + e.len ≤ length names
+  entry_named = rw is (entry_form table names registry j (all_each _ _ _ ok l)).0
+
+  pub entry_formed : block_form_ok table (length names) e.first e.count ≡ true
+  entry_formed = rw is (entry_form table names registry j (all_each _ _ _ ok l)).1
+
+pub reference_sound : (table references : List ℕ) → InlineSound table references → (t : ℕ) → t < reference_count references → (r : Reference) → r ≡ reference_at references t → r.kind ≡ 0 → SoundBlock table r.start r.len
+reference_sound table references h t l r is = rw is (h t l)
+
+pub reference_asked : (table names references : List ℕ) → references_ok table names references ≡ true → (t : ℕ) → t < reference_count references → (r : Reference) → r ≡ reference_at references t → reference_ok (slices table names [] []) r ≡ true
+reference_asked table names references h t l r is = rw is (each_reference table names references h t l)

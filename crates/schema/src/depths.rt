@@ -15,15 +15,10 @@ fn entries_shallow(table: &[u8], registry: &[u8]) -> bool
     ensures { result ≡ entries_shallow table.now registry.now }
 {
     let m = (registry.len() / ENTRY_SIZE) as u64;
-    let mut j = 0;
-    while j < m {
+    (0..m).all(|j| {
         let e = entry_at(registry, j);
-        if !block_depth_ok(table, e.first, e.count) {
-            return false;
-        }
-        j += 1;
-    }
-    true
+        block_depth_ok(table, e.first, e.count)
+    })
 }
 
 // A registry's schema was looked at with the registry.
@@ -32,10 +27,7 @@ fn reference_shallow(table: &[u8], r: Reference) -> bool
     ensures { result ≡ pick (eqb r.kind 0) (block_depth_ok table.now r.start r.len) true }
 {
     let kind = r.kind;
-    if kind == 0 {
-        return block_depth_ok(table, r.start, r.len);
-    }
-    true
+    kind != 0 || block_depth_ok(table, r.start, r.len)
 }
 
 fn references_shallow(table: &[u8], references: &[u8]) -> bool
@@ -43,22 +35,12 @@ fn references_shallow(table: &[u8], references: &[u8]) -> bool
     ensures { result ≡ references_shallow table.now references.now }
 {
     let m = (references.len() / REFERENCE_SIZE) as u64;
-    let mut t = 0;
-    while t < m {
-        if !reference_shallow(table, reference_at(references, t)) {
-            return false;
-        }
-        t += 1;
-    }
-    true
+    (0..m).all(|t| reference_shallow(table, reference_at(references, t)))
 }
 
 pub fn depths_ok(table: &[u8], references: &[u8], registry: &[u8]) -> bool
     requires { EntriesSound table.now registry.now × InlineSound table.now references.now }
     ensures { result ≡ depths_ok (slices table.now [] references.now registry.now) }
 {
-    if entries_shallow(table, registry) {
-        return references_shallow(table, references);
-    }
-    false
+    entries_shallow(table, registry) && references_shallow(table, references)
 }

@@ -15,6 +15,7 @@ pub fn lookup(names: &[u8], registry: &[u8], start: u64, len: u64) -> Located
     ensures { result ≡ lookup names.now registry.now (part names.now start len) 0
         (entry_count registry.now) }
 {
+    // A search by hand: std's binary searches go over a slice of elements, and the registry is bytes, 16 to an entry.
     let mut low: u64 = 0;
     let mut high = (registry.len() / ENTRY_SIZE) as u64;
     while low < high {

@@ -49,25 +49,20 @@ fn entry_ok(table: &[u8], names: &[u8], registry: &[u8], j: u64) -> bool
 {
     let store = names.len() as u64;
     let e = entry_at(registry, j);
-    if !span_ok(e.start, e.len, store) {
-        return false;
-    }
-    if !block_form_ok(table, store, e.first, e.count) {
-        return false;
-    }
-    ascending(names, registry, j)
+    span_ok(e.start, e.len, store)
+        && block_form_ok(table, store, e.first, e.count)
+        && ascending(names, registry, j)
 }
 
 fn entries_ok(table: &[u8], names: &[u8], registry: &[u8]) -> bool
     ensures { result ≡ entries_ok table.now names.now registry.now }
 {
     let m = (registry.len() / ENTRY_SIZE) as u64;
-    let mut j = 0;
-    while j < m {
+    // A loop and no `all`: an entry may be looked at only where those before it have passed, and a closure is not told so.
+    for j in 0..m {
         if !entry_ok(table, names, registry, j) {
             return false;
         }
-        j += 1;
     }
     true
 }
@@ -79,49 +74,29 @@ fn reference_ok(table: &[u8], names: &[u8], r: Reference) -> bool
     let kind = r.kind;
     let start = r.start;
     let len = r.len;
-    if r.spare != 0 {
+    if r.spare != 0 || r.rest != 0 {
         return false;
     }
-    if r.rest != 0 {
-        return false;
+    match kind {
+        0 => block_form_ok(table, store, start, len),
+        1 => span_ok(start, len, store),
+        _ => false,
     }
-    if kind == 0 {
-        return block_form_ok(table, store, start, len);
-    }
-    if kind == 1 {
-        return span_ok(start, len, store);
-    }
-    false
 }
 
 fn references_ok(table: &[u8], names: &[u8], references: &[u8]) -> bool
     ensures { result ≡ references_ok table.now names.now references.now }
 {
     let m = (references.len() / REFERENCE_SIZE) as u64;
-    let mut t = 0;
-    while t < m {
-        if !reference_ok(table, names, reference_at(references, t)) {
-            return false;
-        }
-        t += 1;
-    }
-    true
+    (0..m).all(|t| reference_ok(table, names, reference_at(references, t)))
 }
 
 pub fn forms_ok(table: &[u8], names: &[u8], references: &[u8], registry: &[u8]) -> bool
     ensures { result ≡ forms_ok (slices table.now names.now references.now registry.now) }
 {
-    if table.len() % NODE_SIZE != 0 {
-        return false;
-    }
-    if references.len() % REFERENCE_SIZE != 0 {
-        return false;
-    }
-    if registry.len() % ENTRY_SIZE != 0 {
-        return false;
-    }
-    if entries_ok(table, names, registry) {
-        return references_ok(table, names, references);
-    }
-    false
+    table.len() % NODE_SIZE == 0
+        && references.len() % REFERENCE_SIZE == 0
+        && registry.len() % ENTRY_SIZE == 0
+        && entries_ok(table, names, registry)
+        && references_ok(table, names, references)
 }

@@ -40,10 +40,7 @@ pub fn check_name(name: &[u8]) -> Checked
 pub fn check_schema(table: &[u8], names: &[u8], first: u64, count: u64) -> Checked
     ensures { result ≡ schema_answer table.now names.now first count }
 {
-    if LONGEST < table.len() {
-        return Checked::Refused(Refusal::SETTING);
-    }
-    if LONGEST < names.len() {
+    if LONGEST < table.len() || LONGEST < names.len() {
         return Checked::Refused(Refusal::SETTING);
     }
     let stands = block_stands(table, names, first, count);
@@ -73,10 +70,8 @@ pub fn encoder_rules(table: &[u8], names: &[u8], first: u64, count: u64) -> Chec
 pub fn encoder_rules_at_once(table: &[u8], names: &[u8], first: u64, count: u64) -> Checked
     ensures { result ≡ encoder_rules table.now names.now first count }
 {
-    if block_passes(table, names, first, count) {
-        if block_utf8(table, names, first, count) {
-            return block_root(table, first, count, Purpose::Encoder);
-        }
+    if block_passes(table, names, first, count) && block_utf8(table, names, first, count) {
+        return block_root(table, first, count, Purpose::Encoder);
     }
     // What a call lends has to lie in memory: copied here, so that a block that passes is spared that.
     let block = table;
@@ -87,10 +82,7 @@ pub fn encoder_rules_at_once(table: &[u8], names: &[u8], first: u64, count: u64)
 pub fn check_encoder_schema(table: &[u8], names: &[u8], first: u64, count: u64) -> Checked
     ensures { result ≡ encoder_rule table.now names.now first count }
 {
-    if LONGEST < table.len() {
-        return Checked::Refused(Refusal::SETTING);
-    }
-    if LONGEST < names.len() {
+    if LONGEST < table.len() || LONGEST < names.len() {
         return Checked::Refused(Refusal::SETTING);
     }
     encoder_rules(table, names, first, count)
@@ -111,26 +103,17 @@ pub fn format_rules(table: &[u8], names: &[u8], references: &[u8], registry: &[u
     if !format_utf8(table, names, references, registry) {
         return Checked::Refused(Refusal::NAME_NOT_UTF8);
     }
-    let order = rules_order(table, names, references, registry);
-    let Checked::Accepted = order else {
-        return order;
-    };
-    Checked::Accepted
+    rules_order(table, names, references, registry)
 }
 
 pub fn check_format(table: &[u8], names: &[u8], references: &[u8], registry: &[u8]) -> Checked
     ensures { result ≡ format_rule (slices table.now names.now references.now registry.now) }
 {
-    if LONGEST < table.len() {
-        return Checked::Refused(Refusal::SETTING);
-    }
-    if LONGEST < names.len() {
-        return Checked::Refused(Refusal::SETTING);
-    }
-    if LONGEST < references.len() {
-        return Checked::Refused(Refusal::SETTING);
-    }
-    if LONGEST < registry.len() {
+    if LONGEST < table.len()
+        || LONGEST < names.len()
+        || LONGEST < references.len()
+        || LONGEST < registry.len()
+    {
         return Checked::Refused(Refusal::SETTING);
     }
     format_rules(table, names, references, registry)

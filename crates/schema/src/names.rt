@@ -18,10 +18,7 @@ fn entry_utf8(table: &[u8], names: &[u8], e: Entry) -> bool
     ensures { result ≡ is_utf8 (part names.now e.start e.len)
         and block_utf8 table.now names.now e.first e.count }
 {
-    if is_utf8(names, e.start as usize, e.len as usize) {
-        return block_utf8(table, names, e.first, e.count);
-    }
-    false
+    is_utf8(names, e.start as usize, e.len as usize) && block_utf8(table, names, e.first, e.count)
 }
 
 fn entries_utf8(table: &[u8], names: &[u8], registry: &[u8]) -> bool
@@ -29,14 +26,7 @@ fn entries_utf8(table: &[u8], names: &[u8], registry: &[u8]) -> bool
     ensures { result ≡ entries_utf8 table.now names.now registry.now }
 {
     let m = (registry.len() / ENTRY_SIZE) as u64;
-    let mut j = 0;
-    while j < m {
-        if !entry_utf8(table, names, entry_at(registry, j)) {
-            return false;
-        }
-        j += 1;
-    }
-    true
+    (0..m).all(|j| entry_utf8(table, names, entry_at(registry, j)))
 }
 
 // An inline block's names, or the name that is referred to, whether or not an entry has it.
@@ -49,9 +39,10 @@ fn reference_utf8(table: &[u8], names: &[u8], r: Reference) -> bool
     let start = r.start;
     let len = r.len;
     if kind == 0 {
-        return block_utf8(table, names, start, len);
+        block_utf8(table, names, start, len)
+    } else {
+        is_utf8(names, start as usize, len as usize)
     }
-    is_utf8(names, start as usize, len as usize)
 }
 
 fn references_utf8(table: &[u8], names: &[u8], references: &[u8]) -> bool
@@ -59,14 +50,7 @@ fn references_utf8(table: &[u8], names: &[u8], references: &[u8]) -> bool
     ensures { result ≡ references_utf8 table.now names.now references.now }
 {
     let m = (references.len() / REFERENCE_SIZE) as u64;
-    let mut t = 0;
-    while t < m {
-        if !reference_utf8(table, names, reference_at(references, t)) {
-            return false;
-        }
-        t += 1;
-    }
-    true
+    (0..m).all(|t| reference_utf8(table, names, reference_at(references, t)))
 }
 
 // A store of no more bytes than the record table, all of them ASCII, needs no look at each name.
@@ -74,11 +58,6 @@ pub fn format_utf8(table: &[u8], names: &[u8], references: &[u8], registry: &[u8
     requires { forms_ok (slices table.now names.now references.now registry.now) ≡ true }
     ensures { result ≡ format_utf8 (slices table.now names.now references.now registry.now) }
 {
-    if short_ascii(names, table.len()) {
-        return true;
-    }
-    if entries_utf8(table, names, registry) {
-        return references_utf8(table, names, references);
-    }
-    false
+    short_ascii(names, table.len())
+        || (entries_utf8(table, names, registry) && references_utf8(table, names, references))
 }

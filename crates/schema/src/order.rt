@@ -16,14 +16,12 @@ fn entries_rule(table: &[u8], registry: &[u8]) -> Checked
     ensures { result ≡ entries_rule table.now registry.now }
 {
     let m = (registry.len() / ENTRY_SIZE) as u64;
-    let mut j = 0;
-    while j < m {
+    for j in 0..m {
         let e = entry_at(registry, j);
         let block = block_rule(table, e.first, e.count);
         let Checked::Accepted = block else {
             return block;
         };
-        j += 1;
     }
     Checked::Accepted
 }
@@ -77,13 +75,11 @@ fn references_rule(table: &[u8], names: &[u8], references: &[u8], registry: &[u8
         registry.now)) 0 (reference_count references.now) }
 {
     let m = (references.len() / REFERENCE_SIZE) as u64;
-    let mut t = 0;
-    while t < m {
+    for t in 0..m {
         let one = reference_rule(table, names, references, registry, t);
         let Checked::Accepted = one else {
             return one;
         };
-        t += 1;
     }
     Checked::Accepted
 }

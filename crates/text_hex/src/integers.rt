@@ -34,12 +34,10 @@ fn digit_count(store: &[u8], from: usize, width: usize) -> usize
     requires { (0 < width) × (width ≤ 32) × (from + width ≤ length store.now) }
     ensures { result ≡ length (numeral 16 (le_at store.now from width)) }
 {
-    let mut count = 2 * width;
-    while 1 < count {
-        if 0 < digit_at(store, from, count - 1) {
-            return count;
+    for last in (1..2 * width).rev() {
+        if 0 < digit_at(store, from, last) {
+            return last + 1;
         }
-        count -= 1;
     }
     1
 }
@@ -50,11 +48,10 @@ fn put_digits(buffer: &mut [u8], at: usize, store: &[u8], from: usize, width: us
         × (at + length (numeral 16 (le_at store.now from width)) ≤ length buffer.old) }
     ensures { TextPut buffer.old at (numeral 16 (le_at store.now from width)) buffer.new result }
 {
-    let mut left = digit_count(store, from, width);
+    let count = digit_count(store, from, width);
     let mut next = at;
-    while 0 < left {
-        left -= 1;
-        buffer[next] = hex_digit(digit_at(store, from, left));
+    for i in (0..count).rev() {
+        buffer[next] = hex_digit(digit_at(store, from, i));
         next += 1;
     }
     next
@@ -84,12 +81,10 @@ fn negated(store: &[u8], from: usize, width: usize) -> [u8; 32]
 {
     let mut bytes = no_bytes();
     let mut carry = 1;
-    let mut k = 0;
-    while k < width {
+    for k in 0..width {
         let sum = 255 - wide(store[from + k]) + carry;
         bytes[k] = (sum % 256) as u8;
         carry = sum / 256;
-        k += 1;
     }
     bytes
 }

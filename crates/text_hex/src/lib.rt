@@ -28,14 +28,11 @@ fn put_hex(buffer: &mut [u8], at: usize, store: &[u8], from: usize, count: usize
     ensures text_put { TextPut buffer.old at (hex (part store.now from count)) buffer.new result }
     ensures value { result ≡ at + 2 * count }
 {
-    let mut k = 0;
     let mut next = at;
-    while k < count {
-        let byte = store[from + k];
-        buffer[next] = hex_digit(byte / 16);
-        buffer[next + 1] = hex_digit(byte % 16);
+    for byte in &store[from..from + count] {
+        buffer[next] = hex_digit(*byte / 16);
+        buffer[next + 1] = hex_digit(*byte % 16);
         next += 2;
-        k += 1;
     }
     next
 }

@@ -9,10 +9,11 @@ use native.Mathlib.Decide.{dec_lt}
 use borrow.Author.Tests.{ltb-true, lt-ltb, le-ltb, eqb-true, eqb-false}
 use lib.Bits.{bit_and}
 use lib.Dec.{eqb}
-use lib.ListN.{get_or}
+use lib.ListN.{length, get_or}
+use Rattle.std.specs.Bool.{Decides}
 use Rattle.rules.specs.Choice.{all}
 use Rattle.rules.specs.Bytes.{le_at, Bytes}
-use Rattle.rules.proofs.Tests.{all_each, all_true, all_false, all_more, false_not}
+use Rattle.rules.proofs.Tests.{all_each, all_true, all_false, false_not}
 use Rattle.utf8.specs.Ascii.{ascii_at}
 use Rattle.utf8.proofs.Words.{high_bits, none_high, high_none}
 
@@ -52,9 +53,18 @@ module _ (s : List ℕ) where
           let z : at + k ≡ from + (at + k - from) = omega arith in
           rw z (ascii_each from m f (at + k - from) (omega arith))
 
-  pub one_more_lem : (at n : ℕ) → ascii_at s at n ≡ true → get_or s (at + n) 0 < 0x80 → ascii_at s at (n + 1) ≡ true
-  unfolding ascii_at
-  one_more_lem at n e h = all_more _ n e (lt-ltb _ _ h)
+  -- all of a slice, byte by byte
+  pub all_ascii : (r : Bool) → Decides r ((k : ℕ) → k < length s → get_or s k 0 < 0x80) → r ≡ ascii_at s 0 (length s)
+  all_ascii r d = by r (ascii_at s 0 (length s)) refl refl
+    where
+      each : ascii_at s 0 (length s) ≡ true → (k : ℕ) → k < length s → get_or s k 0 < 0x80
+      each e k h = let z : 0 + k ≡ k = omega arith in rw z at (ascii_each 0 (length s) e k h)
+
+      by : (x y : Bool) → r ≡ x → ascii_at s 0 (length s) ≡ y → x ≡ y
+      by false false p q = refl
+      by true true p q = refl
+      by false true p q = sym p ∙ d.1 (each q)
+      by true false p q = sym (sym q ∙ each_ascii 0 (length s) (λ k h. let z : 0 + k ≡ k = omega arith in rw z (d.0 p k h)))
 
   pub nothing : (at n : ℕ) → n ≡ 0 → ascii_at s at n ≡ true
   unfolding ascii_at all

@@ -19,6 +19,7 @@ pub fn ascii_eights(s: &[u8], at: usize, end: usize) -> usize
     requires { (at ≤ end) × (end ≤ length s.now) }
     ensures { Reached s.now at end result }
 {
+    // Counted by hand: where it stops is the answer, and no iterator over eights tells its place in the slice.
     let mut i = at;
     while 8 <= end - i {
         if !eight_ascii(s, i) {
@@ -33,14 +34,7 @@ pub fn ascii_eights(s: &[u8], at: usize, end: usize) -> usize
 fn few_ascii(s: &[u8]) -> bool
     ensures { result ≡ ascii_at s.now 0 (length s.now) }
 {
-    let mut i = 0;
-    while i < s.len() {
-        if 127 < s[i] {
-            return false;
-        }
-        i += 1;
-    }
-    true
+    s.iter().all(|byte| *byte < 128)
 }
 
 // Whether all bytes are ASCII. The last eight are looked at together, though some of them may have been before.

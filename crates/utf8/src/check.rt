@@ -112,6 +112,8 @@ pub fn is_utf8(s: &[u8], start: usize, len: usize) -> bool
 {
     let end = start + len;
     let mut i = ascii_eights(s, start, end);
+
+    // Counted by hand: each turn goes on by as many bytes as its character has.
     while i < end {
         let n = character(s, i, end);
         if n == 0 {

@@ -253,14 +253,12 @@ fn walk_children(
     ensures { result ≡ walk_children (walk_table records.now store (depth - 1) tagged) count p }
 {
     let mut q = p;
-    let mut left = count;
-    while 0 < left {
+    for _ in 0..count {
         let s = walk_value(records, store, depth - 1, tagged, q);
         let Walked::At(next) = s else {
             return s;
         };
         q = next;
-        left -= 1;
     }
     Walked::At(q)
 }

@@ -73,6 +73,7 @@ fn past_trees(records: &[u8], trees: u64, i: usize) -> Viewed
     ensures { result ≡ past_trees records.now (records_from records.now i) trees i }
 {
     let count = records_in(records.len() as u64);
+    // Counted by hand: each record changes how many trees are left.
     let mut at = i;
     let mut left = trees;
     while 0 < left {

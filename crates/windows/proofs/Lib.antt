@@ -1,4 +1,3 @@
 pub mod Moves
-pub mod MovingBytes
 pub mod Steps
 pub mod Streams

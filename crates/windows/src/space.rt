@@ -24,11 +24,7 @@ fn move_bytes(space: &mut [u8], from: usize, to: usize, n: usize)
     requires { (to ≤ from) × (from + n ≤ length space.old) }
     ensures { space.new ≡ over space.old to (part space.old from n) }
 {
-    let mut k = 0;
-    while k < n {
-        space[to + k] = space[from + k];
-        k += 1;
-    }
+    space.copy_within(from..from + n, to);
 }
 
 // The run over the space's window, which ends at `end`.

@@ -1,82 +1,38 @@
--- The table of names has each name at its code; names and wire types name each other.
+-- Names and wire types name each other.
 -- Assumes nothing.
-use Prim.Native.Nat.{ℕ, zero, suc, ◌+◌, ◌-◌, ◌≤◌, ◌<◌}
+use Prim.Native.Nat.{ℕ, ◌+◌, ◌≤◌, ◌<◌}
 use mathlib.Core.Path.{◌≡◌, refl, sym, ap, ◌∙◌}
 use mathlib.Core.Bool.{Bool, true, false}
 use mathlib.Core.List.{List, [], ◌∷◌}
-use native.Mathlib.Omega.{arith}
 use native.Mathlib.Numerals.{add-one}
-use borrow.Author.Tests.{leb-true, eqb-true}
-use lib.Dec.{leb, eqb}
-use lib.ListN.{length, get_or, drop}
+use borrow.Author.Tests.{eqb-true}
+use lib.Dec.{eqb}
+use lib.ListN.{get_or, drop, drop_of_length-le}
+use lib.Seq.{drop-cons}
+use Rattle.std.specs.Bool.{Decides}
 use Rattle.rules.specs.Choice.{pick, ◌and◌, all}
-use Rattle.rules.specs.Bytes.{part, order, is_equal}
-use Rattle.rules.specs.Wire.{wire_types, type_in, type_of, code_of}
+use Rattle.rules.specs.Bytes.{order, is_equal}
+use Rattle.rules.specs.Wire.{wire_types, type_of, code_of}
 use Rattle.rules.specs.Names.{spelling, ascii, name_of, parse_in, parsed}
-use Rattle.rules.specs.declared.answer.Order.{Order}
 use Rattle.rules.specs.declared.wire_type.WireType.{WireType}
 use Rattle.rules.specs.declared.wire_type.WireType.TheVariants.{Nothing}
 use Rattle.rules.specs.declared.wire_type.Known.{Known}
 use Rattle.rules.specs.declared.wire_type.Known.TheVariants.{Wire, Unknown}
-use Rattle.wire.specs.declared.names.Span.{Span}
-use Rattle.wire.specs.Table.{joined_names, names, Spells}
-use Rattle.rules.proofs.Tests.{and_both, all_each}
-use Rattle.rules.proofs.Stands.{part-whole}
-use Rattle.rules.proofs.Orders.{is_equal_lem, order_equal}
-use Rattle.wire.proofs.CodeTable.{type_of_code, code_of_type, code_below, type_at}
+use Rattle.rules.proofs.Tests.{all_each}
+use Rattle.rules.proofs.Orders.{is_equal_lem, order_equal, order_same}
+use Rattle.wire.proofs.CodeTable.{type_of_code, code_below, type_at}
 
--- where each name starts, as the code has it
-abbrev pub starts : List ℕ
-starts = 0 ∷ 7 ∷ 14 ∷ 18 ∷ 23 ∷ 28 ∷ 33 ∷ 39 ∷ 45 ∷ 50 ∷ 56 ∷ 62 ∷ 68 ∷ 74 ∷ 82 ∷ 88 ∷ 96 ∷ 105 ∷ 122 ∷ 140 ∷ 145 ∷ []
-
--- an entry lies in the table, and spells the name of its code
-unfoldable entry_ok : ℕ → Bool
-entry_ok k =
-    leb (get_or starts k 0) (get_or starts (k + 1) 0)
-    and leb (get_or starts (k + 1) 0) (length names)
-    and is_equal (order (part names (get_or starts k 0) (get_or starts (k + 1) 0 - get_or starts k 0)) (name_of (get_or wire_types k Nothing)))
-
--- the whole table, by one computed test
-entries : all entry_ok 20 ≡ true
-unfolding all ◌and◌ entry_ok pick part order is_equal wire_types spelling ascii name_of joined_names names
-entries = refl
-
-module _ (t : WireType) (k : ℕ) (e : k ≡ code_of t) where
-  pub in_order_lem : get_or starts k 0 ≤ get_or starts (k + 1) 0
-  unfolding entry_ok
-  in_order_lem =
-      let ok = and_both _ _ (and_both _ _ (all_each entry_ok 20 k entries (omega (arith, code_below t)))).0 in
-      leb-true (get_or starts k 0) (get_or starts (k + 1) 0) ok.0
-
-  pub spells : Spells (record { start = get_or starts k 0; len = get_or starts (k + 1) 0 - get_or starts k 0 }) (name_of t)
-  unfolding entry_ok
-  spells =
-      let ok = and_both _ _ (all_each entry_ok 20 k entries (omega (arith, code_below t))) in
-      let named : get_or wire_types k Nothing ≡ t = rw e (type_at t Nothing) in
-      record {
-        within = omega (arith, in_order_lem, leb-true (get_or starts (k + 1) 0) (length names) (and_both _ _ ok.0).1);
-        spelled = order_equal _ _ (is_equal_lem _ ok.1) ∙ ap name_of named;
-      }
-
--- a name against a span of the table
-pub named : (name : List ℕ) (t : WireType) (s : Span) (o : Order) → Spells s (name_of t) → o ≡ order (part name 0 (length name)) (part names s.start s.len) → order name (name_of t) ≡ o
-named name t s o h e = rw (← h.spelled, e, part-whole name)
+-- the bytes of a name are a type's name where the two are in no order
+pub same_name : (xs ys : List ℕ) (r : Bool) → Decides r (xs ≡ ys) → r ≡ is_equal (order xs ys)
+unfolding is_equal
+same_name xs ys true d = rw (d.0 refl, order_same ys)
+same_name xs ys false d = by (is_equal (order xs ys)) refl
+  where
+    by : (b : Bool) → is_equal (order xs ys) ≡ b → false ≡ b
+    by false p = refl
+    by true p = d.1 (order_equal xs ys (is_equal_lem _ p))
 
 -- ---- parsing, one wire type after another
-
-parse_step : (ts : List WireType) (name : List ℕ) (k : ℕ) (t : WireType) → type_in ts k ≡ Wire t →
-    parse_in (drop k ts) name ≡ pick (is_equal (order name (name_of t))) (Wire t) (parse_in (drop (suc k) ts) name)
-unfolding type_in parse_in
-parse_step [] name k t e = cc
-parse_step (u ∷ ts) name zero t e = let s : u ≡ t = cc in rw s
-parse_step (u ∷ ts) name (suc k) t e = parse_step ts name k t e
-
-parse_last : (ts : List WireType) (name : List ℕ) (k : ℕ) → type_in ts k ≡ Unknown → parse_in (drop k ts) name ≡ Unknown
-unfolding type_in parse_in
-parse_last [] name zero e = refl
-parse_last [] name (suc k) e = refl
-parse_last (u ∷ ts) name zero e = cc
-parse_last (u ∷ ts) name (suc k) e = parse_last ts name k e
 
 -- what the wire types from a code on come to is what all of them do
 unfoldable pub Left : List ℕ → ℕ → Type 0
@@ -86,23 +42,23 @@ pub left_all : (name : List ℕ) → Left name 0
 unfolding Left parsed
 left_all name = refl
 
-pub left_none : (name : List ℕ) (code : ℕ) (known : Known) → Left name code → known ≡ type_of code → known ≡ Unknown → Unknown ≡ parsed name
-unfolding Left type_of
-left_none name code known left is none = rw (← left, parse_last wire_types name code (sym is ∙ none))
+pub left_none : (name : List ℕ) (code : ℕ) → Left name code → 20 ≤ code → Unknown ≡ parsed name
+unfolding Left parse_in wire_types
+left_none name code left h = let none : drop code wire_types ≡ [] = drop_of_length-le wire_types h in rw none at left
 
 -- the next one has the name or has it not
-module _ (name : List ℕ) (code : ℕ) (known : Known) (t : WireType) (left : Left name code) (is : known ≡ type_of code) (one : known ≡ Wire t) where
-  pub code_small : code < 20
-  code_small = omega (arith, code_below t, code_of_type code t (sym is ∙ one))
+module _ (name : List ℕ) (code : ℕ) (d : WireType) (left : Left name code) (h : code < 20) (b : Bool) (named : b ≡ is_equal (order name (name_of (get_or wire_types code d)))) where
+  step : pick b (Wire (get_or wire_types code d)) (parse_in (drop (code + 1) wire_types) name) ≡ parsed name
+  unfolding Left parse_in wire_types
+  step = let front = drop-cons wire_types code d h in rw (named, add-one) (rw front at left)
 
-  module _ (b : Bool) (named : b ≡ is_equal (order name (name_of t))) where
-    pub left_found : b ≡ true → Wire t ≡ parsed name
-    unfolding Left type_of pick
-    left_found e = rw (← left, parse_step wire_types name code t (sym is ∙ one), ← named, e)
+  pub left_found : b ≡ true → Wire (get_or wire_types code d) ≡ parsed name
+  unfolding pick
+  left_found e = rw e at step
 
-    pub left_next : b ≡ false → Left name (code + 1)
-    unfolding Left type_of pick
-    left_next e = rw (← left, parse_step wire_types name code t (sym is ∙ one), ← named, e, add-one)
+  pub left_next : b ≡ false → Left name (code + 1)
+  unfolding Left pick
+  left_next e = rw e at step
 
 -- ---- a name names the type whose name it is, and no other
 

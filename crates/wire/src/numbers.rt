@@ -49,9 +49,7 @@ fn by_bytes(s: &[u8], at: usize, width: usize) -> u64
     ensures { result ≡ le_at s.now at width }
 {
     let mut v: u64 = 0;
-    let mut k = width;
-    while 0 < k {
-        k -= 1;
+    for k in (0..width).rev() {
         v = v * 256 + wide(s[at + k]);
     }
     v

@@ -6,7 +6,7 @@ use super::codes;
 use rules::{Known, Width, WireType};
 
 // In the order of the wire codes.
-const TYPES: [WireType; 20] = [
+pub(super) const TYPES: [WireType; 20] = [
     WireType::Nothing,
     WireType::Boolean,
     WireType::Int8,

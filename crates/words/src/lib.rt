@@ -18,11 +18,7 @@ fn word_at(table: &[u8], index: usize) -> [u8; 20]
 {
     let from = 20 * index;
     let mut word = [b' '; 20];
-    let mut k = 0;
-    while k < 20 {
-        word[k] = table[from + k];
-        k += 1;
-    }
+    word.copy_from_slice(&table[from..from + 20]);
     word
 }
 

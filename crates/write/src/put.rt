@@ -31,12 +31,10 @@ fn put_bytes(out: &mut [u8], at: usize, width: usize, x: u64)
     requires { at + width ≤ length out.old }
     ensures { out.new ≡ over out.old at (le width x) }
 {
-    let mut k = 0;
     let mut left = x;
-    while k < width {
+    for k in 0..width {
         out[at + k] = (left % 256) as u8;
         left = left / 256;
-        k += 1;
     }
 }
 
@@ -59,7 +57,9 @@ fn put_number(out: &mut [u8], at: usize, width: usize, x: u64)
 
 // ---- nodes without children
 
-// A blob has its length before it, int128 and int256 come from the payload store, and all else from the record.
+// A blob has its length before it, int128 and int256 come from the payload store, and all else from the record. It is compiled into the
+// node step, and that into the children step and into a flat row's loop, so that a leaf costs no call.
+#[inline(always)]
 fn put_leaf(
     code: u8,
     size: u64,
@@ -204,6 +204,7 @@ fn leaf_at(
 
 // A value and all below it, at a node of its kind.
 #[cycle(put_children_put_value)]
+#[inline(always)]
 fn put_value(
     block: &[u8],
     node: usize,
@@ -258,8 +259,7 @@ fn put_children(
         from: p.from,
         to: p.to,
     };
-    let mut i: u64 = 0;
-    while i < size {
+    for i in 0..size {
         let at = q.at;
         let below = value_record_at(records, at);
         let child = child_of(code, first, i, below.tag);
@@ -269,7 +269,6 @@ fn put_children(
             to: put_tag(code, below.tag, out, q.to),
         };
         q = put_value(block, child, depth - 1, records, payload, start, out);
-        i += 1;
     }
     WritePos {
         at: q.at,
@@ -300,81 +299,6 @@ pub fn put_row(block: &[u8], records: &[u8], payload: &[u8], out: &mut [u8], to:
 
 // ---- a flat row
 
-// As `put_leaf`, and as `put_value` below: a column's own, so that each has one caller, is compiled into it, and a leaf of the row costs no
-// call.
-fn put_column_leaf(
-    code: u8,
-    size: u64,
-    content: u64,
-    payload: &[u8],
-    p: WritePos,
-    out: &mut [u8],
-) -> WritePos
-    requires { (code < 15) × (p.at + 1 < 2 ^ 64) × (p.from + leaf_kept code size ≤ length payload.now)
-        × (p.to + leaf_size code size ≤ length out.old) }
-    ensures spot { result ≡ record { at = p.at + 1; from = p.from + leaf_kept code size; to = p.to + leaf_size code size } }
-    ensures out { out.new ≡ over out.old p.to (leaf_bytes payload.now code size content p.from) }
-{
-    let at = p.at;
-    let from = p.from;
-    let to = p.to;
-    if 12 < code {
-        let n = size as usize;
-        put32(out, to, size);
-        copy(payload, from, n, out, to + 4);
-        return WritePos {
-            at: at + 1,
-            from: from + n,
-            to: to + (4 + n),
-        };
-    }
-    let width = code_width(code);
-    if 8 < width {
-        copy_wide(payload, from, width, out, to);
-        return WritePos {
-            at: at + 1,
-            from: from + width,
-            to: to + width,
-        };
-    }
-    put_number(out, to, width, content);
-    WritePos {
-        at: at + 1,
-        from,
-        to: to + width,
-    }
-}
-
-fn put_column(
-    block: &[u8],
-    node: usize,
-    depth: usize,
-    records: &[u8],
-    payload: &[u8],
-    p: WritePos,
-    out: &mut [u8],
-) -> WritePos
-    requires { Writable block.now node depth records.now payload.now p (length out.old) }
-    ensures { Placed block.now node depth records.now payload.now p result out.old out.new }
-{
-    let own = value_record_at(records, p.at);
-    let code = node_code(block, node);
-    let reached = leaf_at(block, node, code, depth, records, payload, own, p, out);
-    match reached {
-        ToPut::Leaf(below, size, content, from) => {
-            put_column_leaf(below, size, content, payload, from, out)
-        }
-        ToPut::Children => {
-            // What a call lends has to lie in memory: copied here, so that a leaf is spared that.
-            let nodes = block;
-            let table = records;
-            let store = payload;
-            let start = p;
-            put_children(nodes, node, code, depth, table, store, start, own.size, out)
-        }
-    }
-}
-
 // A row, as `put_row` puts it, by a loop over its columns: only one that is no leaf takes a children step, and a flat row takes none.
 pub fn put_flat_row(
     block: &[u8],
@@ -397,11 +321,9 @@ pub fn put_flat_row(
         from: 0,
         to: start + 2,
     };
-    let mut i: u64 = 0;
-    while i < size {
+    for i in 0..size {
         let column = (first + i) as usize;
-        q = put_column(block, column, 63, records, payload, q, out);
-        i += 1;
+        q = put_value(block, column, 63, records, payload, q, out);
     }
     q.to
 }

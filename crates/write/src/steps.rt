@@ -66,7 +66,8 @@ pub fn place_row(
     Written::Row(own)
 }
 
-// The same of a row whose columns are mostly leaves. It is apart from the other, so that each has one caller and is compiled into it.
+// The same of a row whose columns are mostly leaves. It is apart from the other, so that each has one caller and is compiled into it: one for
+// both, compiled into two callers, took 2 to 4 instructions more of each 100 that a flat row takes.
 pub fn place_flat_row(
     block: &[u8],
     settings: Settings,

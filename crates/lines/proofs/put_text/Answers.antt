@@ -1,13 +1,11 @@
--- What is left to put, over what is put, is the whole.
--- Assumes nothing.
-use Rattle.lines.proofs.Putting.{puts_none, puts_turn, puts_end}
+use Prim.Native.Nat.{◌+◌, ◌-◌}
+use mathlib.Core.Path.{◌≡◌, refl}
+use native.Mathlib.Omega.{arith}
+use lib.ListN.{length}
+use Rattle.rules.proofs.Slices.{over-mid}
 use Rattle.lines.proofs.put_text.Goals as goal
 
-pub loop-k-init : goal.loop-k-init
-loop-k-init c = puts_none _ _ _
-
-pub loop-k-preserved : goal.loop-k-preserved
-loop-k-preserved c = puts_turn _ _ _ _ _ c.loop-k.invariant c.loop-k-test.true
-
 pub returns : goal.returns
-returns c = puts_end _ _ _ _ _ c.loop-k.invariant c.loop-k-test.false
+returns c =
+    let size : (c.args.at + length c.args.text.now) - c.args.at ≡ length c.args.text.now = omega arith in
+    record { holds = rw (size, c.copy_from_slice.ensures.after) (over-mid _ _ _ _ c.requires refl); ends = refl }

@@ -1,18 +1,11 @@
--- Each byte up to a blank; what is left of the word, over what is put, is the whole.
--- Assumes nothing.
-use native.Mathlib.Omega.{arith}
-use borrow.Author.Rules.{rules}
-use Rattle.lines.proofs.Putting.{puts_word_none, puts_word_turn, puts_word_blank, puts_word_end}
+use mathlib.Core.Path.{◌≡◌}
+use lib.ListN.{take}
+use Rattle.rules.specs.Lines.{word}
+use Rattle.lines.proofs.Putting.{word_take}
 use Rattle.lines.proofs.put_word.Goals as goal
 
-pub loop-k-init : goal.loop-k-init
-loop-k-init c = puts_word_none _ _ _
-
-pub returns-then-byte-eq32 : goal.returns-then-byte-eq32
-returns-then-byte-eq32 c = record { text_put = puts_word_blank _ _ _ _ _ c.loop-k.invariant c.loop-k-test.true (search rules); upper_bound = omega arith }
-
-pub loop-k-preserved : goal.loop-k-preserved
-loop-k-preserved c = puts_word_turn _ _ _ _ _ c.loop-k.invariant c.loop-k-test.true (search rules)
-
-pub returns : goal.returns
-returns c = record { text_put = puts_word_end _ _ _ _ _ c.loop-k.invariant c.loop-k-test.false; upper_bound = omega arith }
+pub returns-clause-text_put : goal.returns-clause-text_put
+returns-clause-text_put c =
+    let n = c.word_length-len.ensures in
+    let is : take c.word_length-len.result c.args.text.now ≡ word c.args.text.now = word_take _ _ n.within n.before n.blank in
+    rw is at c.put_text.ensures

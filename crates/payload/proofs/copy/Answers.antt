@@ -9,30 +9,12 @@ pub loop-k-init : goal.loop-k-init
 unfolding part over
 loop-k-init c = let z : min 0 c.args.n ≡ 0 = omega arith in (refl, rw z)
 
-pub copy_near-k-requires : goal.copy_near-k-requires
-copy_near-k-requires c = let s = c in (omega (arith, s.requires.0, c.if-n-lt8.false), omega (arith, s.requires.1, c.if-n-lt8.false, c.loop-k.invariant.0), omega (arith, s.requires.1, s.well_formed, c.loop-k-test.true))
-
-pub copy_near-k-requires-in-loop-k : goal.copy_near-k-requires-in-loop-k
-copy_near-k-requires-in-loop-k c = let s = c in (omega (arith, s.requires.0, c.if-n-lt8.false), omega (arith, s.requires.1, c.if-n-lt8.false, c.loop-k.invariant.0, c.copy_near-k.auto.payload), omega (arith, s.requires.1, s.well_formed, c.loop-k-test.true, c.copy_near-k.ensures.next))
-
-pub copy_near-k-requires-in-loop-k-2 : goal.copy_near-k-requires-in-loop-k-2
-copy_near-k-requires-in-loop-k-2 c = let s = c in (omega (arith, s.requires.0, c.if-n-lt8.false), omega (arith, s.requires.1, c.if-n-lt8.false, c.loop-k.invariant.0, c.copy_near-k.auto.payload, c.copy_near-k-in-loop-k.auto.payload), omega (arith, s.requires.1, s.well_formed, c.loop-k-test.true, c.copy_near-k.ensures.next, c.copy_near-k-in-loop-k.ensures.next))
-
-pub copy_near-k-requires-in-loop-k-3 : goal.copy_near-k-requires-in-loop-k-3
-copy_near-k-requires-in-loop-k-3 c = let s = c in (omega (arith, s.requires.0, c.if-n-lt8.false), omega (arith, s.requires.1, c.if-n-lt8.false, c.loop-k.invariant.0, c.copy_near-k.auto.payload, c.copy_near-k-in-loop-k.auto.payload, c.copy_near-k-in-loop-k-2.auto.payload), omega (arith, s.requires.1, s.well_formed, c.loop-k-test.true, c.copy_near-k.ensures.next, c.copy_near-k-in-loop-k.ensures.next, c.copy_near-k-in-loop-k-2.ensures.next))
-
-pub loop-k-smaller : goal.loop-k-smaller
-loop-k-smaller c = omega (arith, c.loop-k-test.true, c.copy_near-k.ensures.next, c.copy_near-k-in-loop-k.ensures.next, c.copy_near-k-in-loop-k-2.ensures.next, c.copy_near-k-in-loop-k-3.ensures.next)
-
 pub loop-k-preserved : goal.loop-k-preserved
 loop-k-preserved c = let n = c.args.n in
     let all : (n - 8) + 8 ≡ n = omega (arith, c.if-n-lt8.false) in (
       c.copy_near-k-in-loop-k-3.auto.payload ∙ c.copy_near-k-in-loop-k-2.auto.payload ∙ c.copy_near-k-in-loop-k.auto.payload ∙ c.copy_near-k.auto.payload ∙ c.loop-k.invariant.0,
       near_step _ _ _ _ _ _ 8 _ all _ _ (near_step _ _ _ _ _ _ 8 _ all _ _ (near_step _ _ _ _ _ _ 8 _ all _ _ (near_step _ _ _ _ _ _ 8 _ all _ _ c.loop-k.invariant.1 c.copy_near-k.ensures.payload _ c.copy_near-k.ensures.next) c.copy_near-k-in-loop-k.ensures.payload _ c.copy_near-k-in-loop-k.ensures.next) c.copy_near-k-in-loop-k-2.ensures.payload _ c.copy_near-k-in-loop-k-2.ensures.next) c.copy_near-k-in-loop-k-3.ensures.payload _ c.copy_near-k-in-loop-k-3.ensures.next,
     )
-
-pub copy_word-requires : goal.copy_word-requires
-copy_word-requires c = let s = c in (omega (arith, s.requires.0, c.if-n-lt8.false), omega (arith, s.requires.1, c.if-n-lt8.false, c.loop-k.invariant.0))
 
 pub shape_of-payload : goal.shape_of-payload
 shape_of-payload c = c.copy_word.auto.payload ∙ c.loop-k.invariant.0

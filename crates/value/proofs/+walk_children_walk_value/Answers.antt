@@ -1,30 +1,21 @@
 use Rattle.value.proofs.Walks.{children_none, children_break, children_on, walk_ends}
 use native.Mathlib.Omega.{arith}
-use mathlib.Core.Path.{refl, sym, ◌∙◌}
+use native.Mathlib.Nat.{sub-zero}
+use mathlib.Core.Path.{sym, ◌≡◌, ◌∙◌}
 use lib.ListN.{length}
 use Rattle.rules.specs.ValueRecord.{value_records_in}
 use Rattle.value.proofs.Walks.{walk_none, walk_out, walk_bad, walk_scalar, scalar_ends, walk_parent, walk_variant}
-use Prim.Native.Nat.{◌<◌}
-use mathlib.Core.Path.{sym, ◌∙◌}
+use Prim.Native.Nat.{◌+◌, ◌-◌, ◌<◌}
 use Rattle.value.proofs.+walk_children_walk_value.Goals as goal
 
-pub walk_children-loop-left-init : goal.walk_children-loop-left-init
-walk_children-loop-left-init t c = (c.requires.1, refl)
-
-pub walk_children-walk_value-s-requires : goal.walk_children-walk_value-s-requires
-walk_children-walk_value-s-requires t c = (omega (arith, c.decreases, c.requires.0), c.loop-left.invariant.0)
-
 pub walk_children-returns-in_default : goal.walk_children-returns-in_default
-walk_children-returns-in_default t c = children_break _ _ _ _ c.loop-left-test.true c.walk_value-s.ensures c.in_default.is ∙ c.loop-left.invariant.1
+walk_children-returns-in_default t c = children_break _ _ _ _ (omega (arith, c.loop-test.true)) c.walk_value-s.ensures c.in_default.is ∙ c.loop.invariant.1
 
-pub walk_children-loop-left-smaller : goal.walk_children-loop-left-smaller
-walk_children-loop-left-smaller t c = omega (arith, c.loop-left-test.true)
-
-pub walk_children-loop-left-preserved : goal.walk_children-loop-left-preserved
-walk_children-loop-left-preserved t c = (walk_ends _ _ _ _ _ _ _ c.loop-left.invariant.0 c.walk_value-s.ensures c.in-At.is, children_on _ _ _ _ _ c.loop-left-test.true c.walk_value-s.ensures c.in-At.is ∙ c.loop-left.invariant.1)
+pub walk_children-loop-preserved : goal.walk_children-loop-preserved
+walk_children-loop-preserved t c = (walk_ends _ _ _ _ _ _ _ c.loop.invariant.0 c.walk_value-s.ensures c.in-At.is, let left : c.args.count - (c.loop.counter + 1) ≡ c.args.count - c.loop.counter - 1 = omega arith in rw left (children_on _ _ _ _ _ (omega (arith, c.loop-test.true)) c.walk_value-s.ensures c.in-At.is) ∙ c.loop.invariant.1)
 
 pub walk_children-returns : goal.walk_children-returns
-walk_children-returns t c = sym (children_none _ _ _ c.loop-left-test.false) ∙ c.loop-left.invariant.1
+walk_children-returns t c = sym (children_none _ _ _ (omega (arith, c.loop-test.false))) ∙ c.loop.invariant.1
 
 pub walk_value-returns-then-depth-eq0 : goal.walk_value-returns-then-depth-eq0
 walk_value-returns-then-depth-eq0 t c = walk_none _ _ _ _ _ (omega (arith, c.if-depth-eq0.true))
@@ -48,16 +39,10 @@ walk_value-returns-then-kind-lt15 t c = let positive_here : 0 < c.args.depth = o
     let inside_here : let s = c.args in s.p.at < value_records_in (length s.records.now) = omega (arith, c.records_in.ensures, c.if-records_in-at.false) in
     walk_scalar _ _ _ _ _ (positive_here) (inside_here) _ c.value_record_at-r.ensures _ c.record_ok.ensures (c.if-not-record_ok.false) c.if-kind-lt15.true
 
-pub walk_value-walk_scalar-leaf-requires : goal.walk_value-walk_scalar-leaf-requires
-walk_value-walk_scalar-leaf-requires t c = c.requires
-
 pub walk_value-returns-in-At : goal.walk_value-returns-in-At
 walk_value-returns-in-At t c = let positive_here : 0 < c.args.depth = omega (arith, c.if-depth-eq0.false) in
     let inside_here : let s = c.args in s.p.at < value_records_in (length s.records.now) = omega (arith, c.records_in.ensures, c.if-records_in-at.false) in
     walk_variant _ _ _ _ _ (positive_here) (inside_here) _ c.value_record_at-r.ensures _ c.record_ok.ensures (c.if-not-record_ok.false) c.if-kind-eq15.true _ _ (c.walk_scalar-leaf.ensures _ c.in-At.is) c.in-At.is
-
-pub walk_value-walk_children-s-requires : goal.walk_value-walk_children-s-requires
-walk_value-walk_children-s-requires t c = (omega (arith, c.decreases), (omega (arith, c.if-depth-eq0.false), c.requires))
 
 pub walk_value-returns-in_default-s : goal.walk_value-returns-in_default-s
 walk_value-returns-in_default-s t c = let positive_here : 0 < c.args.depth = omega (arith, c.if-depth-eq0.false) in

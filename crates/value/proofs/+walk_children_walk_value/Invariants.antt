@@ -9,11 +9,8 @@ abbrev pub decreases-walk_children : goal.decreases-walk_children
 decreases-walk_children l = 2 * l.depth
 
 -- what is left of the children, from here, comes to the whole
-abbrev pub invariant-walk_children-loop-left : goal.invariant-walk_children-loop-left
-invariant-walk_children-loop-left l = (l.q.from ≤ l.store) × (walk_children (walk_table l.records l.store (l.depth - 1) l.tagged) l.left l.q ≡ walk_children (walk_table l.records l.store (l.depth - 1) l.tagged) l.count l.initial.q)
-
-abbrev pub decreases-walk_children-loop-left : goal.decreases-walk_children-loop-left
-decreases-walk_children-loop-left l = l.left
+abbrev pub invariant-walk_children-loop : goal.invariant-walk_children-loop
+invariant-walk_children-loop l = (l.q.from ≤ l.store) × (walk_children (walk_table l.records l.store (l.depth - 1) l.tagged) (l.count - l.counter) l.q ≡ walk_children (walk_table l.records l.store (l.depth - 1) l.tagged) l.count l.initial.q)
 
 abbrev pub decreases-walk_value : goal.decreases-walk_value
 decreases-walk_value l = 2 * l.depth + 1

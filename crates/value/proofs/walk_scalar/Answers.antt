@@ -5,18 +5,6 @@ use Rattle.rules.specs.ValueRecord.{value_records_in}
 use Rattle.value.proofs.Walks.{broken_not, walk_scalar, scalar_ends}
 use Rattle.value.proofs.walk_scalar.Goals as goal
 
-pub returns-then-depth-eq0 : goal.returns-then-depth-eq0
-returns-then-depth-eq0 c = broken_not
-
-pub returns-then-records_in-at : goal.returns-then-records_in-at
-returns-then-records_in-at c = broken_not
-
-pub returns-then-r-gt14 : goal.returns-then-r-gt14
-returns-then-r-gt14 c = broken_not
-
-pub returns-then-not-record_ok : goal.returns-then-not-record_ok
-returns-then-not-record_ok c = broken_not
-
 pub overflow_add-result-2 : goal.overflow_add-result-2
 overflow_add-result-2 c = let positive_here : 0 < c.args.depth = omega (arith, c.if-depth-eq0.false) in
     let inside_here : let s = c.args in s.p.at < value_records_in (length s.records.now) = omega (arith, c.records_in.ensures, c.if-records_in-at.false) in

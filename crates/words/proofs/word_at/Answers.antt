@@ -1,14 +1,6 @@
--- What is left to copy, over what is copied, is the word.
--- Assumes nothing.
-use mathlib.Core.Path.{refl}
-use Rattle.words.proofs.Tables.{copied_none, copied_turn, copied_end}
+use mathlib.Core.Path.{refl, ◌∙◌}
+use Rattle.rules.proofs.Slices.{part-between}
 use Rattle.words.proofs.word_at.Goals as goal
 
-pub loop-k-init : goal.loop-k-init
-loop-k-init c = copied_none _ _ _ _ refl
-
-pub loop-k-preserved : goal.loop-k-preserved
-loop-k-preserved c = copied_turn _ _ _ _ _ _ c.loop-k.invariant c.loop-k-test.true
-
 pub returns : goal.returns
-returns c = (copied_end _ _ _ _ _ _ c.loop-k.invariant c.loop-k-test.false refl, c.loop-k.invariant.size)
+returns c = (c.copy_from_slice.ensures.after ∙ part-between _ _ _ 20 refl c.requires, c.copy_from_slice.ensures.len)

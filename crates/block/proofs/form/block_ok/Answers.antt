@@ -17,30 +17,20 @@ returns-then-m-gt131072 c = rw (eq-eqb _ _ c.if-s-ne0.false, lt-leb _ _ c.if-m-g
 
 pub loop-i-init : goal.loop-i-init
 unfolding earlier all
-loop-i-init c = (omega arith, (refl, refl))
-
-pub node_at-n-requires : goal.node_at-n-requires
-node_at-n-requires c = omega arith
+loop-i-init c = (refl, refl)
 
 pub returns-then-not-node_ok : goal.returns-then-not-node_ok
 unfolding block_ok ◌and◌
-returns-then-not-node_ok c = let told_here : record_at c.args.s.now c.args.store c.loop-i.i ≡ c.node_ok.result = record_at_lem _ _ _ _ _ c.node_at-n.ensures c.loop-i.invariant.1.0 _ c.node_ok.ensures in
-    let l = c in
-    rw (eq-eqb _ _ l.if-s-ne0.false, le-leb _ _ l.if-m-gt131072.false, all_false _ _ _ (told_here ∙ c.if-not-node_ok.true) c.loop-i-test.true)
+returns-then-not-node_ok c = let told_here : record_at c.args.s.now c.args.store c.loop-i.i ≡ c.node_ok.result = record_at_lem _ _ _ _ _ c.node_at-n.ensures c.loop-i.invariant.0 _ c.node_ok.ensures in
+    rw (eq-eqb _ _ c.if-s-ne0.false, le-leb _ _ c.if-m-gt131072.false, all_false _ _ _ (told_here ∙ c.if-not-node_ok.true) c.loop-i-test.true)
 
 pub overflow_add-next : goal.overflow_add-next
-overflow_add-next c = let h = next_fits _ (λ j. omega (arith, c.type_inv.s j)) c.loop-i.i c.loop-i.next _ c.node_at-n.ensures c.loop-i.invariant.1.0 (omega arith) in
+overflow_add-next c = let h = next_fits _ (λ j. omega (arith, c.type_inv.s j)) c.loop-i.i c.loop-i.next _ c.node_at-n.ensures c.loop-i.invariant.0 (omega arith) in
     omega (arith, h)
 
-pub overflow_add-i : goal.overflow_add-i
-overflow_add-i c = omega arith
-
-pub loop-i-smaller : goal.loop-i-smaller
-loop-i-smaller c = omega arith
-
 pub loop-i-preserved : goal.loop-i-preserved
-loop-i-preserved c = let told_here : record_at c.args.s.now c.args.store c.loop-i.i ≡ c.node_ok.result = record_at_lem _ _ _ _ _ c.node_at-n.ensures c.loop-i.invariant.1.0 _ c.node_ok.ensures in
-    (omega arith, (next_suc _ _ _ _ c.node_at-n.ensures c.loop-i.invariant.1.0, all_more _ _ c.loop-i.invariant.1.1 (told_here ∙ c.if-not-node_ok.false)))
+loop-i-preserved c = let told_here : record_at c.args.s.now c.args.store c.loop-i.i ≡ c.node_ok.result = record_at_lem _ _ _ _ _ c.node_at-n.ensures c.loop-i.invariant.0 _ c.node_ok.ensures in
+    (next_suc _ _ _ _ c.node_at-n.ensures c.loop-i.invariant.0, all_more _ _ c.loop-i.invariant.1 (told_here ∙ c.if-not-node_ok.false))
 
 pub returns : goal.returns
-returns c = block_ends _ _ _ _ c.if-s-ne0.false c.if-m-gt131072.false (omega (arith, c.loop-i.invariant.0, c.loop-i-test.false)) c.loop-i.invariant.1.0 c.loop-i.invariant.1.1
+returns c = block_ends _ _ _ _ c.if-s-ne0.false c.if-m-gt131072.false (omega (arith, c.loop-i.auto.i-end, c.loop-i-test.false)) c.loop-i.invariant.0 c.loop-i.invariant.1

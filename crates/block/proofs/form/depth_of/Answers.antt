@@ -9,36 +9,21 @@ use Rattle.block.proofs.form.depth_of.Goals.{then-i-edge, else-i-edge}
 
 pub loop-i-init : goal.loop-i-init
 unfolding earlier
-loop-i-init c = (omega arith, (refl, spot_first _))
-
-pub overflow_add-depth : goal.overflow_add-depth
-overflow_add-depth c = omega (arith, c.loop-i.invariant.1.1.few)
-
-pub node_at-n-requires : goal.node_at-n-requires
-node_at-n-requires c = omega arith
+loop-i-init c = (refl, spot_first _)
 
 pub overflow_add-next : goal.overflow_add-next
-overflow_add-next c = let h = next_fits _ (λ j. omega (arith, c.type_inv.s j)) c.loop-i.i c.loop-i.next _ c.node_at-n.ensures c.loop-i.invariant.1.0 (omega (arith, c.requires.most)) in
+overflow_add-next c = let h = next_fits _ (λ j. omega (arith, c.type_inv.s j)) c.loop-i.i c.loop-i.next _ c.node_at-n.ensures c.loop-i.invariant.0 (omega (arith, c.requires.most)) in
     omega (arith, h)
-
-pub overflow_add-i : goal.overflow_add-i
-overflow_add-i c = omega arith
-
-pub loop-i-smaller : goal.loop-i-smaller
-loop-i-smaller c = omega arith
 
 pub loop-i-preserved : goal.loop-i-preserved
 loop-i-preserved c = (
-  omega arith,
-  (
-    next_suc _ _ _ _ c.node_at-n.ensures c.loop-i.invariant.1.0,
-    elim c.if-i-edge.branch [
-      | then-i-edge w ↦ spot_next _ c.requires _ _ _ _ _ _ c.loop-i-test.true c.loop-i.invariant.1.0 c.loop-i.invariant.1.1 w.if-i-edge.true w.edge-is w.depth-is
-      | else-i-edge w ↦ spot_same _ _ _ _ _ _ c.loop-i.invariant.1.1 w.if-i-edge.false w.edge-is w.depth-is
-    ],
-  ),
+  next_suc _ _ _ _ c.node_at-n.ensures c.loop-i.invariant.0,
+  elim c.if-i-edge.branch [
+    | then-i-edge w ↦ spot_next _ c.requires _ _ _ _ _ _ c.loop-i-test.true c.loop-i.invariant.0 c.loop-i.invariant.1 w.if-i-edge.true w.edge-is w.depth-is
+    | else-i-edge w ↦ spot_same _ _ _ _ _ _ c.loop-i.invariant.1 w.if-i-edge.false w.edge-is w.depth-is
+  ],
 )
 
 pub returns : goal.returns
 unfolding depth_of
-returns c = spot_last _ [] c.requires _ _ _ (omega (arith, c.loop-i.invariant.0, c.loop-i-test.false)) c.loop-i.invariant.1.1
+returns c = spot_last _ [] c.requires _ _ _ (omega (arith, c.loop-i.auto.i-end, c.loop-i-test.false)) c.loop-i.invariant.1

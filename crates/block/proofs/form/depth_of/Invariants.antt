@@ -1,11 +1,8 @@
-use Prim.Native.Nat.{◌+◌, ◌-◌, ◌≤◌}
+use Prim.Native.Nat.{◌+◌}
 use mathlib.Core.Path.{◌≡◌}
 use Rattle.rules.specs.Block.{earlier}
 use Rattle.block_laws.proofs.Levels.{LevelSpot}
 use Rattle.block.proofs.form.depth_of.Given as goal
 
 abbrev pub invariant-loop-i : goal.invariant-loop-i
-invariant-loop-i l = (l.i ≤ l.m) × ((l.next ≡ 1 + earlier l.s l.i) × LevelSpot l.s l.i l.edge l.depth)
-
-abbrev pub decreases-loop-i : goal.decreases-loop-i
-decreases-loop-i l = l.m - l.i
+invariant-loop-i l = (l.next ≡ 1 + earlier l.s l.i) × LevelSpot l.s l.i l.edge l.depth

@@ -1,20 +1,20 @@
-use borrow.Author.Tests.{eq-eqb, ne_eqb}
+use native.Mathlib.Omega.{arith}
 use Rattle.rules.specs.Choice.{pick, ◌and◌}
 use Rattle.rules.specs.Block.{name_ok}
 use Rattle.block.proofs.form.name_ok.Goals as goal
 
 pub returns-then-len-eq0 : goal.returns-then-len-eq0
 unfolding name_ok pick ◌and◌
-returns-then-len-eq0 c = rw (eq-eqb _ _ c.if-named-eq0.true, eq-eqb _ _ c.if-len-eq0.true)
+returns-then-len-eq0 c = grind arith
 
-pub returns-then-named-eq0 : goal.returns-then-named-eq0
+pub returns-else-len-eq0 : goal.returns-else-len-eq0
 unfolding name_ok pick ◌and◌
-returns-then-named-eq0 c = rw (eq-eqb _ _ c.if-named-eq0.true, ne_eqb _ _ c.if-len-eq0.false)
+returns-else-len-eq0 c = grind arith
 
-pub returns-then-named-eq1 : goal.returns-then-named-eq1
+pub returns-in-1 : goal.returns-in-1
 unfolding name_ok pick ◌and◌
-returns-then-named-eq1 c = rw (ne_eqb _ _ c.if-named-eq0.false, eq-eqb _ _ c.if-named-eq1.true) c.span_ok.ensures
+returns-in-1 c = grind arith
 
-pub returns : goal.returns
+pub returns-in_default : goal.returns-in_default
 unfolding name_ok pick ◌and◌
-returns c = rw (ne_eqb _ _ c.if-named-eq0.false, ne_eqb _ _ c.if-named-eq1.false)
+returns-in_default c = grind arith

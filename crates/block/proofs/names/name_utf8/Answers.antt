@@ -1,15 +1,12 @@
-use borrow.Author.Tests.{eq-eqb, ne_eqb}
+use native.Mathlib.Omega.{arith}
 use Rattle.rules.specs.Choice.{pick}
 use Rattle.rules.specs.Block.{name_in, is_name_utf8}
 use Rattle.block.proofs.names.name_utf8.Goals as goal
 
-pub is_utf8-requires : goal.is_utf8-requires
-is_utf8-requires c = c.requires c.if-named-eq1.true
-
-pub returns-then-named-eq1 : goal.returns-then-named-eq1
+pub returns-then-named-ne1 : goal.returns-then-named-ne1
 unfolding name_in is_name_utf8 pick
-returns-then-named-eq1 c = rw (eq-eqb _ _ c.if-named-eq1.true) c.is_utf8.ensures
+returns-then-named-ne1 c = grind arith
 
-pub returns : goal.returns
+pub returns-else-named-ne1 : goal.returns-else-named-ne1
 unfolding name_in is_name_utf8 pick
-returns c = rw (ne_eqb _ _ c.if-named-eq1.false)
+returns-else-named-ne1 c = grind arith

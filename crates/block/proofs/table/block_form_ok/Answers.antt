@@ -1,16 +1,12 @@
-use mathlib.Core.Path.{sym, ◌∙◌}
-use borrow.Author.Tests.{leb-true}
+use native.Mathlib.Omega.{arith}
 use Rattle.rules.specs.Choice.{◌and◌}
 use Rattle.rules.specs.Format.{block_form_ok}
 use Rattle.block.proofs.table.block_form_ok.Goals as goal
 
-pub returns-then-not-span_ok : goal.returns-then-not-span_ok
+pub returns-then-span_ok : goal.returns-then-span_ok
 unfolding block_form_ok ◌and◌
-returns-then-not-span_ok c = rw (← c.span_ok.ensures, c.if-not-span_ok.true)
+returns-then-span_ok c = grind arith
 
-pub block_of-requires : goal.block_of-requires
-block_of-requires c = leb-true _ _ (sym c.span_ok.ensures ∙ c.if-not-span_ok.false)
-
-pub returns : goal.returns
+pub returns-else-span_ok : goal.returns-else-span_ok
 unfolding block_form_ok ◌and◌
-returns c = rw (← c.span_ok.ensures, c.if-not-span_ok.false, ← c.block_of.ensures) c.block_ok.ensures
+returns-else-span_ok c = grind arith

@@ -1,4 +1,4 @@
-use Prim.Native.Nat.{◌+◌, ◌-◌, ◌≤◌}
+use Prim.Native.Nat.{◌+◌, ◌-◌}
 use mathlib.Core.Path.{◌≡◌}
 use Rattle.rules.specs.Refusals.{in_order}
 use Rattle.rules.specs.SchemaRules.{schema_rule}
@@ -9,7 +9,4 @@ decreases-validate l = l.depth
 
 -- what is left comes to the whole
 abbrev pub invariant-loop-k : goal.invariant-loop-k
-invariant-loop-k l = (l.k ≤ l.children) × (in_order (schema_rule l.s l.base (l.depth - 1)) (l.first + l.k) (l.children - l.k) ≡ schema_rule l.s l.base l.depth l.i)
-
-abbrev pub decreases-loop-k : goal.decreases-loop-k
-decreases-loop-k l = l.children - l.k
+invariant-loop-k l = in_order (schema_rule l.s l.base (l.depth - 1)) (l.first + l.k) (l.children - l.k) ≡ schema_rule l.s l.base l.depth l.i

@@ -1,4 +1,4 @@
-use Prim.Native.Nat.{◌+◌, ◌-◌, ◌≤◌}
+use Prim.Native.Nat.{◌+◌, ◌-◌}
 use mathlib.Core.Path.{◌≡◌}
 use mathlib.Core.Bool.{true}
 use Rattle.rules.specs.Choice.{all}
@@ -9,7 +9,4 @@ use Rattle.block.proofs.validation.passes.Given as goal
 
 -- the records before passed the form, and what is left of the rules comes to the whole
 abbrev pub invariant-loop-i : goal.invariant-loop-i
-invariant-loop-i l = (l.i ≤ l.m) × ((l.next ≡ 1 + earlier l.s l.i) × ((all (record_at l.s l.store) l.i ≡ true) × (in_order (rule_at l.s l.base) (0 + l.i) (l.m - l.i) ≡ in_order (rule_at l.s l.base) 0 l.m)))
-
-abbrev pub decreases-loop-i : goal.decreases-loop-i
-decreases-loop-i l = l.m - l.i
+invariant-loop-i l = (l.next ≡ 1 + earlier l.s l.i) × ((all (record_at l.s l.store) l.i ≡ true) × (in_order (rule_at l.s l.base) (0 + l.i) (l.m - l.i) ≡ in_order (rule_at l.s l.base) 0 l.m))

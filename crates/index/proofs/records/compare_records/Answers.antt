@@ -27,12 +27,6 @@ overflow_add-at c = let g = turn_goes _ _ _ (λ j. omega (arith, c.type_inv.inpu
     let h = turn_short _ _ _ (λ j. omega (arith, c.type_inv.input j)) c.requires.ended _ _ c.loop-i.invariant.passing (inr (omega (arith, c.loop-i-test.true, c.requires.few))) _ c.row_at-read.ensures _ c.in-Row.is in
     omega (arith, g, h)
 
-pub overflow_add-i : goal.overflow_add-i
-overflow_add-i c = omega (arith, c.loop-i-test.true, c.ranges.count)
-
-pub loop-i-smaller : goal.loop-i-smaller
-loop-i-smaller c = omega (arith, c.loop-i-test.true)
-
 pub loop-i-preserved : goal.loop-i-preserved
 loop-i-preserved c = comparing_on _ _ _ (λ j. omega (arith, c.type_inv.input j)) c.requires.ended _ _ (λ j. omega (arith, c.type_inv.index j)) c.requires.few c.requires.within _ _ c.loop-i.invariant c.loop-i-test.true _ c.row_at-read.ensures _ c.in-Row.is (told_same _ _ _ _ (ap not c.if-not-same_span.false) c.same_span.ensures c.index_record_at.ensures)
 

@@ -3,12 +3,6 @@ use Rattle.judge.proofs.Once.{later_not}
 use Rattle.judge.proofs.Columns.{reached_only, column_seen}
 use Rattle.judge.proofs.flat.column_fits.Goals as goal
 
-pub returns-then-records_in-p : goal.returns-then-records_in-p
-returns-then-records_in-p c = λ q e. later_not q e
-
-pub column_leaf-reached-requires : goal.column_leaf-reached-requires
-column_leaf-reached-requires c = (c.requires, omega (arith, c.records_in.ensures, c.if-records_in-p.false))
-
 pub value_record_at-own-requires : goal.value_record_at-own-requires
 value_record_at-own-requires c = (reached_only _ _ _ _ _ _ c.column_leaf-reached.ensures _ _ _ c.in-Leaf.is).there
 
@@ -19,6 +13,3 @@ leaf_fits-requires c = let o = reached_only _ _ _ _ _ _ c.column_leaf-reached.en
 
 pub returns-in-Leaf : goal.returns-in-Leaf
 returns-in-Leaf c = λ q e. column_seen _ _ _ _ _ _ c.column_leaf-reached.ensures _ _ _ c.in-Leaf.is _ c.value_record_at-own.ensures _ q (c.leaf_fits.ensures q e)
-
-pub returns-in-Other : goal.returns-in-Other
-returns-in-Other c = λ q e. later_not q e

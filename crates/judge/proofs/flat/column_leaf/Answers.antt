@@ -26,9 +26,6 @@ pub returns-then-records_in-at : goal.returns-then-records_in-at
 unfolding LeadsToLeaf
 returns-then-records_in-at c = tt
 
-pub node_children-count-requires : goal.node_children-count-requires
-node_children-count-requires c = c.requires.0.inside
-
 pub next_child-pick-requires : goal.next_child-pick-requires
 next_child-pick-requires c = let below_here : let s = c.args in ValueRecordIn (s.p.at + 1) (length s.records.now) = omega (arith, c.records_in.ensures, c.if-records_in-at.false) in
     tag_asks _ _ _ _ _ c.requires.0 c.requires.1 _ c.node_code-code.ensures c.if-code-lt15.false c.if-code-gt16.false _ c.value_record_at-own.ensures c.if-own-ne15.false _ c.record_ok.ensures (c.if-not-record_ok.false) (below_here) _ c.value_record_at-below.ensures _ _ c.node_first-first.ensures c.node_children-count.ensures (omega (arith, c.well_formed))

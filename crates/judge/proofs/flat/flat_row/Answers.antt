@@ -4,23 +4,11 @@ use Rattle.judge.proofs.Once.{later_not}
 use Rattle.judge.proofs.Columns.{row_said_lem, along_first, column_in, column_flat, along_next, row_seen}
 use Rattle.judge.proofs.flat.flat_row.Goals as goal
 
-pub returns-then-not-whole_records : goal.returns-then-not-whole_records
-returns-then-not-whole_records c = λ q e. later_not q e
-
-pub returns-then-total-eq0 : goal.returns-then-total-eq0
-returns-then-total-eq0 c = λ q e. later_not q e
-
 pub value_record_at-own-requires : goal.value_record_at-own-requires
 value_record_at-own-requires c = omega (arith, c.records_in-total.ensures, c.if-total-eq0.false)
 
-pub returns-then-own-ne17 : goal.returns-then-own-ne17
-returns-then-own-ne17 c = λ q e. later_not q e
-
 pub returns-then-not-record_ok : goal.returns-then-not-record_ok
 returns-then-not-record_ok c = λ q e. later_not q e
-
-pub returns-then-own-count : goal.returns-then-own-count
-returns-then-own-count c = λ q e. later_not q e
 
 pub loop-i-init : goal.loop-i-init
 loop-i-init c = along_first _ _ _ c.requires _ _ c.value_record_at-own.ensures c.if-own-ne17.false _ _ c.node_first-first.ensures c.node_children-count.ensures c.if-own-count.false
@@ -34,20 +22,8 @@ column_fits-s-requires c = column_flat _ _ _ c.requires _ _ c.value_record_at-ow
 pub returns-in_default : goal.returns-in_default
 returns-in_default c = λ q e. later_not q e
 
-pub overflow_add-i : goal.overflow_add-i
-overflow_add-i c = omega (arith, c.loop-i-test.true, c.well_formed)
-
-pub loop-i-smaller : goal.loop-i-smaller
-loop-i-smaller c = omega (arith, c.loop-i-test.true)
-
 pub loop-i-preserved : goal.loop-i-preserved
 loop-i-preserved c = along_next _ _ _ c.requires _ _ c.value_record_at-own.ensures c.if-own-ne17.false _ _ c.node_first-first.ensures c.node_children-count.ensures c.if-own-count.false c.loop-i.invariant c.loop-i-test.true _ (c.column_fits-s.ensures _ c.in-Fits.is)
-
-pub returns-then-q-total : goal.returns-then-q-total
-returns-then-q-total c = λ q e. later_not q e
-
-pub returns-then-q-payload : goal.returns-then-q-payload
-returns-then-q-payload c = λ q e. later_not q e
 
 pub returns : goal.returns
 returns c = λ q e.

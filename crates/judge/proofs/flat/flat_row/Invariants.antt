@@ -1,10 +1,6 @@
-use Prim.Native.Nat.{◌-◌}
 use Rattle.rules.specs.Reading.{limits}
 use Rattle.judge.proofs.Columns.{Along}
 use Rattle.judge.proofs.flat.flat_row.Given as goal
 
 abbrev pub invariant-loop-i : goal.invariant-loop-i
 invariant-loop-i l = Along l.block l.records l.payload (limits l.settings) l.count l.q l.i
-
-abbrev pub decreases-loop-i : goal.decreases-loop-i
-decreases-loop-i l = l.count - l.i

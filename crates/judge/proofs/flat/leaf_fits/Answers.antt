@@ -6,9 +6,6 @@ use Rattle.judge.proofs.Once.{later_not}
 use Rattle.judge.proofs.Columns.{leaf_said}
 use Rattle.judge.proofs.flat.leaf_fits.Goals as goal
 
-pub returns-then-own-code : goal.returns-then-own-code
-returns-then-own-code c = λ q e. later_not q e
-
 pub returns-then-not-record_ok : goal.returns-then-not-record_ok
 returns-then-not-record_ok c = λ q e. later_not q e
 
@@ -22,9 +19,6 @@ returns-in_default c = λ q e. later_not q e
 pub overflow_add-p : goal.overflow_add-p
 overflow_add-p c = let inside_here : let s = c.args in s.p.from + s.own.size ≤ s.store = record_in _ _ _ _ c.requires.3 (omega (arith, c.if-own-code.false, c.requires.0)) (sym c.record_ok.ensures ∙ c.if-not-record_ok.false) in
     omega (arith, inside_here, c.requires.1)
-
-pub returns-then-q-p : goal.returns-then-q-p
-returns-then-q-p c = λ q e. later_not q e
 
 pub returns : goal.returns
 returns c = λ q e.

@@ -37,17 +37,8 @@ judge_children-judge_value-j-requires t c = (omega (arith, c.decreases, whole_de
 pub judge_children-returns-in_default-j : goal.judge_children-returns-in_default-j
 judge_children-returns-in_default-j t c = c.judged_refused_by_child.ensures _ c.in_default-j.is ∙ no_child_fits _ _ _ _ _ _ _ c.requires.0 _ _ c.requires.1 _ _ c.node_first-first.ensures c.node_children-count.ensures _ c.count_fits.ensures (c.if-not-count_fits.false) c.loop-i.invariant c.loop-i-test.true _ c.value_record_at-below.ensures _ c.next_child-pick.ensures _ _ c.in-Child.is _ c.judge_value-j.ensures _ c.in_default-j.is
 
-pub judge_children-overflow_add-i : goal.judge_children-overflow_add-i
-judge_children-overflow_add-i t c = omega (arith, c.loop-i-test.true, c.ranges)
-
-pub judge_children-loop-i-smaller : goal.judge_children-loop-i-smaller
-judge_children-loop-i-smaller t c = omega (arith, c.loop-i-test.true)
-
 pub judge_children-loop-i-preserved : goal.judge_children-loop-i-preserved
 judge_children-loop-i-preserved t c = goes_on_lem _ _ _ _ _ _ _ c.requires.0 _ _ c.requires.1 _ _ c.node_first-first.ensures c.node_children-count.ensures _ c.count_fits.ensures (c.if-not-count_fits.false) c.loop-i.invariant c.loop-i-test.true _ c.value_record_at-below.ensures _ c.next_child-pick.ensures _ _ c.in-Child.is _ c.judge_value-j.ensures _ c.in-Fits.is
-
-pub judge_children-closing-requires : goal.judge_children-closing-requires
-judge_children-closing-requires t c = (c.requires.1.compound, known _ (limits c.args.settings) _ _ _ _ _ c.requires.0 _ _ c.requires.1 _ _ c.node_first-first.ensures c.node_children-count.ensures)
 
 pub judge_children-overflow_add-result : goal.judge_children-overflow_add-result
 judge_children-overflow_add-result t c = omega (arith, bounds _ _ _ _ _ _ _ c.requires.0 _ _ c.requires.1 _ _ c.node_first-first.ensures c.node_children-count.ensures _ c.count_fits.ensures (c.if-not-count_fits.false) c.loop-i.invariant, closing_short c.args.code, c.closing.ensures)
@@ -57,9 +48,6 @@ judge_children-returns t c = ends_there _ _ _ _ _ _ _ c.requires.0 _ _ c.require
 
 pub judge_value-value_record_at-own-requires : goal.judge_value-value_record_at-own-requires
 judge_value-value_record_at-own-requires t c = whole_inside _ _ _ _ _ _ c.requires
-
-pub judge_value-kind_of-requires : goal.judge_value-kind_of-requires
-judge_value-kind_of-requires t c = code_known _ _ _ _ _ _ c.requires _ c.value_record_at-own.ensures _ c.node_code-code.ensures
 
 pub judge_value-returns-then-kind-kind_of : goal.judge_value-returns-then-kind-kind_of
 judge_value-returns-then-kind-kind_of t c = other_kind _ _ _ _ _ _ c.requires _ c.value_record_at-own.ensures _ c.node_code-code.ensures _ c.kind_of.ensures _ c.if-kind-kind_of.true
@@ -72,18 +60,3 @@ judge_value-returns-in_default t c = c.judge_leaf-j.ensures ∙ leaf_answer _ _ 
 
 pub judge_value-returns-then-code-lt15 : goal.judge_value-returns-then-code-lt15
 judge_value-returns-then-code-lt15 t c = sym c.in-Fits.is ∙ c.judge_leaf-j.ensures ∙ leaf_answer _ _ _ _ _ _ c.requires _ c.value_record_at-own.ensures _ c.node_code-code.ensures _ c.kind_of.ensures _ c.if-kind-kind_of.false c.if-code-lt15.true
-
-pub judge_value-judge_at_once-now-requires : goal.judge_value-judge_at_once-now-requires
-judge_value-judge_at_once-now-requires t c = (c.requires, opened _ _ _ _ _ _ c.requires _ c.value_record_at-own.ensures _ c.node_code-code.ensures _ c.kind_of.ensures c.if-kind-kind_of.false c.if-code-lt15.false)
-
-pub judge_value-returns-in-Fits-now : goal.judge_value-returns-in-Fits-now
-judge_value-returns-in-Fits-now t c = c.judge_at_once-now.ensures _ c.in-Fits-now.is
-
-pub judge_value-judge_children-j-requires : goal.judge_value-judge_children-j-requires
-judge_value-judge_children-j-requires t c = (omega (arith, c.decreases), (c.requires, opened _ _ _ _ _ _ c.requires _ c.value_record_at-own.ensures _ c.node_code-code.ensures _ c.kind_of.ensures c.if-kind-kind_of.false c.if-code-lt15.false))
-
-pub judge_value-returns-in_default-j : goal.judge_value-returns-in_default-j
-judge_value-returns-in_default-j t c = c.judge_children-j.ensures
-
-pub judge_value-returns : goal.judge_value-returns
-judge_value-returns t c = sym c.in-Fits-j.is ∙ c.judge_children-j.ensures

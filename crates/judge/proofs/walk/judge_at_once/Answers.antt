@@ -25,18 +25,12 @@ node_code-leaf-requires c = below_in _ (limits c.args.settings) _ _ _ _ _ c.requ
 pub returns-then-leaf-gt14 : goal.returns-then-leaf-gt14
 returns-then-leaf-gt14 c = λ q e. later_not q e
 
-pub returns-then-below-leaf : goal.returns-then-below-leaf
-returns-then-below-leaf c = λ q e. later_not q e
-
 pub overflow_add-start : goal.overflow_add-start
 overflow_add-start c = omega (arith, few_bytes_on _ (limits c.args.settings) _ _ _ _ _ c.requires.0 _ _ c.requires.1 c.if-code-gt16.false _ _ c.node_first-first.ensures c.node_children-count.ensures _ c.value_record_at-below.ensures _ c.next_child-pick.ensures _ _ c.in-Child.is)
 
 pub judge_leaf-j-requires : goal.judge_leaf-j-requires
 judge_leaf-j-requires c = let k = below_bounds _ (limits c.args.settings) _ _ _ _ _ c.requires.0 _ _ c.requires.1 c.if-code-gt16.false _ _ c.node_first-first.ensures c.node_children-count.ensures _ c.value_record_at-below.ensures _ c.next_child-pick.ensures _ _ c.in-Child.is in
     (omega (arith, c.if-leaf-gt14.false), k.0, k.1.0, k.1.1.0, k.1.1.1)
-
-pub returns-in_default-j : goal.returns-in_default-j
-returns-in_default-j c = λ q e. later_not q e
 
 pub returns : goal.returns
 returns c = λ q e. judged_once _ _ _ _ _ _ _ c.requires.0 _ _ c.requires.1 c.if-code-gt16.false _ _ c.node_first-first.ensures c.node_children-count.ensures _ c.value_record_at-below.ensures _ c.next_child-pick.ensures _ _ c.in-Child.is _ c.node_code-leaf.ensures (omega (arith, c.if-leaf-gt14.false)) c.if-below-leaf.false _ c.judge_leaf-j.ensures q (c.in-Fits.is ∙ fits_on _ _ e)

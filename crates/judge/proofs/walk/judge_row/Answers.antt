@@ -8,9 +8,6 @@ use Rattle.judge.proofs.walk.judge_row.Goals as goal
 pub value_record_at-own-requires : goal.value_record_at-own-requires
 value_record_at-own-requires c = whole_inside _ _ _ _ _ _ (root_judgeable _ _ _ c.requires)
 
-pub kind_of-requires : goal.kind_of-requires
-kind_of-requires c = code_known _ _ _ _ _ _ (root_judgeable _ _ _ c.requires) _ c.value_record_at-own.ensures _ c.node_code-code.ensures
-
 pub returns-then-kind-kind_of : goal.returns-then-kind-kind_of
 returns-then-kind-kind_of c = other_kind _ _ _ _ _ _ (root_judgeable _ _ _ c.requires) _ c.value_record_at-own.ensures _ c.node_code-code.ensures _ c.kind_of.ensures _ c.if-kind-kind_of.true ∙ row_judged _ _ _ c.requires _
 

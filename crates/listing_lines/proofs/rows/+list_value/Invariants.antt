@@ -8,8 +8,5 @@ use Rattle.listing_lines.proofs.rows.+list_value.Given as goal
 abbrev pub decreases-list_value : goal.decreases-list_value
 decreases-list_value l = l.depth
 
-abbrev pub invariant-loop-left : goal.invariant-loop-left
-invariant-loop-left l = Going l.records l.store (l.depth - 1) l.node.row (65 - (l.depth - 1)) (whole_end (value_standing_at l.records l.store l.depth l.node.at l.node.from)) l.initial.q (lines_below_i l.node.row (65 - (l.depth - 1)) (children (whole_value (value_standing_at l.records l.store l.depth l.node.at l.node.from)))) l.initial.text l.text l.q l.left
-
-abbrev pub decreases-loop-left : goal.decreases-loop-left
-decreases-loop-left l = l.left
+abbrev pub invariant-loop-done : goal.invariant-loop-done
+invariant-loop-done l = Going l.records l.store (l.depth - 1) l.node.row (65 - (l.depth - 1)) (whole_end (value_standing_at l.records l.store l.depth l.node.at l.node.from)) l.initial.q (lines_below_i l.node.row (65 - (l.depth - 1)) (children (whole_value (value_standing_at l.records l.store l.depth l.node.at l.node.from)))) l.initial.text l.text l.q (l.count - l._done)

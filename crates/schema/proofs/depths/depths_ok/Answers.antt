@@ -1,11 +1,12 @@
+use native.Mathlib.Omega.{arith}
 use Rattle.rules.specs.Choice.{◌and◌}
 use Rattle.schema.proofs.Given.{depths_is}
 use Rattle.schema.proofs.depths.depths_ok.Goals as goal
 
 pub returns-then-entries_shallow : goal.returns-then-entries_shallow
 unfolding ◌and◌
-returns-then-entries_shallow c = rw (depths_is, ← c.entries_shallow.ensures, c.if-entries_shallow.true) c.references_shallow.ensures
+returns-then-entries_shallow c = rw depths_is (grind arith)
 
-pub returns : goal.returns
+pub returns-else-entries_shallow : goal.returns-else-entries_shallow
 unfolding ◌and◌
-returns c = rw (depths_is, ← c.entries_shallow.ensures, c.if-entries_shallow.false)
+returns-else-entries_shallow c = rw depths_is (grind arith)

@@ -1,4 +1,3 @@
-use Prim.Native.Nat.{◌-◌, ◌≤◌}
 use mathlib.Core.Path.{◌≡◌}
 use mathlib.Core.Bool.{true}
 use mathlib.Core.List.{[]}
@@ -8,7 +7,4 @@ use Rattle.schema.specs.Slices.{slices}
 use Rattle.schema.proofs.forms.entries_ok.Given as goal
 
 abbrev pub invariant-loop-j : goal.invariant-loop-j
-invariant-loop-j l = (l.j ≤ l.m) × (all (entry_ok (slices l.table l.names [] l.registry)) l.j ≡ true)
-
-abbrev pub decreases-loop-j : goal.decreases-loop-j
-decreases-loop-j l = l.m - l.j
+invariant-loop-j l = all (entry_ok (slices l.table l.names [] l.registry)) l.j ≡ true

@@ -1,33 +1,15 @@
-use native.Mathlib.Omega.{arith}
-use mathlib.Core.Path.{refl}
-use Rattle.rules.specs.Choice.{all}
-use Rattle.rules.proofs.Tests.{all_each}
-use Rattle.schema.proofs.Given.{entry_form}
-use Rattle.block.proofs.Turns.{test_on, test_off, test_end}
+use Rattle.std.proofs.Common.{rules}
+use Rattle.std.proofs.lemmas.Iterator.{serves_from_Range}
+use mathlib.Core.List.{[]}
+use Rattle.rules.specs.Format.{entry_utf8}
+use Rattle.block.proofs.Turns.{all_in_range}
+use Rattle.schema.specs.Slices.{slices}
+use Rattle.schema.proofs.Given.{entry_named, entry_formed}
 use Rattle.schema.proofs.Naming.{entry_names}
 use Rattle.schema.proofs.names.entries_utf8.Goals as goal
 
-pub loop-j-init : goal.loop-j-init
-unfolding all
-loop-j-init c = (omega arith, refl)
-
-pub entry_at-requires : goal.entry_at-requires
-entry_at-requires c = omega arith
-
-pub entry_utf8-requires : goal.entry_utf8-requires
-entry_utf8-requires c = rw c.entry_at.ensures (entry_form _ _ _ _ (all_each _ _ _ c.requires c.loop-j-test.true))
-
-pub returns-then-not-entry_utf8 : goal.returns-then-not-entry_utf8
-returns-then-not-entry_utf8 c = test_off _ _ _ c.loop-j-test.true _ (entry_names _ _ _ _ _ c.entry_at.ensures _ c.entry_utf8.ensures) (c.if-not-entry_utf8.true)
-
-pub overflow_add-j : goal.overflow_add-j
-overflow_add-j c = omega arith
-
-pub loop-j-smaller : goal.loop-j-smaller
-loop-j-smaller c = omega arith
-
-pub loop-j-preserved : goal.loop-j-preserved
-loop-j-preserved c = (omega arith, test_on _ _ c.loop-j.invariant.1 _ (entry_names _ _ _ _ _ c.entry_at.ensures _ c.entry_utf8.ensures) (c.if-not-entry_utf8.false))
+pub all-requires-clause-callable : goal.all-requires-clause-callable
+all-requires-clause-callable c = serves_from_Range (λ j q k. search rules) (λ j l h. search (rules, entry_named c.args.table.now c.args.names.now c.args.registry.now c.requires j h, entry_formed c.args.table.now c.args.names.now c.args.registry.now c.requires j h))
 
 pub returns : goal.returns
-returns c = test_end _ _ _ c.loop-j.invariant.1 c.loop-j.invariant.0 c.loop-j-test.false
+returns c = all_in_range (entry_utf8 (slices c.args.table.now c.args.names.now [] c.args.registry.now)) _ _ _ _ c.all.ensures.ran (λ j b q k. search (rules, entry_names))

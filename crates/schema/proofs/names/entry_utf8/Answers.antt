@@ -1,10 +1,11 @@
+use native.Mathlib.Omega.{arith}
 use Rattle.rules.specs.Choice.{◌and◌}
 use Rattle.schema.proofs.names.entry_utf8.Goals as goal
 
 pub returns-then-is_utf8 : goal.returns-then-is_utf8
 unfolding ◌and◌
-returns-then-is_utf8 c = rw (← c.is_utf8.ensures, c.if-is_utf8.true) c.block_utf8.ensures
+returns-then-is_utf8 c = grind arith
 
-pub returns : goal.returns
+pub returns-else-is_utf8 : goal.returns-else-is_utf8
 unfolding ◌and◌
-returns c = rw (← c.is_utf8.ensures, c.if-is_utf8.false)
+returns-else-is_utf8 c = grind arith

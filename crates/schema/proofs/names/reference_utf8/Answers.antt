@@ -16,6 +16,6 @@ is_utf8-requires c = let a = c.args in
     let h = name_inside a.table.now a.names.now a.r c.requires c.if-kind-eq0.false in
     omega (arith, h)
 
-pub returns : goal.returns
+pub returns-else-kind-eq0 : goal.returns-else-kind-eq0
 unfolding pick
-returns c = rw (ne_eqb _ _ c.if-kind-eq0.false) c.is_utf8.ensures
+returns-else-kind-eq0 c = rw (ne_eqb _ _ c.if-kind-eq0.false) c.is_utf8.ensures

@@ -1,32 +1,15 @@
-use native.Mathlib.Omega.{arith}
-use mathlib.Core.Path.{refl}
-use Rattle.rules.specs.Choice.{all}
-use Rattle.schema.proofs.Given.{each_reference}
-use Rattle.block.proofs.Turns.{test_on, test_off, test_end}
+use Rattle.std.proofs.Common.{rules}
+use Rattle.std.proofs.lemmas.Iterator.{serves_from_Range}
+use mathlib.Core.List.{[]}
+use Rattle.rules.specs.Format.{reference_utf8}
+use Rattle.block.proofs.Turns.{all_in_range}
+use Rattle.schema.specs.Slices.{slices}
+use Rattle.schema.proofs.Given.{reference_asked}
 use Rattle.schema.proofs.Naming.{reference_names}
 use Rattle.schema.proofs.names.references_utf8.Goals as goal
 
-pub loop-t-init : goal.loop-t-init
-unfolding all
-loop-t-init c = (omega arith, refl)
-
-pub reference_at-requires : goal.reference_at-requires
-reference_at-requires c = omega arith
-
-pub reference_utf8-requires : goal.reference_utf8-requires
-reference_utf8-requires c = rw c.reference_at.ensures (each_reference _ _ _ c.requires _ c.loop-t-test.true)
-
-pub returns-then-not-reference_utf8 : goal.returns-then-not-reference_utf8
-returns-then-not-reference_utf8 c = test_off _ _ _ c.loop-t-test.true _ (reference_names _ _ _ _ _ c.reference_at.ensures _ c.reference_utf8.ensures) (c.if-not-reference_utf8.true)
-
-pub overflow_add-t : goal.overflow_add-t
-overflow_add-t c = omega arith
-
-pub loop-t-smaller : goal.loop-t-smaller
-loop-t-smaller c = omega arith
-
-pub loop-t-preserved : goal.loop-t-preserved
-loop-t-preserved c = (omega arith, test_on _ _ c.loop-t.invariant.1 _ (reference_names _ _ _ _ _ c.reference_at.ensures _ c.reference_utf8.ensures) (c.if-not-reference_utf8.false))
+pub all-requires-clause-callable : goal.all-requires-clause-callable
+all-requires-clause-callable c = serves_from_Range (λ t q k. search rules) (λ t l h. search (rules, reference_asked c.args.table.now c.args.names.now c.args.references.now c.requires t h))
 
 pub returns : goal.returns
-returns c = test_end _ _ _ c.loop-t.invariant.1 c.loop-t.invariant.0 c.loop-t-test.false
+returns c = all_in_range (reference_utf8 (slices c.args.table.now c.args.names.now c.args.references.now [])) _ _ _ _ c.all.ensures.ran (λ t b q k. search (rules, reference_names))

@@ -1,8 +1,5 @@
 use Rattle.text_hex.proofs.Turns.{PutsDigits}
 use Rattle.text_hex.proofs.integers.put_digits.Given as goal
 
-abbrev pub invariant-loop-left : goal.invariant-loop-left
-invariant-loop-left l = PutsDigits l.initial.buffer l.store l.at l.from l.width l.buffer l.left l.next
-
-abbrev pub decreases-loop-left : goal.decreases-loop-left
-decreases-loop-left l = l.left
+abbrev pub invariant-loop-i : goal.invariant-loop-i
+invariant-loop-i l = PutsDigits l.initial.buffer l.store l.at l.from l.width l.buffer l.i l.next

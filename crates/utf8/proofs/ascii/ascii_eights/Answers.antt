@@ -6,21 +6,9 @@ use Rattle.utf8.proofs.ascii.ascii_eights.Goals as goal
 pub loop-i-init : goal.loop-i-init
 loop-i-init c = (omega arith, (omega arith, (omega arith, nothing _ _ _ (omega arith))))
 
-pub overflow_sub-end : goal.overflow_sub-end
-overflow_sub-end c = omega arith
-
-pub eight_ascii-requires : goal.eight_ascii-requires
-eight_ascii-requires c = omega (arith, c.requires)
-
 pub returns-then-not-eight_ascii : goal.returns-then-not-eight_ascii
 returns-then-not-eight_ascii c = let l = c.loop-i in
     record { after = l.invariant.0; within = l.invariant.1.0; eights = l.invariant.1.1.0; before = l.invariant.1.1.1; stops = λ h. sym c.eight_ascii.ensures ∙ c.if-not-eight_ascii.true }
-
-pub overflow_add-i : goal.overflow_add-i
-overflow_add-i c = omega arith
-
-pub loop-i-smaller : goal.loop-i-smaller
-loop-i-smaller c = omega arith
 
 pub loop-i-preserved : goal.loop-i-preserved
 loop-i-preserved c = let l = c.loop-i in

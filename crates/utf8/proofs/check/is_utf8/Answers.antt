@@ -3,26 +3,11 @@ use native.Mathlib.Omega.{arith}
 use Rattle.utf8.proofs.Steps.{from_eights, ended}
 use Rattle.utf8.proofs.check.is_utf8.Goals as goal
 
-pub overflow_add-end : goal.overflow_add-end
-overflow_add-end c = omega (arith, c.requires)
-
-pub ascii_eights-i-requires : goal.ascii_eights-i-requires
-ascii_eights-i-requires c = (omega arith, c.requires)
-
 pub loop-i-init : goal.loop-i-init
 loop-i-init c = let r = c.ascii_eights-i.ensures in (r.within, from_eights _ _ _ _ r.after r.within r.before)
 
-pub character-n-requires : goal.character-n-requires
-character-n-requires c = (c.loop-i-test.true, c.requires)
-
 pub returns-then-n-eq0 : goal.returns-then-n-eq0
 returns-then-n-eq0 c = sym (c.character-n.ensures.none c.if-n-eq0.true) ∙ c.loop-i.invariant.1
-
-pub overflow_add-i : goal.overflow_add-i
-overflow_add-i c = omega (arith, c.character-n.ensures.within)
-
-pub loop-i-smaller : goal.loop-i-smaller
-loop-i-smaller c = omega (arith, c.character-n.ensures.within, c.if-n-eq0.false)
 
 pub loop-i-preserved : goal.loop-i-preserved
 loop-i-preserved c = let r = c.character-n.ensures in (r.within, sym (r.rest (omega (arith, c.if-n-eq0.false))) ∙ c.loop-i.invariant.1)

@@ -1,9 +1,5 @@
-use Prim.Native.Nat.{◌-◌}
 use Rattle.wire.proofs.NameTable.{Left}
 use Rattle.wire.proofs.names.parse.Given as goal
 
 abbrev pub invariant-loop-t : goal.invariant-loop-t
-invariant-loop-t l = Left l.name l.code
-
-abbrev pub decreases-loop-t : goal.decreases-loop-t
-decreases-loop-t l = 20 - l.code
+invariant-loop-t l = Left l.name l.t-index

@@ -31,12 +31,6 @@ put_children-overflow_sub-depth t c = omega (arith, has_depth _ _ _ _ _ _ _ c.re
 pub put_children-put_value-q-requires : goal.put_children-put_value-q-requires
 put_children-put_value-q-requires t c = (omega (arith, c.decreases, has_depth _ _ _ _ _ _ _ c.requires.0), may_write _ _ _ _ _ _ _ c.requires.0 _ _ c.requires.1 _ c.node_first-first.ensures refl c.loop-i.invariant c.loop-i-test.true _ c.value_record_at-below.ensures _ _ c.child_of-child.ensures c.put_tag.ensures.next _ c.put_tag.auto.out)
 
-pub put_children-overflow_add-i : goal.put_children-overflow_add-i
-put_children-overflow_add-i t c = omega (arith, c.loop-i-test.true, c.ranges)
-
-pub put_children-loop-i-smaller : goal.put_children-loop-i-smaller
-put_children-loop-i-smaller t c = omega (arith, c.loop-i-test.true)
-
 pub put_children-loop-i-preserved : goal.put_children-loop-i-preserved
 put_children-loop-i-preserved t c = fill_next _ _ _ _ _ _ _ c.requires.0 _ _ c.requires.1 _ c.node_first-first.ensures refl c.loop-i.invariant c.loop-i-test.true _ c.value_record_at-below.ensures _ _ c.child_of-child.ensures c.put_tag.ensures.next _ _ _ c.put_tag.ensures.out c.put_value-q.ensures
 

@@ -19,11 +19,11 @@ loop-i-init c = columns_first _ _ _ _ _ c.requires _ (ap (λ u. u.size) c.value_
 pub overflow_add-column : goal.overflow_add-column
 overflow_add-column c = let h = column_sum _ _ _ _ _ c.requires _ (ap (λ u. u.size) c.value_record_at-own.ensures) _ c.node_first-first.ensures c.put16.auto.s c.loop-i.invariant c.loop-i-test.true (omega (arith, c.well_formed)) in omega (arith, h)
 
-pub put_column-q-requires : goal.put_column-q-requires
-put_column-q-requires c = column_writable _ _ _ _ _ c.requires _ (ap (λ u. u.size) c.value_record_at-own.ensures) _ c.node_first-first.ensures c.put16.auto.s c.loop-i.invariant c.loop-i-test.true _ refl
+pub put_value-q-requires : goal.put_value-q-requires
+put_value-q-requires c = column_writable _ _ _ _ _ c.requires _ (ap (λ u. u.size) c.value_record_at-own.ensures) _ c.node_first-first.ensures c.put16.auto.s c.loop-i.invariant c.loop-i-test.true _ refl
 
 pub loop-i-preserved : goal.loop-i-preserved
-loop-i-preserved c = columns_next _ _ _ _ _ c.requires _ (ap (λ u. u.size) c.value_record_at-own.ensures) _ c.node_first-first.ensures c.put16.auto.s c.loop-i.invariant c.loop-i-test.true _ _ c.put_column-q.ensures
+loop-i-preserved c = columns_next _ _ _ _ _ c.requires _ (ap (λ u. u.size) c.value_record_at-own.ensures) _ c.node_first-first.ensures c.put16.auto.s c.loop-i.invariant c.loop-i-test.true _ _ c.put_value-q.ensures
 
 pub shape_of-out : goal.shape_of-out
 shape_of-out c = c.loop-i.invariant.same ∙ c.put16.auto.s
