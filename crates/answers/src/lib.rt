@@ -1,4 +1,5 @@
-// An answer in numbers, and its layout in the answer slice.
+// An answer in numbers, and its layout in the answer slice. Each type of answer has a function of its own, which a theorem names: they differ in
+// which numbers they fill.
 #![tactic(auto)]
 
 ghost use Rattle.std.specs.Prelude.{◌≡◌, ◌+◌, ◌≤◌, ◌∷◌, [], length};
@@ -7,7 +8,7 @@ ghost use Rattle.answers.specs.Answers.{words, answer_layout, no_refusal, extent
 ghost use Rattle.answers.specs.Answers.{answer_of_written, answer_of_text, answer_of_checked, answer_of_known, answer_of_queried, answer_of_viewed};
 ghost use Rattle.scalars.specs.Numbers.{SaysBits};
 
-use rules::{Checked, Extent, Known, Queried, Read, Report, Stop, TextWritten, Viewed, Written};
+use rules::{Extent, Refusal, Report, Scalar, WireType};
 use scalars::scalar_in_numbers;
 use wire::code_of;
 use wire::store::put64;
@@ -47,23 +48,25 @@ fn extent_of_bytes(bytes: u64) -> Extent
 }
 
 // A read in numbers.
-pub fn answer_of_read(answer: Read) -> AnswerNumbers
+pub fn answer_of_read(answer: Result<Option<Extent>, Refusal>) -> AnswerNumbers
     ensures { result ≡ answer_of_read answer }
 {
     match answer {
-        Read::Row(row) => AnswerNumbers {
-            what: 0,
-            why: no_refusal(),
-            rows: 1,
-            row,
+        Ok(found) => match found {
+            Some(row) => AnswerNumbers {
+                what: 0,
+                why: no_refusal(),
+                rows: 1,
+                row,
+            },
+            None => AnswerNumbers {
+                what: 1,
+                why: no_refusal(),
+                rows: 0,
+                row: extent_of_bytes(0),
+            },
         },
-        Read::End => AnswerNumbers {
-            what: 1,
-            why: no_refusal(),
-            rows: 0,
-            row: extent_of_bytes(0),
-        },
-        Read::Refused(refusal) => AnswerNumbers {
+        Err(refusal) => AnswerNumbers {
             what: 2,
             why: refusal.in_numbers(),
             rows: 0,
@@ -73,51 +76,51 @@ pub fn answer_of_read(answer: Read) -> AnswerNumbers
 }
 
 // A row that was written, in numbers: as one that was read.
-pub fn answer_of_written(answer: Written) -> AnswerNumbers
+pub fn answer_of_written(answer: Result<Extent, Refusal>) -> AnswerNumbers
     ensures { result ≡ answer_of_written answer }
 {
     match answer {
-        Written::Row(row) => answer_of_read(Read::Row(row)),
-        Written::Refused(refusal) => answer_of_read(Read::Refused(refusal)),
+        Ok(row) => answer_of_read(Ok(Some(row))),
+        Err(refusal) => answer_of_read(Err(refusal)),
     }
 }
 
 // A text that was written, in numbers: its bytes.
-pub fn answer_of_text(answer: TextWritten) -> AnswerNumbers
+pub fn answer_of_text(answer: Result<u64, Refusal>) -> AnswerNumbers
     ensures { result ≡ answer_of_text answer }
 {
     match answer {
-        TextWritten::Text(bytes) => AnswerNumbers {
+        Ok(bytes) => AnswerNumbers {
             what: 0,
             why: no_refusal(),
             rows: 0,
             row: extent_of_bytes(bytes),
         },
-        TextWritten::Refused(refusal) => answer_of_read(Read::Refused(refusal)),
+        Err(refusal) => answer_of_read(Err(refusal)),
     }
 }
 
 // A check in numbers: all are 0 where nothing is refused.
-pub fn answer_of_checked(answer: Checked) -> AnswerNumbers
+pub fn answer_of_checked(answer: Result<(), Refusal>) -> AnswerNumbers
     ensures { result ≡ answer_of_checked answer }
 {
     match answer {
-        Checked::Accepted => AnswerNumbers {
+        Ok(()) => AnswerNumbers {
             what: 0,
             why: no_refusal(),
             rows: 0,
             row: extent_of_bytes(0),
         },
-        Checked::Refused(refusal) => answer_of_read(Read::Refused(refusal)),
+        Err(refusal) => answer_of_read(Err(refusal)),
     }
 }
 
 // A wire type in numbers: its code in the table's place, or 3 where there is none.
-pub fn answer_of_known(known: Known) -> AnswerNumbers
+pub fn answer_of_known(known: Option<WireType>) -> AnswerNumbers
     ensures { result ≡ answer_of_known known }
 {
     match known {
-        Known::Wire(t) => AnswerNumbers {
+        Some(t) => AnswerNumbers {
             what: 0,
             why: no_refusal(),
             rows: 0,
@@ -128,7 +131,7 @@ pub fn answer_of_known(known: Known) -> AnswerNumbers
                 payload: 0,
             },
         },
-        Known::Unknown => AnswerNumbers {
+        None => AnswerNumbers {
             what: 3,
             why: no_refusal(),
             rows: 0,
@@ -138,12 +141,12 @@ pub fn answer_of_known(known: Known) -> AnswerNumbers
 }
 
 // A record's value in numbers: which case it is in the table's place, its number in the records', a payload's length in the payload's.
-pub fn answer_of_queried(queried: Queried) -> AnswerNumbers
+pub fn answer_of_queried(queried: Result<Scalar, Refusal>) -> AnswerNumbers
     requires { SaysBits queried }
     ensures { result ≡ answer_of_queried queried }
 {
     match queried {
-        Queried::Value(scalar) => {
+        Ok(scalar) => {
             let said = scalar_in_numbers(scalar);
             AnswerNumbers {
                 what: 0,
@@ -157,16 +160,16 @@ pub fn answer_of_queried(queried: Queried) -> AnswerNumbers
                 },
             }
         }
-        Queried::Refused(refusal) => answer_of_read(Read::Refused(refusal)),
+        Err(refusal) => answer_of_read(Err(refusal)),
     }
 }
 
 // What is seen from a record, in numbers: its number in the records' place.
-pub fn answer_of_viewed(viewed: Viewed) -> AnswerNumbers
+pub fn answer_of_viewed(viewed: Result<u64, Refusal>) -> AnswerNumbers
     ensures { result ≡ answer_of_viewed viewed }
 {
     match viewed {
-        Viewed::Number(number) => AnswerNumbers {
+        Ok(number) => AnswerNumbers {
             what: 0,
             why: no_refusal(),
             rows: 0,
@@ -177,22 +180,22 @@ pub fn answer_of_viewed(viewed: Viewed) -> AnswerNumbers
                 payload: 0,
             },
         },
-        Viewed::Refused(refusal) => answer_of_read(Read::Refused(refusal)),
+        Err(refusal) => answer_of_read(Err(refusal)),
     }
 }
 
 // A run in numbers.
-pub fn answer_of_ran(rows: u64, bytes: u64, stop: Stop) -> AnswerNumbers
+pub fn answer_of_ran(rows: u64, bytes: u64, stop: Result<(), Refusal>) -> AnswerNumbers
     ensures { result ≡ answer_of_ran (record { rows = rows; bytes = bytes; stop = stop }) }
 {
     match stop {
-        Stop::End => AnswerNumbers {
+        Ok(()) => AnswerNumbers {
             what: 1,
             why: no_refusal(),
             rows,
             row: extent_of_bytes(bytes),
         },
-        Stop::Refused(refusal) => AnswerNumbers {
+        Err(refusal) => AnswerNumbers {
             what: 2,
             why: refusal.in_numbers(),
             rows,

@@ -1,5 +1,7 @@
 -- A block whose records are asked for form and rules in one loop: what its ends say of the block.
 -- Assumes nothing.
+use Rattle.std.specs.Prelude.{⊤}
+use Rattle.std.proofs.Common.{Result, Ok, Err}
 use Prim.Native.Nat.{ℕ, ◌+◌, ◌^◌, ◌≤◌, ◌<◌}
 use mathlib.Core.Path.{◌≡◌, refl, sym}
 use mathlib.Core.Bool.{Bool, true, false}
@@ -14,8 +16,6 @@ use Rattle.rules.specs.Block.{records, whole_nodes, block, block_ok}
 use Rattle.rules.specs.SchemaRules.{rule_at}
 use Rattle.rules.specs.Format.{block_form_ok, block_utf8, block_rule, one_block}
 use Rattle.rules.specs.declared.refusal.Refusal.{Refusal}
-use Rattle.rules.specs.declared.answer.Checked.{Checked}
-use Rattle.rules.specs.declared.answer.Checked.TheVariants.{Accepted, Refused}
 use Rattle.rules.proofs.Tests.{and_both, and_true, and_false}
 use Rattle.block.specs.Sound.{SoundBlock}
 use Rattle.block.specs.Passing.{is_accepted, passing, passes_at_once}
@@ -30,19 +30,19 @@ module _ (s : List ℕ) (store base : ℕ) where
   form_off e = rw e (sym (and_false _))
 
   -- a record breaks a rule
-  pub rule_off : (r : Checked) {x : Refusal} → r ≡ in_order (rule_at s base) 0 (records s) → r ≡ Refused x → false ≡ passing s store base
+  pub rule_off : (r : Result ⊤ Refusal) {x : Refusal} → r ≡ in_order (rule_at s base) 0 (records s) → r ≡ Err x → false ≡ passing s store base
   unfolding passing is_accepted ◌and◌
   rule_off r e a = rw (← e, a)
 
   -- every record passed
-  pub both_end : (b : Bool) → b ≡ block_ok s store → Accepted ≡ in_order (rule_at s base) 0 (records s) → b ≡ passing s store base
+  pub both_end : (b : Bool) → b ≡ block_ok s store → Ok tt ≡ in_order (rule_at s base) 0 (records s) → b ≡ passing s store base
   unfolding passing is_accepted ◌and◌
   both_end b f a = rw (← a) f
 
-accepted : (r : Checked) → is_accepted r ≡ true → r ≡ Accepted
+accepted : (r : Result ⊤ Refusal) → is_accepted r ≡ true → r ≡ Ok tt
 unfolding is_accepted
-accepted Accepted e = refl
-accepted (Refused x) e = cc
+accepted (Ok tt) e = refl
+accepted (Err x) e = cc
 
 -- a block that passes so has form and depth, and its schema keeps the rules
 module _ (table names : List ℕ) (first n : ℕ) (p : passes_at_once table names first n ≡ true) where
@@ -62,11 +62,11 @@ module _ (table names : List ℕ) (first n : ℕ) (p : passes_at_once table name
   sound = form_sound table first n (length names) form
 
   -- its names are asked apart
-  pub at_once_stands : block_utf8 table names first n ≡ true → Accepted ≡ one_block table names first n Accepted
+  pub at_once_stands : block_utf8 table names first n ≡ true → Ok tt ≡ one_block table names first n (Ok tt)
   unfolding one_block pick ◌and◌
   at_once_stands named = rw (whole.0, form, ← few_records table first n sound whole.1.0, named)
 
-  pub at_once_keeps : Accepted ≡ block_rule table first n
+  pub at_once_keeps : Ok tt ≡ block_rule table first n
   at_once_keeps = level_passes table first n sound whole.1.0 (block table first n) refl _ refl (accepted _ whole.1.1.1.0)
 
 -- the numbers of its records fit

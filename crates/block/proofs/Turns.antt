@@ -1,7 +1,8 @@
 -- A loop that checks n things in order, at its turn k: the check accepts and the rest decides, or it refuses and that is the answer.
 -- Assumes nothing.
+use Rattle.std.specs.Prelude.{⊤}
 use Prim.Native.Nat.{ℕ, ◌+◌, ◌-◌, ◌≤◌, ◌<◌}
-use Rattle.std.proofs.Common.{List, length, get_or}
+use Rattle.std.proofs.Common.{List, length, get_or, Result, Ok, Err}
 use Rattle.std.specs.Bool.{MatchBool}
 use Rattle.std.specs.Fn.{Called}
 use Rattle.std.specs.Iterator.{YieldsThen}
@@ -19,17 +20,15 @@ use native.Mathlib.Omega.{arith}
 use Rattle.rules.specs.Choice.{all}
 use Rattle.rules.specs.Refusals.{◌then◌, in_order}
 use Rattle.rules.specs.declared.refusal.Refusal.{Refusal}
-use Rattle.rules.specs.declared.answer.Checked.{Checked}
-use Rattle.rules.specs.declared.answer.Checked.TheVariants.{Accepted, Refused}
 use Rattle.rules.proofs.Tests.{all_true, all_false, all_more}
 use Rattle.rules.proofs.Checks.{in_order_step}
 
-module _ (check : ℕ → Checked) (i n k : ℕ) (h : k < n) where
-  pub turn_on : (r : Checked) → r ≡ check (i + k) → r ≡ Accepted → in_order check (i + (k + 1)) (n - (k + 1)) ≡ in_order check (i + k) (n - k)
+module _ (check : ℕ → Result ⊤ Refusal) (i n k : ℕ) (h : k < n) where
+  pub turn_on : (r : Result ⊤ Refusal) → r ≡ check (i + k) → r ≡ Ok tt → in_order check (i + (k + 1)) (n - (k + 1)) ≡ in_order check (i + k) (n - k)
   unfolding ◌then◌
   turn_on r e a = rw (in_order_step check i n k h, ← e, a)
 
-  pub turn_off : (r : Checked) {x : Refusal} → r ≡ check (i + k) → r ≡ Refused x → r ≡ in_order check (i + k) (n - k)
+  pub turn_off : (r : Result ⊤ Refusal) {x : Refusal} → r ≡ check (i + k) → r ≡ Err x → r ≡ in_order check (i + k) (n - k)
   unfolding ◌then◌
   turn_off r e a = rw (in_order_step check i n k h, ← e, a)
 

@@ -1,16 +1,15 @@
 -- A block that passes at once: form and rules are asked of each record in turn, in one loop.
 -- Assumes nothing: these are definitions.
-use Rattle.std.specs.Prelude.{ℕ, ◌+◌, Bool, true, false, List, length, leb}
+use Rattle.rules.specs.declared.refusal.Refusal.{Refusal}
+use Rattle.std.specs.Prelude.{ℕ, ◌+◌, Bool, true, false, List, length, leb, Result, Ok, Err, ⊤}
 use Rattle.rules.specs.Choice.{◌and◌}
 use Rattle.rules.specs.Refusals.{in_order}
 use Rattle.rules.specs.Block.{records, whole_nodes, block, block_ok}
 use Rattle.rules.specs.SchemaRules.{rule_at}
-use Rattle.rules.specs.declared.answer.Checked.{Checked}
-use Rattle.rules.specs.declared.answer.Checked.TheVariants.{Accepted, Refused}
 
-unfoldable pub is_accepted : Checked → Bool
-is_accepted Accepted = true
-is_accepted (Refused r) = false
+unfoldable pub is_accepted : Result ⊤ Refusal → Bool
+is_accepted (Ok tt) = true
+is_accepted (Err r) = false
 
 -- every record keeps the rules, and the block has the form
 unfoldable pub passing : List ℕ → ℕ → ℕ → Bool

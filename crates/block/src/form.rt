@@ -13,6 +13,7 @@ pub fn span_ok(start: u64, len: u64, size: u64) -> bool
     start <= size && len <= size - start
 }
 
+// (Tests one after another here and in the two functions below, and no expression of them: each record of a format goes through them.)
 // An unnamed record has no span, and a named one's lies in the store.
 fn name_ok(n: Node, store: u64) -> bool
     ensures { result ≡ name_ok n store }
@@ -20,11 +21,16 @@ fn name_ok(n: Node, store: u64) -> bool
     let named = n.named;
     let len = n.len;
     let start = n.start;
-    match named {
-        0 => len == 0 && start == 0,
-        1 => span_ok(start, len, store),
-        _ => false,
+    if named == 0 {
+        if len == 0 {
+            return start == 0;
+        }
+        return false;
     }
+    if named == 1 {
+        return span_ok(start, len, store);
+    }
+    false
 }
 
 // `next` is the first child that level order gives to the next node with children.
@@ -34,10 +40,12 @@ fn children_ok(n: Node, i: u64, next: u64) -> bool
     let first = n.first;
     let children = n.children;
     if children == 0 {
-        first == 0
-    } else {
-        first == next && i < first
+        return first == 0;
     }
+    if first == next {
+        return i < first;
+    }
+    false
 }
 
 // One record.
@@ -45,7 +53,13 @@ pub fn node_ok(n: Node, store: u64, i: u64, next: u64) -> bool
     ensures { result ≡ record_ok n store i next }
 {
     let code = n.code;
-    code <= 19 && name_ok(n, store) && children_ok(n, i, next)
+    if 19 < code {
+        return false;
+    }
+    if name_ok(n, store) {
+        return children_ok(n, i, next);
+    }
+    false
 }
 
 // The block has the form of a schema, whose names lie in a store of so many bytes. The bound on the records comes first:

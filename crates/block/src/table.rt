@@ -1,9 +1,8 @@
 // A block as a part of the record table, given by first record and record count.
-ghost use Rattle.std.specs.Prelude.{◌≡◌, true, ◌+◌, ◌≤◌, length};
+ghost use Rattle.std.specs.Prelude.{◌≡◌, true, ◌+◌, ◌≤◌, length, Ok};
 ghost use Rattle.rules.specs.Block.{records, block};
 ghost use Rattle.rules.specs.SchemaRules.{table_rule};
 ghost use Rattle.rules.specs.Format.{block_form_ok, block_depth_ok, block_utf8, block_rule, one_block};
-ghost use Rattle.rules.specs.declared.answer.Checked.TheVariants.{Accepted};
 ghost use Rattle.block.specs.Sound.{SoundBlock};
 ghost use Rattle.block.specs.Passing.{passes_at_once};
 
@@ -11,7 +10,7 @@ use super::form::{block_ok, depth_of, span_ok};
 use super::names::names_utf8;
 use super::validation::{check_root, level_rule, passes, validate};
 use record::node::NODE_SIZE;
-use rules::{Checked, Purpose, Refusal};
+use rules::{Purpose, Refusal};
 use utf8::short_ascii;
 
 // The block: the one place that cuts it out of the record table.
@@ -51,7 +50,7 @@ pub fn block_utf8(table: &[u8], names: &[u8], first: u64, count: u64) -> bool
 
 // The rules 4 and 5. A block of few records, which is never too deep, passes where each record passes, in whatever order they are asked:
 // the walk in preorder is made only where one does not, to say which comes first.
-pub fn block_rule(table: &[u8], first: u64, count: u64) -> Checked
+pub fn block_rule(table: &[u8], first: u64, count: u64) -> Result<(), Refusal>
     requires { SoundBlock table.now first count }
     ensures { result ≡ block_rule table.now first count }
 {
@@ -60,13 +59,13 @@ pub fn block_rule(table: &[u8], first: u64, count: u64) -> Checked
         return validate(s, first, 64, 0);
     }
     let level = level_rule(s, first);
-    let Checked::Accepted = level else {
+    let Ok(()) = level else {
         return validate(s, first, 64, 0);
     };
-    Checked::Accepted
+    Ok(())
 }
 
-pub fn block_root(table: &[u8], first: u64, count: u64, purpose: Purpose) -> Checked
+pub fn block_root(table: &[u8], first: u64, count: u64, purpose: Purpose) -> Result<(), Refusal>
     requires { SoundBlock table.now first count }
     ensures { result ≡ table_rule purpose (block table.now first count) first }
 {
@@ -74,22 +73,22 @@ pub fn block_root(table: &[u8], first: u64, count: u64, purpose: Purpose) -> Che
 }
 
 // Form, then depth, then names: what comes before the rules. The sizes of the slices are the caller's to test.
-pub fn block_stands(table: &[u8], names: &[u8], first: u64, count: u64) -> Checked
-    ensures { result ≡ one_block table.now names.now first count Accepted }
+pub fn block_stands(table: &[u8], names: &[u8], first: u64, count: u64) -> Result<(), Refusal>
+    ensures { result ≡ one_block table.now names.now first count (Ok tt) }
 {
     if table.len() % NODE_SIZE != 0 {
-        return Checked::Refused(Refusal::BAD_SCHEMA_TABLE);
+        return Err(Refusal::BAD_SCHEMA_TABLE);
     }
     if !block_form_ok(table, names.len() as u64, first, count) {
-        return Checked::Refused(Refusal::BAD_SCHEMA_TABLE);
+        return Err(Refusal::BAD_SCHEMA_TABLE);
     }
     if !block_depth_ok(table, first, count) {
-        return Checked::Refused(Refusal::TOO_DEEP);
+        return Err(Refusal::TOO_DEEP);
     }
     if block_utf8(table, names, first, count) {
-        return Checked::Accepted;
+        return Ok(());
     }
-    Checked::Refused(Refusal::NAME_NOT_UTF8)
+    Err(Refusal::NAME_NOT_UTF8)
 }
 
 // Whether a block of few records passes form, depth and rules, by one loop, its names left aside; where it says no, the block may pass

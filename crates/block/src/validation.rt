@@ -8,21 +8,21 @@ ghost use Rattle.block.specs.Passing.{passing};
 
 use super::form::node_ok;
 use record::node::{NODE_SIZE, node_at};
-use rules::{Checked, Children, Node, Purpose, Refusal, Why};
+use rules::{Children, Node, Purpose, Refusal, Why};
 
 // What the rules say of a node by itself.
-fn node_rule(place: u64, n: Node) -> Checked
+fn node_rule(place: u64, n: Node) -> Result<(), Refusal>
     ensures { result ≡ node_rule place n (maximum (form n.code)) }
 {
     let code = n.code;
     let children = n.children;
     let most = wire::maximum_of(code);
     match most {
-        Children::None => {
+        Children::Zero => {
             if children == 0 {
-                return Checked::Accepted;
+                return Ok(());
             }
-            Checked::Refused(Refusal {
+            Err(Refusal {
                 why: Why::UnexpectedChildren {
                     wire_type: code,
                     count: children,
@@ -32,9 +32,9 @@ fn node_rule(place: u64, n: Node) -> Checked
         }
         Children::UpTo(maximum) => {
             if children <= maximum {
-                return Checked::Accepted;
+                return Ok(());
             }
-            Checked::Refused(Refusal {
+            Err(Refusal {
                 why: Why::TooManyChildren {
                     wire_type: code,
                     count: children,
@@ -43,24 +43,21 @@ fn node_rule(place: u64, n: Node) -> Checked
                 place,
             })
         }
-        Children::Any => Checked::Accepted,
-        Children::Unknown => Checked::Refused(Refusal::BAD_SCHEMA_TABLE),
+        Children::Any => Ok(()),
+        Children::Unknown => Err(Refusal::BAD_SCHEMA_TABLE),
     }
 }
 
 // The first refusal in level order: one loop over the records, where preorder takes a call for each.
-pub fn level_rule(s: &[u8], base: u64) -> Checked
+pub fn level_rule(s: &[u8], base: u64) -> Result<(), Refusal>
     requires { base + records s.now < 2 ^ 64 }
     ensures { result ≡ in_order (rule_at s.now base) 0 (records s.now) }
 {
     let m = (s.len() / NODE_SIZE) as u64;
     for i in 0..m {
-        let own = node_rule(base + i, node_at(s, i));
-        let Checked::Accepted = own else {
-            return own;
-        };
+        node_rule(base + i, node_at(s, i))?;
     }
-    Checked::Accepted
+    Ok(())
 }
 
 // Form and rules in one loop over the records: whether both pass, and not which is refused first.
@@ -82,7 +79,7 @@ pub fn passes(s: &[u8], store: u64, base: u64) -> bool
             return false;
         }
         let own = node_rule(base + i, node);
-        let Checked::Accepted = own else {
+        let Ok(()) = own else {
             return false;
         };
         let children = node.children;
@@ -93,29 +90,23 @@ pub fn passes(s: &[u8], store: u64, base: u64) -> bool
 
 // The first refusal in preorder: a node before its children, its children in order. `base` is the block's first record in
 // the table, so that a place is a record of the table.
-pub fn validate(s: &[u8], base: u64, depth: u64, i: u64) -> Checked
+pub fn validate(s: &[u8], base: u64, depth: u64, i: u64) -> Result<(), Refusal>
     requires { Closed s.now × NodeIn i (length s.now) × (base + records s.now < 2 ^ 64) }
     ensures { result ≡ schema_rule s.now base depth i }
 {
     if depth == 0 {
-        return Checked::Refused(Refusal::TOO_DEEP);
+        return Err(Refusal::TOO_DEEP);
     }
     let n = node_at(s, i);
-    let own = node_rule(base + i, n);
-    let Checked::Accepted = own else {
-        return own;
-    };
+    node_rule(base + i, n)?;
     let first = n.first;
     let children = n.children;
     for k in 0..children {
         // Copied for the call: so it is the copy that has to lie in memory.
         let block = s;
-        let below = validate(block, base, depth - 1, first + k);
-        let Checked::Accepted = below else {
-            return below;
-        };
+        validate(block, base, depth - 1, first + k)?;
     }
-    Checked::Accepted
+    Ok(())
 }
 
 // A root that is no tuple has a number of its own for the encoder.
@@ -134,49 +125,43 @@ fn not_tuple(purpose: Purpose, found: u8, place: u64) -> Refusal
     }
 }
 
-fn root_rule(purpose: Purpose, place: u64, n: Node) -> Checked
+fn root_rule(purpose: Purpose, place: u64, n: Node) -> Result<(), Refusal>
     ensures { result ≡ root_rule purpose place n }
 {
     let code = n.code;
     if code == 19 {
-        return Checked::Accepted;
+        return Ok(());
     }
-    Checked::Refused(not_tuple(purpose, code, place))
+    Err(not_tuple(purpose, code, place))
 }
 
 // A column has a name, and one that is not empty.
-fn name_rule(place: u64, index: u64, n: Node) -> Checked
+fn name_rule(place: u64, index: u64, n: Node) -> Result<(), Refusal>
     ensures { result ≡ name_rule place index n }
 {
     let named = n.named;
     let len = n.len;
     if named == 1 && 0 < len {
-        return Checked::Accepted;
+        return Ok(());
     }
-    Checked::Refused(Refusal {
+    Err(Refusal {
         why: Why::TableSchemaChildMissingName { index },
         place,
     })
 }
 
 // A table's root is a tuple, and each of its direct children has a name.
-pub fn check_root(s: &[u8], base: u64, purpose: Purpose) -> Checked
+pub fn check_root(s: &[u8], base: u64, purpose: Purpose) -> Result<(), Refusal>
     requires { Closed s.now × (node_size ≤ length s.now) × (base + records s.now < 2 ^ 64) }
     ensures { result ≡ table_rule purpose s.now base }
 {
     let root = node_at(s, 0);
-    let own = root_rule(purpose, base, root);
-    let Checked::Accepted = own else {
-        return own;
-    };
+    root_rule(purpose, base, root)?;
     let first = root.first;
     let children = root.children;
     for k in 0..children {
         let n = node_at(s, first + k);
-        let column = name_rule(base + (first + k), k, n);
-        let Checked::Accepted = column else {
-            return column;
-        };
+        name_rule(base + (first + k), k, n)?;
     }
-    Checked::Accepted
+    Ok(())
 }

@@ -1,5 +1,7 @@
 -- What the refusals of one block by itself say is so: of the check of a schema, and of the encoder's.
 -- Assumes nothing.
+use Rattle.std.specs.Prelude.{⊤}
+use Rattle.std.proofs.Common.{Result, Ok, Err}
 use Prim.Native.Nat.{ℕ, zero, suc, ◌+◌, ◌-◌, ◌%◌, ◌≤◌, ◌<◌, max}
 use mathlib.Core.Path.{◌≡◌, refl}
 use mathlib.Core.Bool.{Bool, true, false}
@@ -17,8 +19,6 @@ use Rattle.rules.specs.Format.{block_depth_ok, block_utf8, block_rule, one_block
 use Rattle.rules.specs.declared.table_record.Node.{Node}
 use Rattle.rules.specs.declared.refusal.Refusal.{Refusal}
 use Rattle.rules.specs.declared.answer.Purpose.{Purpose}
-use Rattle.rules.specs.declared.answer.Checked.{Checked}
-use Rattle.rules.specs.declared.answer.Checked.TheVariants.{Accepted, Refused}
 use Rattle.rules.proofs.Tests.{and_both, and_true}
 use Rattle.rules.proofs.Checks.{pick_accepted}
 use Rattle.block_laws.proofs.Levels.{block_denotes, deep_shallow}
@@ -89,21 +89,21 @@ all_fails test (suc n) e = ⊎_elim
     (λ (p : test n ≡ false). (n, (omega arith, p)))
     (and_fails _ _ e)
 
-pub says_map : {P Q : Refusal → Type 0} {c : Checked} → ((r : Refusal) → P r → Q r) → CheckSays P c → CheckSays Q c
+pub says_map : {P Q : Refusal → Type 0} {c : Result ⊤ Refusal} → ((r : Refusal) → P r → Q r) → CheckSays P c → CheckSays Q c
 says_map g silent = silent
 says_map g (says {r = r} p) = says (g r p)
 
-says_of : (P : Refusal → Type 0) (c : Checked) → ((r : Refusal) → c ≡ Refused r → P r) → CheckSays P c
-says_of P Accepted g = silent
-says_of P (Refused r) g = says (g r refl)
+says_of : (P : Refusal → Type 0) (c : Result ⊤ Refusal) → ((r : Refusal) → c ≡ Err r → P r) → CheckSays P c
+says_of P (Ok tt) g = silent
+says_of P (Err r) g = says (g r refl)
 
 -- a choice between a check and a refusal
-pub says_else : (P : Refusal → Type 0) (b : Bool) (x : Checked) (r : Refusal) → (b ≡ true → CheckSays P x) → (b ≡ false → P r) → CheckSays P (pick b x (Refused r))
+pub says_else : (P : Refusal → Type 0) (b : Bool) (x : Result ⊤ Refusal) (r : Refusal) → (b ≡ true → CheckSays P x) → (b ≡ false → P r) → CheckSays P (pick b x (Err r))
 unfolding pick
 says_else P true x r g h = g refl
 says_else P false x r g h = says (h refl)
 
-says_from : (P : Refusal → Type 0) (check : ℕ → Checked) (i n : ℕ) → ((k : ℕ) → k < n → CheckSays P (check (i + k))) → CheckSays P (in_order check i n)
+says_from : (P : Refusal → Type 0) (check : ℕ → Result ⊤ Refusal) (i n : ℕ) → ((k : ℕ) → k < n → CheckSays P (check (i + k))) → CheckSays P (in_order check i n)
 unfolding in_order
 says_from P check i zero g = silent
 says_from P check i (suc n) g =
@@ -111,7 +111,7 @@ says_from P check i (suc n) g =
     says_then _ _ _ (rw z at (g 0 (omega arith))) (says_from P check (i + 1) n (λ k l. let e : i + suc k ≡ (i + 1) + k = omega arith in rw e at (g (suc k) (omega arith))))
 
 -- checks of n things
-pub says_each : (P : Refusal → Type 0) (check : ℕ → Checked) (n : ℕ) → ((k : ℕ) → k < n → CheckSays P (check k)) → CheckSays P (in_order check 0 n)
+pub says_each : (P : Refusal → Type 0) (check : ℕ → Result ⊤ Refusal) (n : ℕ) → ((k : ℕ) → k < n → CheckSays P (check k)) → CheckSays P (in_order check 0 n)
 says_each P check n g = says_from P check 0 n (λ k l. let z : 0 + k ≡ k = omega arith in rw z (g k l))
 
 -- ---- the rules of a block, its root and its names
@@ -163,7 +163,7 @@ module _ (table names : List ℕ) (first n : ℕ) where
       too_long (omega arith))
 
   -- A schema that is refused is refused with reason.
-  pub schema_honest : (r : Refusal) → schema_answer table names first n ≡ Refused r → SchemaReason table names first n r
+  pub schema_honest : (r : Refusal) → schema_answer table names first n ≡ Err r → SchemaReason table names first n r
   schema_honest r e = reason (rw e at schema_says)
 
   encoder_says : CheckSays (TableReason table names first n) (encoder_rule table names first n)
@@ -172,7 +172,7 @@ module _ (table names : List ℕ) (first n : ℕ) where
       (says_then _ _ _ (says_map (λ r b. of_schema b) schema_says) (root_says _ Purpose.Encoder (block table first n) names first root_not_tuple (λ k l h. no_name {k = k} l h)))
 
   -- So is a block for the encoder.
-  pub encoder_honest : (r : Refusal) → encoder_rule table names first n ≡ Refused r → TableReason table names first n r
+  pub encoder_honest : (r : Refusal) → encoder_rule table names first n ≡ Err r → TableReason table names first n r
   encoder_honest r e = reason (rw e at encoder_says)
 
 -- ---- the numbers alone
@@ -194,10 +194,10 @@ module _ (table names : List ℕ) (first n : ℕ) where
   table_number _ (no_name l h) = inr (inr refl)
 
   -- A schema is refused by 1 to 5 and 33 alone.
-  pub schema_numbers : (r : Refusal) → schema_answer table names first n ≡ Refused r → (refusal_number r ≤ 5) ⊎ (refusal_number r ≡ 33)
+  pub schema_numbers : (r : Refusal) → schema_answer table names first n ≡ Err r → (refusal_number r ≤ 5) ⊎ (refusal_number r ≡ 33)
   schema_numbers r e = schema_number r (schema_honest table names first n r e)
 
   -- The encoder's block is refused by 1 to 5, 33, 9 and 10 alone.
-  pub encoder_numbers : (r : Refusal) → encoder_rule table names first n ≡ Refused r →
+  pub encoder_numbers : (r : Refusal) → encoder_rule table names first n ≡ Err r →
       ((refusal_number r ≤ 5) ⊎ (refusal_number r ≡ 33)) ⊎ ((refusal_number r ≡ 9) ⊎ (refusal_number r ≡ 10))
   encoder_numbers r e = table_number r (encoder_honest table names first n r e)

@@ -1,5 +1,6 @@
 -- What the refusals of a format say is so, and a format is refused by 1 to 8, 10 and 33 alone.
 -- Assumes nothing.
+use Rattle.std.proofs.Common.{Err}
 use Prim.Native.Nat.{ℕ, ◌+◌, ◌≤◌, ◌<◌, max}
 use mathlib.Core.Path.{◌≡◌, refl}
 use mathlib.Core.Bool.{Bool, true, false}
@@ -22,7 +23,6 @@ use Rattle.rules.specs.declared.table_record.Located.{Located}
 use Rattle.rules.specs.declared.table_record.Located.TheVariants.{Block, NoTable, NoEntry}
 use Rattle.rules.specs.declared.refusal.Refusal.{Refusal}
 use Rattle.rules.specs.declared.answer.Purpose.{Purpose}
-use Rattle.rules.specs.declared.answer.Checked.TheVariants.{Refused}
 use Rattle.rules.proofs.Tests.{and_both, and_true, all_each}
 use Rattle.block_laws.proofs.Honest.{Broken, broken_number, broken_stays, CheckSays, silent, says, said as reason, says_then}
 use Rattle.block_laws.proofs.BlockReasons.{BadName, refuted, and_fails, all_fails, says_map, says_else, says_each, block_says, deep_says, names_say, root_says}
@@ -149,7 +149,7 @@ module _ (f : Format) where
   unfolding depths_ok rules_order entry_depth_ok entry_rule pick
   order_says w depth = by (eqb (tables f) 0) refl
     where
-      by : (b : Bool) → eqb (tables f) 0 ≡ b → CheckSays (FormatReason f) (pick b (Refused EmptyTableSchemas) (in_order (entry_rule f) 0 (entry_count f.registry) then in_order (reference_rule f) 0 (tables f)))
+      by : (b : Bool) → eqb (tables f) 0 ≡ b → CheckSays (FormatReason f) (pick b (Err EmptyTableSchemas) (in_order (entry_rule f) 0 (entry_count f.registry) then in_order (reference_rule f) 0 (tables f)))
       by true e = says (no_tables (eqb-true _ _ e))
       by false e =
           let d = and_both _ _ depth in
@@ -168,7 +168,7 @@ module _ (f : Format) where
   format_says = says_else _ _ _ _ (λ s. rules_says) sizes_reason
 
   -- A format that is refused is refused with reason.
-  pub format_honest : (r : Refusal) → format_rule f ≡ Refused r → FormatReason f r
+  pub format_honest : (r : Refusal) → format_rule f ≡ Err r → FormatReason f r
   format_honest r e = reason (rw e at format_says)
 
   number : (r : Refusal) → FormatReason f r → (refusal_number r ≤ 8) ⊎ ((refusal_number r ≡ 10) ⊎ (refusal_number r ≡ 33))
@@ -186,7 +186,7 @@ module _ (f : Format) where
   number _ (no_name h s k c) = inr (inl refl)
 
   -- So a format is refused by 1 to 8, 10 and 33 alone.
-  pub format_numbers : (r : Refusal) → format_rule f ≡ Refused r → (refusal_number r ≤ 8) ⊎ ((refusal_number r ≡ 10) ⊎ (refusal_number r ≡ 33))
+  pub format_numbers : (r : Refusal) → format_rule f ≡ Err r → (refusal_number r ≤ 8) ⊎ ((refusal_number r ≡ 10) ⊎ (refusal_number r ≡ 33))
   format_numbers r e = number r (format_honest r e)
 
   stays : (r : Refusal) → FormatReason f r → (line_of r.why).moves ≡ false
@@ -204,5 +204,5 @@ module _ (f : Format) where
   stays _ (no_name h s k c) = refl
 
   -- Where a format is refused, the place does not move with the stream.
-  pub format_stays : (r : Refusal) → format_rule f ≡ Refused r → (line_of r.why).moves ≡ false
+  pub format_stays : (r : Refusal) → format_rule f ≡ Err r → (line_of r.why).moves ≡ false
   format_stays r e = stays r (format_honest r e)

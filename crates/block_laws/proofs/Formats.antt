@@ -1,5 +1,6 @@
 -- Which formats the check accepts.
 -- Assumes nothing.
+use Rattle.std.proofs.Common.{Ok}
 use Prim.Native.Nat.{ℕ, ◌<◌}
 use mathlib.Core.Path.{◌≡◌, refl}
 use mathlib.Core.Bool.{true}
@@ -20,7 +21,6 @@ use Rattle.rules.specs.declared.table_record.Reference.{Reference}
 use Rattle.rules.specs.declared.table_record.Located.{Located}
 use Rattle.rules.specs.declared.table_record.Located.TheVariants.{Block, NoTable, NoEntry}
 use Rattle.rules.specs.declared.answer.Purpose.{Purpose}
-use Rattle.rules.specs.declared.answer.Checked.TheVariants.{Accepted}
 use Rattle.rules.proofs.Tests.{and_both, and_true, all_each, all_true}
 use Rattle.rules.proofs.Checks.{refused_not, then_both, pick_accepted}
 use Rattle.block_laws.proofs.Utf8.{utf8_exactly}
@@ -34,9 +34,9 @@ module _ (f : Format) where
     first : ℕ
     count : ℕ
     is : l ≡ Block first count
-    accepts : table_rule Purpose.Format (block f.table first count) first ≡ Accepted
+    accepts : table_rule Purpose.Format (block f.table first count) first ≡ Ok tt
 
-  rooted : (t : ℕ) (l : Located) → root_of f t l ≡ Accepted → Rooted l
+  rooted : (t : ℕ) (l : Located) → root_of f t l ≡ Ok tt → Rooted l
   unfolding root_of
   rooted t (Block first n) e = record { first = first; count = n; is = refl; accepts = e }
   rooted t NoTable e = absurd (refused_not _ e)
@@ -61,7 +61,7 @@ module _ (f : Format) where
           g.either;
     }
 
-    good_passes : GoodReference f r → (pick (eqb r.kind 0) (block_depth_ok f.table r.start r.len) true ≡ true) × (inline_rule f r ≡ Accepted)
+    good_passes : GoodReference f r → (pick (eqb r.kind 0) (block_depth_ok f.table r.start r.len) true ≡ true) × (inline_rule f r ≡ Ok tt)
     unfolding inline_rule pick
     good_passes g = ⊎_elim
         (λ (i : Inline f r).
@@ -89,7 +89,7 @@ module _ (f : Format) where
 
     -- what depths, names and rules say of a formed reference
     reference_good : (t : ℕ) → FormedReference f r → pick (eqb r.kind 0) (block_depth_ok f.table r.start r.len) true ≡ true →
-        pick (eqb r.kind 0) (block_utf8 f.table f.names r.start r.len) (is_utf8 (part f.names r.start r.len)) ≡ true → inline_rule f r then root_of f t (resolved f.names f.registry r) ≡ Accepted → GoodReference f r
+        pick (eqb r.kind 0) (block_utf8 f.table f.names r.start r.len) (is_utf8 (part f.names r.start r.len)) ≡ true → inline_rule f r then root_of f t (resolved f.names f.registry r) ≡ Ok tt → GoodReference f r
     unfolding inline_rule resolved pick root_of
     reference_good t w d m e = record {
       spare = w.spare;
@@ -108,7 +108,7 @@ module _ (f : Format) where
           w.either;
     }
 
-    good_root : (t : ℕ) → GoodReference f r → root_of f t (resolved f.names f.registry r) ≡ Accepted
+    good_root : (t : ℕ) → GoodReference f r → root_of f t (resolved f.names f.registry r) ≡ Ok tt
     unfolding root_of
     good_root t g = let p = placed g in rw p.is ((root_accepts _ _ _ _ Purpose.Format p.good).1 p.root)
 
@@ -123,7 +123,7 @@ module _ (f : Format) where
 
   -- ---- the whole
 
-  rules_good : format_rules f ≡ Accepted → GoodTables f
+  rules_good : format_rules f ≡ Ok tt → GoodTables f
   unfolding format_rules depths_ok format_utf8 rules_order entry_depth_ok entry_utf8 entry_rule reference_depth_ok reference_utf8 reference_rule
   rules_good e =
       let p = (in_turn _ _ _ _ _ _ _).0 e in
@@ -143,7 +143,7 @@ module _ (f : Format) where
       }
     where
       good : Forms f → (all (entry_depth_ok f) (entry_count f.registry) ≡ true) × (all (reference_depth_ok f) (tables f) ≡ true) →
-          (all (entry_utf8 f) (entry_count f.registry) ≡ true) × (all (reference_utf8 f) (tables f) ≡ true) → (in_order (entry_rule f) 0 (entry_count f.registry) ≡ Accepted) × (in_order (reference_rule f) 0 (tables f) ≡ Accepted) →
+          (all (entry_utf8 f) (entry_count f.registry) ≡ true) × (all (reference_utf8 f) (tables f) ≡ true) → (in_order (entry_rule f) 0 (entry_count f.registry) ≡ Ok tt) × (in_order (reference_rule f) 0 (tables f) ≡ Ok tt) →
           (j : ℕ) → j < entry_count f.registry → GoodEntry f j
       good w d m v j h = let n = and_both _ _ (all_each _ _ j m.0 h) in record {
         name = (w.entries j h).name;
@@ -151,7 +151,7 @@ module _ (f : Format) where
         good = (passes _ _ _ _).0 (record { form_ok = (form_accepts _ _ _ _).1 (w.entries j h).formed; depth_ok = all_each _ _ j d.0 h; names_ok = n.1; rules_ok = (in_order_iff _ _).0 v.0 j h });
       }
 
-  good_rules : GoodTables f → format_rules f ≡ Accepted
+  good_rules : GoodTables f → format_rules f ≡ Ok tt
   unfolding format_rules depths_ok format_utf8 rules_order entry_depth_ok entry_utf8 entry_rule reference_depth_ok reference_utf8 reference_rule pick
   good_rules g = (in_turn _ _ _ _ _ _ _).1 (record {
     form_ok = (forms_accept f).1 (record {
@@ -172,11 +172,11 @@ module _ (f : Format) where
   })
 
   -- The check of a format, its sizes left aside, accepts just the good ones.
-  pub rules_accept : (format_rules f ≡ Accepted) ↔ GoodTables f
+  pub rules_accept : (format_rules f ≡ Ok tt) ↔ GoodTables f
   rules_accept = (rules_good, good_rules)
 
   -- The check of a format accepts just the good ones.
-  pub format_accepts : (format_rule f ≡ Accepted) ↔ GoodFormat f
+  pub format_accepts : (format_rule f ≡ Ok tt) ↔ GoodFormat f
   unfolding format_rule sizes_ok
   format_accepts = (
     λ e.

@@ -1,5 +1,6 @@
 -- One block of the record table by itself: what the check of a schema and the encoder's check accept.
 -- Assumes nothing.
+use Rattle.std.proofs.Common.{Ok}
 use Prim.Native.Nat.{ℕ, ◌+◌, ◌≤◌}
 use mathlib.Core.Path.{◌≡◌, refl}
 use mathlib.Core.Bool.{true}
@@ -14,7 +15,6 @@ use Rattle.rules.specs.SchemaRules.{table_rule}
 use Rattle.rules.specs.Good.{GoodBlock, GoodSchema, GoodTable}
 use Rattle.rules.specs.Format.{block_form_ok, block_depth_ok, block_utf8, block_rule, one_block, schema_answer, encoder_rules, encoder_rule}
 use Rattle.rules.specs.declared.answer.Purpose.{Purpose}
-use Rattle.rules.specs.declared.answer.Checked.TheVariants.{Accepted}
 use Rattle.rules.proofs.Tests.{and_both, and_true, all_each, all_true}
 use Rattle.rules.proofs.Checks.{then_both, pick_accepted}
 use Rattle.block_laws.proofs.Turns.{then_accepted, accepted_pick, pick_then, Passes, in_turn}
@@ -60,7 +60,7 @@ module _ (table names : List ℕ) (first n : ℕ) where
   names_accept = (λ e i h. (name_accepts _).0 (all_each _ _ i e h), λ g. all_true _ _ (λ i h. (name_accepts _).1 (g i h)))
 
   -- and then the schema rules just if its schema is valid.
-  pub rule_accepts : FormedBlock table names first n → deep (block_tree (block table first n) names) ≤ 64 → (block_rule table first n ≡ Accepted) ↔ Valid (block_tree (block table first n) names)
+  pub rule_accepts : FormedBlock table names first n → deep (block_tree (block table first n) names) ≤ 64 → (block_rule table first n ≡ Ok tt) ↔ Valid (block_tree (block table first n) names)
   unfolding block_rule
   rule_accepts g d = rw (← tree_within (block table first n) names g.formed.order d) (accepted (block table first n) names first 64 0)
 
@@ -77,11 +77,11 @@ module _ (table names : List ℕ) (first n : ℕ) where
   )
 
   -- A good block's root and names are accepted just if its schema is fit for a table.
-  pub root_accepts : (purpose : Purpose) → GoodBlock table names first n → (table_rule purpose (block table first n) first ≡ Accepted) ↔ TableRoot (block_tree (block table first n) names)
+  pub root_accepts : (purpose : Purpose) → GoodBlock table names first n → (table_rule purpose (block table first n) first ≡ Ok tt) ↔ TableRoot (block_tree (block table first n) names)
   root_accepts purpose g = table_accepts (block table first n) names first (block_denotes (block table first n) names g.formed.order) purpose
 
   -- The check of a schema accepts just the good ones.
-  pub schema_accepts : (schema_answer table names first n ≡ Accepted) ↔ GoodSchema table names first n
+  pub schema_accepts : (schema_answer table names first n ≡ Ok tt) ↔ GoodSchema table names first n
   unfolding schema_answer one_block
   schema_accepts = (
     λ e.
@@ -107,7 +107,7 @@ module _ (table names : List ℕ) (first n : ℕ) where
   encoder_is = simp pick_then
 
   -- The encoder's check accepts just the good schemas that are fit for a table.
-  pub encoder_accepts : (encoder_rule table names first n ≡ Accepted) ↔ GoodTable table names first n
+  pub encoder_accepts : (encoder_rule table names first n ≡ Ok tt) ↔ GoodTable table names first n
   encoder_accepts = rw encoder_is (
     λ e.
         let p = then_both _ _ e in

@@ -1,5 +1,7 @@
 -- What the refusals of the schema rules say: a record of the block that breaks them, its code, its child count, and the maximum.
 -- Assumes nothing.
+use Rattle.std.specs.Prelude.{⊤}
+use Rattle.std.proofs.Common.{Result, Ok, Err}
 use Prim.Native.Nat.{ℕ, zero, suc, ◌+◌, ◌≤◌, ◌<◌}
 use mathlib.Core.Path.{◌≡◌, refl, sym, ◌∙◌}
 use mathlib.Core.Bool.{Bool, true, false}
@@ -14,17 +16,15 @@ use Rattle.rules.specs.Refusals.{line_of, refusal_number, ◌then◌, in_order, 
 use Rattle.rules.specs.Block.{NodeIn, node_at, records, Closed, Formed}
 use Rattle.rules.specs.SchemaRules.{node_rule, rule_at, schema_rule}
 use Rattle.rules.specs.declared.refusal.Refusal.{Refusal}
-use Rattle.rules.specs.declared.answer.Checked.{Checked}
-use Rattle.rules.specs.declared.answer.Checked.TheVariants.{Accepted, Refused}
 use Rattle.rules.specs.declared.wire_type.Children.{Children}
-use Rattle.rules.specs.declared.wire_type.Children.TheVariants.{None, UpTo, Any, Unknown}
+use Rattle.rules.specs.declared.wire_type.Children.TheVariants.{Zero, UpTo, Any, Unknown}
 use Rattle.rules.proofs.Tests.{all_each}
 use Rattle.block_laws.proofs.Form.{closed}
 use Rattle.block_laws.proofs.Levels.{Shallow}
 
 pub data Broken (s : List ℕ) (base : ℕ) : Refusal → Type 0 where
   unexpected : {i : ℕ} →
-      i < records s → maximum (form (node_at s i).code) ≡ None → 0 < (node_at s i).children →
+      i < records s → maximum (form (node_at s i).code) ≡ Zero → 0 < (node_at s i).children →
       Broken s base (UnexpectedChildren (node_at s i).code (node_at s i).children (base + i))
   too_many : {i most : ℕ} →
       i < records s → maximum (form (node_at s i).code) ≡ UpTo most → most < (node_at s i).children →
@@ -43,25 +43,25 @@ broken_stays _ (unexpected i m h) = refl
 broken_stays _ (too_many i m h) = refl
 
 -- ---- if there is a refusal, P holds of it
-pub data CheckSays (P : Refusal → Type 0) : Checked → Type 0 where
-  silent : CheckSays P Accepted
-  says : {r : Refusal} → P r → CheckSays P (Refused r)
+pub data CheckSays (P : Refusal → Type 0) : Result ⊤ Refusal → Type 0 where
+  silent : CheckSays P (Ok tt)
+  says : {r : Refusal} → P r → CheckSays P (Err r)
 
-pub said : {P : Refusal → Type 0} {r : Refusal} → CheckSays P (Refused r) → P r
+pub said : {P : Refusal → Type 0} {r : Refusal} → CheckSays P (Err r) → P r
 said (says p) = p
 
-pub says_then : (P : Refusal → Type 0) (a b : Checked) → CheckSays P a → CheckSays P b → CheckSays P (a then b)
+pub says_then : (P : Refusal → Type 0) (a b : Result ⊤ Refusal) → CheckSays P a → CheckSays P b → CheckSays P (a then b)
 unfolding ◌then◌
-says_then P Accepted b x y = y
-says_then P (Refused r) b x y = x
+says_then P (Ok tt) b x y = y
+says_then P (Err r) b x y = x
 
-says_pick : (P : Refusal → Type 0) (b : Bool) (r : Refusal) → (b ≡ false → P r) → CheckSays P (pick b Accepted (Refused r))
+says_pick : (P : Refusal → Type 0) (b : Bool) (r : Refusal) → (b ≡ false → P r) → CheckSays P (pick b (Ok tt) (Err r))
 unfolding pick
 says_pick P true r f = silent
 says_pick P false r f = says (f refl)
 
 unfoldable is_known : Children → Bool
-is_known None = true
+is_known Zero = true
 is_known (UpTo n) = true
 is_known Any = true
 is_known Unknown = false
@@ -82,7 +82,7 @@ module _ (s : List ℕ) (base : ℕ) where
           eqb_zero = refl
 
       by : (k : Children) → maximum (form (node_at s i).code) ≡ k → CheckSays (Broken s base) (node_rule (base + i) (node_at s i) k)
-      by None e = unfold node_rule in says_pick _ _ _ (λ q. unexpected {i = i} l e (omega (arith, eqb-false (node_at s i).children 0 q)))
+      by Zero e = unfold node_rule in says_pick _ _ _ (λ q. unexpected {i = i} l e (omega (arith, eqb-false (node_at s i).children 0 q)))
       by (UpTo most) e = unfold node_rule in says_pick _ _ _ (λ q. too_many {i = i} {most = most} l e (leb-false _ _ q))
       by Any e = unfold node_rule in silent
       by Unknown e = absurd (differ (unfold is_known in (rw e at (known (node_at s i).code h))))
@@ -101,5 +101,5 @@ module _ (s : List ℕ) (base : ℕ) where
           says_then _ _ _ (rw z at (f 0 (omega arith))) (all (j + 1) n (λ t l. let e : j + suc t ≡ (j + 1) + t = omega arith in rw e at (f (suc t) (omega arith))))
 
   -- a refusal of the rules names a record of the block that breaks them
-  pub honest : (store d i : ℕ) (r : Refusal) → Formed s store → NodeIn i (length s) → Shallow s d i → schema_rule s base d i ≡ Refused r → Broken s base r
+  pub honest : (store d i : ℕ) (r : Refusal) → Formed s store → NodeIn i (length s) → Shallow s d i → schema_rule s base d i ≡ Err r → Broken s base r
   honest store d i r b l h e = said (rw e at (schema_rule_says (closed s b.order) b.codes d i l h))

@@ -1,5 +1,6 @@
 -- A name in a registry: the lookup finds the entry that has it, and in an ascending registry there is only one.
 -- Assumes nothing.
+use Rattle.std.specs.declared.cmp.Ordering.{Ordering}
 use Prim.Native.Nat.{ℕ, zero, suc, ◌+◌, ◌-◌, ◌≤◌, ◌<◌}
 use mathlib.Core.Path.{◌≡◌, refl, sym, ◌∙◌}
 use mathlib.Core.List.{List}
@@ -11,26 +12,24 @@ use Rattle.rules.specs.Choice.{pick}
 use Rattle.rules.specs.Bytes.{order, is_equal}
 use Rattle.rules.specs.Format.{entry_count, entry_at, entry_name, lookup}
 use Rattle.rules.specs.Good.{Ascending}
-use Rattle.rules.specs.declared.answer.Order.{Order}
-use Rattle.rules.specs.declared.answer.Order.TheVariants.{Less, Equal, Greater}
 use Rattle.rules.specs.declared.table_record.Located.{Located}
 use Rattle.rules.specs.declared.table_record.Located.TheVariants.{Block, NoTable, NoEntry}
 use Rattle.rules.proofs.Orders.{order_equal, order_same, order_less_trans}
 
 -- ---- ascending names
 
-less_later : (name : ℕ → List ℕ) (n : ℕ) → Ascending name n → (d i : ℕ) → i + suc d < n → order (name i) (name (i + suc d)) ≡ Less
+less_later : (name : ℕ → List ℕ) (n : ℕ) → Ascending name n → (d i : ℕ) → i + suc d < n → order (name i) (name (i + suc d)) ≡ Ordering.Less
 less_later name n a zero i h = a i h
 less_later name n a (suc d) i h =
     let e : (i + suc d) + 1 ≡ i + suc (suc d) = omega arith in
     rw (← e) (order_less_trans _ _ _ (less_later name n a d i (omega arith)) (a (i + suc d) (omega arith)))
 
 -- Nothing is less than itself.
-pub less_self : (xs : List ℕ) → order xs xs ≡ Less → ⊥
+pub less_self : (xs : List ℕ) → order xs xs ≡ Ordering.Less → ⊥
 less_self xs e = let z : ◌≡◌ {A = ℕ} 0 1 = cc (order_same xs) in omega arith
 
 -- Of ascending names an earlier one is less than a later one.
-pub less_than : (name : ℕ → List ℕ) (n : ℕ) → Ascending name n → (i k : ℕ) → i < k → k < n → order (name i) (name k) ≡ Less
+pub less_than : (name : ℕ → List ℕ) (n : ℕ) → Ascending name n → (i k : ℕ) → i < k → k < n → order (name i) (name k) ≡ Ordering.Less
 less_than name n a i k l h =
     let e : i + suc (k - (i + 1)) ≡ k = omega arith in
     rw e at (less_later name n a (k - (i + 1)) i (omega arith))
@@ -72,11 +71,11 @@ module _ (names registry name : List ℕ) where
   looked j zero = missing (λ k a b e. omega arith)
   looked j (suc n) = by (order (entry_name names registry j) name) refl (looked (j + 1) n)
     where
-      by : (o : Order) → order (entry_name names registry j) name ≡ o → Looked (j + 1) n (lookup names registry name (j + 1) n) →
+      by : (o : Ordering) → order (entry_name names registry j) name ≡ o → Looked (j + 1) n (lookup names registry name (j + 1) n) →
           Looked j (suc n) (pick (is_equal o) (Block (entry_at registry j).first (entry_at registry j).count) (lookup names registry name (j + 1) n))
-      by Less e r = later j n (λ q. less_self name (rw q at e)) r
-      by Equal e r = found {k = j} (omega arith) (omega arith) (order_equal (entry_name names registry j) name e)
-      by Greater e r = later j n (λ q. let z : ◌≡◌ {A = ℕ} 0 1 = cc (order_same name, rw q at e) in omega arith) r
+      by Ordering.Less e r = later j n (λ q. less_self name (rw q at e)) r
+      by Ordering.Equal e r = found {k = j} (omega arith) (omega arith) (order_equal (entry_name names registry j) name e)
+      by Ordering.Greater e r = later j n (λ q. let z : ◌≡◌ {A = ℕ} 0 1 = cc (order_same name, rw q at e) in omega arith) r
 
   looked_misses : {l : Located} → Looked 0 (entry_count registry) l → (l ≡ NoEntry) ↔ ((k : ℕ) → k < entry_count registry → entry_name names registry k ≡ name → ⊥)
   looked_misses (found {k = m} a b e) = (λ p. let z : ◌≡◌ {A = ℕ} 0 1 = cc in absurd (omega arith), λ h. absurd (h m (omega arith) e))

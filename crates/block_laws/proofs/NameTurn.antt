@@ -1,5 +1,7 @@
 -- When names are refused: a format by 33 just where its sizes, forms and depths stand and a name is not well-formed UTF-8.
 -- Assumes nothing.
+use Rattle.std.specs.Prelude.{⊤}
+use Rattle.std.proofs.Common.{Result, Ok, Err}
 use Prim.Native.Nat.{ℕ, ◌≤◌}
 use mathlib.Core.Path.{◌≡◌, refl}
 use mathlib.Core.Bool.{Bool, true, false}
@@ -15,8 +17,6 @@ use Rattle.rules.specs.Answers.{said, none_said, checked_said}
 use Rattle.rules.specs.Utf8.{Utf8}
 use Rattle.rules.specs.Format.{Format, reference_at, depths_ok, forms_ok, sizes_ok, block_utf8, entry_utf8, reference_utf8, format_utf8, rules_order, format_rules, format_rule, name_answer}
 use Rattle.rules.specs.declared.refusal.Refusal.{Refusal}
-use Rattle.rules.specs.declared.answer.Checked.{Checked}
-use Rattle.rules.specs.declared.answer.Checked.TheVariants.{Accepted, Refused}
 use Rattle.rules.proofs.Tests.{and_both, all_each}
 use Rattle.rules.proofs.Checks.{pick_accepted}
 use Rattle.block_laws.proofs.Utf8.{utf8_exactly}
@@ -26,7 +26,7 @@ use Rattle.block_laws.proofs.Honest.{broken_number}
 use Rattle.block_laws.proofs.FormatReasons.{BlockOf, of_entry, of_table, FormatReason, too_long, bad_form, too_deep, bad_node_name, bad_entry_name, bad_reference_name, broken, no_tables, unknown, root_not_tuple, no_name, format_honest}
 
 -- a name by itself
-pub one_name : (name : List ℕ) → (name_answer name ≡ Accepted) ↔ ((length name ≤ longest_slice) × Utf8 name)
+pub one_name : (name : List ℕ) → (name_answer name ≡ Ok tt) ↔ ((length name ≤ longest_slice) × Utf8 name)
 unfolding name_answer
 one_name name = (
   λ e.
@@ -64,12 +64,12 @@ pub turn_of_names : (f : Format) → ((checked_said (format_rule f)).number ≡ 
 unfolding format_rule format_rules checked_said said none_said line_of pick
 turn_of_names f = (λ e. by (sizes_ok f) (forms_ok f) (depths_ok f) (format_utf8 f) refl refl refl refl e, λ (s, w, d, n). rw (s, w, d, n))
   where
-    refused : (c : Checked) → format_rule f ≡ c → format_utf8 f ≡ true → (checked_said c).number ≡ 33 → ⊥
-    refused Accepted p n e = omega arith
-    refused (Refused r) p n e = no_bad_name f n r (format_honest f r p) e
+    refused : (c : Result ⊤ Refusal) → format_rule f ≡ c → format_utf8 f ≡ true → (checked_said c).number ≡ 33 → ⊥
+    refused (Ok tt) p n e = omega arith
+    refused (Err r) p n e = no_bad_name f n r (format_honest f r p) e
 
     by : (s w d n : Bool) → sizes_ok f ≡ s → forms_ok f ≡ w → depths_ok f ≡ d → format_utf8 f ≡ n →
-        (checked_said (pick s (pick w (pick d (pick n (rules_order f) (Refused NameNotUtf8)) (Refused TooDeep)) (Refused BadSchemaTable)) (Refused Setting))).number ≡ 33 →
+        (checked_said (pick s (pick w (pick d (pick n (rules_order f) (Err NameNotUtf8)) (Err TooDeep)) (Err BadSchemaTable)) (Err Setting))).number ≡ 33 →
         (s ≡ true) × (w ≡ true) × (d ≡ true) × (n ≡ false)
     by false w d n p q r t e = absurd (omega arith)
     by true false d n p q r t e = absurd (omega arith)

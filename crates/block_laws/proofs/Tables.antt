@@ -1,5 +1,6 @@
 -- What an accepted format gives the reader: each table has a schema that stands in a good block.
 -- Assumes nothing.
+use Rattle.std.proofs.Common.{Ok}
 use Prim.Native.Nat.{ℕ, ◌<◌}
 use mathlib.Core.Path.{◌≡◌}
 use borrow.Author.Tests.{lt-ltb}
@@ -9,7 +10,6 @@ use Rattle.rules.specs.Format.{Format, reference_at, tables, table_schema, forma
 use Rattle.rules.specs.Reading.{schema_in, schema_of}
 use Rattle.rules.specs.Good.{TableSchema}
 use Rattle.rules.specs.declared.table_record.Located.TheVariants.{Block}
-use Rattle.rules.specs.declared.answer.Checked.TheVariants.{Accepted}
 use Rattle.block_laws.proofs.Form.{closed}
 use Rattle.block_laws.proofs.Levels.{block_denotes}
 use Rattle.block_laws.proofs.Good.{tree_within}
@@ -17,7 +17,7 @@ use Rattle.block_laws.proofs.Formats.{placed, rules_accept}
 
 module _ (f : Format) where
   -- Of a format that is accepted each table has such a schema.
-  pub table_schema_lem : format_rules f ≡ Accepted → (t : ℕ) → t < tables f → TableSchema f t
+  pub table_schema_lem : format_rules f ≡ Ok tt → (t : ℕ) → t < tables f → TableSchema f t
   unfolding schema_of schema_in table_schema pick
   table_schema_lem e t h =
       let g = (rules_accept f).0 e in

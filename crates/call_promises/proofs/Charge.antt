@@ -2,6 +2,7 @@
 -- by hand, so there is no `Post` of it as there is of the other calls: what is said here is said of the contract's own clause, in the
 -- logic that it is written in and in every model of it.
 -- Assumes nothing.
+use Rattle.std.proofs.Common.{Ok, Err}
 use mathlib.Core.Path.{◌≡◌, refl, sym, ◌∙◌, ap}
 use mathlib.Core.Bool.{Bool, true, false}
 use seplogic.Ra.Ura.{Ura}
@@ -15,11 +16,9 @@ use denote.Triple.Clauses.{AtExit}
 use denote.Triple.Entry.{Args, Res}
 use Rattle.rules.specs.Choice.{pick}
 use Rattle.rules.specs.declared.refusal.Refusal.{Refusal}
-use Rattle.rules.specs.declared.answer.Checked.TheVariants.{Refused}
 use Rattle.leaves.specs.Budget.{spent}
 use Rattle.rules.proofs.Checks.{refused_not}
 use Rattle.leaves.specs.declared.budget.RowBudget.{RowBudget}
-use Rattle.leaves.specs.declared.budget.Charged.TheVariants as charged
 use Rattle.charge.specs.declared.Lowered.{Lowered}
 use Rattle.charge.specs.Lowering.{lowered_by, lowering}
 use Rattle.charge.specs.contracts.charge
@@ -29,8 +28,8 @@ abbrev pub later : (κs : Lfts 1) → AtExit charge.ended κs → RowBudget
 later κs (budget, _) = budget.now
 
 -- a refused charge, by what the allowance's test said
-leaves : (b : Bool) (before left : RowBudget) (why r : Refusal) → (lowered_by before (pick b (charged.Left left) (charged.Refused why))).answer ≡ Refused r →
-    (lowered_by before (pick b (charged.Left left) (charged.Refused why))).budget ≡ before
+leaves : (b : Bool) (before left : RowBudget) (why r : Refusal) → (lowered_by before (pick b (Ok left) (Err why))).answer ≡ Err r →
+    (lowered_by before (pick b (Ok left) (Err why))).budget ≡ before
 unfolding lowered_by pick
 leaves true before left why r e = absurd (refused_not r (sym e))
 leaves false before left why r e = refl
@@ -52,7 +51,7 @@ module _ {M : Type 1} {𝓤 : Ura M} (𝓛 : Logic 𝓤) (memory : Memory → SP
       fact_i 𝓤 _ _ (ap (λ (l : Lowered). l.answer) (p ∙ sym q), ap (λ (l : Lowered). l.budget) (p ∙ sym q))))
 
   -- A refusal leaves the allowance as it was.
-  pub refused_charge_leaves : (x : Res charge.signature κs) (s : AtExit charge.ended κs) (r : Refusal) → x ≡ Refused r → ent 𝓤 (Shown x s) (fact 𝓤 (later κs s ≡ a.0.now))
+  pub refused_charge_leaves : (x : Res charge.signature κs) (s : AtExit charge.ended κs) (r : Refusal) → x ≡ Err r → ent 𝓤 (Shown x s) (fact 𝓤 (later κs s ≡ a.0.now))
   unfolding lowering spent
   refused_charge_leaves x s r e =
       fact_use 𝓤 (Rule x s) (id⊢ 𝓤 (Shown x s)) (λ p.

@@ -20,16 +20,16 @@ use Rattle.skiff.proofs.indexing.skiff2_decode_indexed
 use Rattle.call_promises.proofs.OneAnswer.{OneAnswer, OneOutcome}
 
 -- ---- the calls
-pub build_index_one_answer : OneOutcome build_index.Kinds.ps build_index.Kinds.r (λ κs (settings, (table, (names, (references, (registry, (input, (index, _))))))). index.now ∷ []) build_index.Reads.Post
+pub build_index_one_answer : OneOutcome build_index.Kinds.ps build_index.Kinds.r (λ κs (settings, (format, (input, (index, _)))). index.now ∷ []) build_index.Reads.Post
 build_index_one_answer κs a x y s t p q = (ap (λ d. d.answer) (p ∙ sym q), ap (λ d. d.index ∷ []) (p ∙ sym q))
 
 pub check_index_one_answer : OneAnswer check_index.Kinds.ps check_index.Kinds.r check_index.Reads.Post
 check_index_one_answer κs a x y s t p q = p ∙ sym q
 
-pub extend_index_one_answer : OneOutcome extend_index.Kinds.ps extend_index.Kinds.r (λ κs (settings, (table, (names, (references, (registry, (input, (old, (index, _)))))))). index.now ∷ []) extend_index.Reads.Post
+pub extend_index_one_answer : OneOutcome extend_index.Kinds.ps extend_index.Kinds.r (λ κs (settings, (format, (input, (old, (index, _))))). index.now ∷ []) extend_index.Reads.Post
 extend_index_one_answer κs a x y s t p q = (ap (λ d. d.answer) (p ∙ sym q), ap (λ d. d.index ∷ []) (p ∙ sym q))
 
-pub decode_indexed_one_answer : OneOutcome decode_indexed.Kinds.ps decode_indexed.Kinds.r (λ κs (settings, (table, (names, (references, (registry, (input, (index, (row, (records, (payload, _)))))))))). records.now ∷ payload.now ∷ []) decode_indexed.Reads.Post
+pub decode_indexed_one_answer : OneOutcome decode_indexed.Kinds.ps decode_indexed.Kinds.r (λ κs (settings, (format, (input, (index, (row, (records, (payload, _))))))). records.now ∷ payload.now ∷ []) decode_indexed.Reads.Post
 decode_indexed_one_answer κs a x y s t p q = (ap (λ d. d.answer) (p ∙ sym q), ap (λ d. d.records ∷ d.payload ∷ []) (p ∙ sym q))
 
 -- ---- the C functions
@@ -61,8 +61,8 @@ put_index_record_one_answer κs a x y s t p q = (refl, rw (p, q))
 pub compare_records_one_answer : OneAnswer compare_records.Kinds.ps compare_records.Kinds.r compare_records.Reads.Post
 compare_records_one_answer κs a x y s t p q = p ∙ sym q
 
-pub put_records_one_answer : OneOutcome put_records.Kinds.ps put_records.Kinds.r (λ κs (table, (names, (references, (registry, (input, (settings, (index, (first, (start, _))))))))). index.now ∷ []) put_records.Reads.Post
+pub put_records_one_answer : OneOutcome put_records.Kinds.ps put_records.Kinds.r (λ κs (format, (input, (settings, (index, (first, (start, _)))))). index.now ∷ []) put_records.Reads.Post
 put_records_one_answer κs a x y s t p q = (refl, rw (p, q))
 
-pub decode_record_one_answer : OneOutcome decode_record.Kinds.ps decode_record.Kinds.r (λ κs (table, (names, (references, (registry, (input, (indexed, (settings, (records, (payload, _))))))))). records.now ∷ payload.now ∷ []) decode_record.Reads.Post
+pub decode_record_one_answer : OneOutcome decode_record.Kinds.ps decode_record.Kinds.r (λ κs (format, (input, (indexed, (settings, (records, (payload, _)))))). records.now ∷ payload.now ∷ []) decode_record.Reads.Post
 decode_record_one_answer κs a x y s t p q = (ap (λ d. d.answer) (p ∙ sym q), ap (λ d. d.records ∷ d.payload ∷ []) (p ∙ sym q))

@@ -25,10 +25,10 @@ answer_of_text_one_answer κs a x y s t p q = p ∙ sym q
 pub hex_digit_one_answer : OneAnswer hex_digit.Kinds.ps hex_digit.Kinds.r hex_digit.Reads.Post
 hex_digit_one_answer κs a x y s t p q = p ∙ sym q
 
-pub put_signed_one_answer : OneOutcome put_signed.Kinds.ps put_signed.Kinds.r (λ κs (buffer, (at, (store, (from, (width, _))))). buffer.now ∷ []) put_signed.Reads.Post
+pub put_signed_one_answer : OneOutcome put_signed.Kinds.ps put_signed.Kinds.r (λ κs (buffer, (at, (number, _))). buffer.now ∷ []) put_signed.Reads.Post
 put_signed_one_answer κs a x y s t p q = (p.ends ∙ sym q.ends, ap (λ u. u ∷ []) (p.holds ∙ sym q.holds))
 
-pub put_hex_bytes_one_answer : OneOutcome put_hex_bytes.Kinds.ps put_hex_bytes.Kinds.r (λ κs (buffer, (at, (store, (from, (count, _))))). buffer.now ∷ []) put_hex_bytes.Reads.Post
+pub put_hex_bytes_one_answer : OneOutcome put_hex_bytes.Kinds.ps put_hex_bytes.Kinds.r (λ κs (buffer, (at, (bytes, _))). buffer.now ∷ []) put_hex_bytes.Reads.Post
 put_hex_bytes_one_answer κs a x y s t p q = (p.0.ends ∙ sym q.0.ends, ap (λ u. u ∷ []) (p.0.holds ∙ sym q.0.holds))
 
 pub put_hex_number_one_answer : OneOutcome put_hex_number.Kinds.ps put_hex_number.Kinds.r (λ κs (buffer, (at, (count, (x, _)))). buffer.now ∷ []) put_hex_number.Reads.Post

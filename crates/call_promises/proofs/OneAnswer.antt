@@ -125,7 +125,7 @@ pub goes_on_one_answer : OneAnswer goes_on.Kinds.ps goes_on.Kinds.r goes_on.Read
 goes_on_one_answer κs a x y s t p q = p ∙ sym q
 
 -- ---- the calls that write
-pub next_row_one_answer : OneOutcome next_row.Kinds.ps next_row.Kinds.r (λ κs (settings, (table, (names, (references, (registry, (input, (position, (records, (payload, _))))))))). records.now ∷ payload.now ∷ []) next_row.Reads.Post
+pub next_row_one_answer : OneOutcome next_row.Kinds.ps next_row.Kinds.r (λ κs (settings, (format, (input, (position, (records, (payload, _)))))). records.now ∷ payload.now ∷ []) next_row.Reads.Post
 next_row_one_answer κs a x y s t p q = (ap (λ d. d.answer) (p ∙ sym q), ap (λ d. d.records ∷ d.payload ∷ []) (p ∙ sym q))
 
 pub encode_one_answer : OneOutcome encode.Kinds.ps encode.Kinds.r (λ κs (settings, (table, (names, (first, (count, (records, (payload, (output, (position, _))))))))). output.now ∷ []) encode.Reads.Post

@@ -3,6 +3,14 @@
 -- Assumes nothing.
 use mathlib.Core.Path.{◌≡◌, refl, sym, ◌∙◌, ap}
 use mathlib.Core.List.{[], ◌∷◌}
+use native.Mathlib.Omega.{arith}
+use Prim.Native.Nat.{ℕ}
+use Rattle.std.specs.Prelude.{⊤}
+use Rattle.std.proofs.Common.{Result, Ok, Err}
+use Rattle.rules.specs.declared.answer.Extent.{Extent}
+use Rattle.rules.specs.declared.refusal.Refusal.{Refusal}
+use Rattle.row.specs.Steps.{a_row}
+use Rattle.decode.specs.Steps.{given_room}
 use contract.Lifetimes.{Lfts}
 use borrow.Fn.Kinds.{Dens, res_t, ended_of}
 use denote.Triple.Clauses.{AtExit}
@@ -256,6 +264,22 @@ pub skip_root_one_answer : OneAnswer skip_root.Kinds.ps skip_root.Kinds.r skip_r
 skip_root_one_answer κs a x y s t p q = p ∙ sym q
 
 -- ---- rows
+
+-- steps whose answers are told among those of reading, which tell them apart
+one_row : (x y : Result Extent Refusal) → a_row x ≡ a_row y → x ≡ y
+unfolding a_row
+one_row (Ok e) (Ok f) h = let z : e ≡ f = cc in rw z
+one_row (Ok e) (Err r) h = absurd (let z : ◌≡◌ {A = ℕ} 0 1 = cc in omega arith)
+one_row (Err r) (Ok e) h = absurd (let z : ◌≡◌ {A = ℕ} 0 1 = cc in omega arith)
+one_row (Err r) (Err s) h = let z : r ≡ s = cc in rw z
+
+one_room : (e : Extent) (x y : Result ⊤ Refusal) → given_room e x ≡ given_room e y → x ≡ y
+unfolding given_room
+one_room e (Ok u) (Ok v) h = refl
+one_room e (Ok u) (Err r) h = absurd (let z : ◌≡◌ {A = ℕ} 0 1 = cc in omega arith)
+one_room e (Err r) (Ok u) h = absurd (let z : ◌≡◌ {A = ℕ} 0 1 = cc in omega arith)
+one_room e (Err r) (Err s) h = let z : r ≡ s = cc in rw z
+
 pub within_bounds_one_answer : OneAnswer within_bounds.Kinds.ps within_bounds.Kinds.r within_bounds.Reads.Post
 within_bounds_one_answer κs a x y s t p q = p ∙ sym q
 
@@ -266,16 +290,16 @@ pub block_at_one_answer : OneAnswer block_at.Kinds.ps block_at.Kinds.r block_at.
 block_at_one_answer κs a x y s t p q = p ∙ sym q
 
 pub row_of_one_answer : OneAnswer row_of.Kinds.ps row_of.Kinds.r row_of.Reads.Post
-row_of_one_answer κs a x y s t p q = p ∙ sym q
+row_of_one_answer κs a x y s t p q = one_row x y (p ∙ sym q)
 
 pub row_at_one_answer : OneAnswer row_at.Kinds.ps row_at.Kinds.r row_at.Reads.Post
-row_at_one_answer κs a x y s t p q = p ∙ sym q
+row_at_one_answer κs a x y s t p q = one_row x y (p ∙ sym q)
 
 pub run_rows_one_answer : OneAnswer run_rows.Kinds.ps run_rows.Kinds.r run_rows.Reads.Post
 run_rows_one_answer κs a x y s t p q = p ∙ sym q
 
 pub room_for_one_answer : OneAnswer room_for.Kinds.ps room_for.Kinds.r room_for.Reads.Post
-room_for_one_answer κs a x y s t p q = p ∙ sym q
+room_for_one_answer κs a x y s t p q = one_room _ x y (p ∙ sym q)
 
 -- ---- value tables
 pub whole_records_one_answer : OneAnswer whole_records.Kinds.ps whole_records.Kinds.r whole_records.Reads.Post
@@ -334,7 +358,7 @@ fill_row_one_answer κs a x y s t p q = (refl, rw (p.0, p.1, q.0, q.1))
 pub fill_at_one_answer : OneOutcome fill_at.Kinds.ps fill_at.Kinds.r (λ κs (table, (input, (at, (first, (count, (records, (payload, _))))))). records.now ∷ payload.now ∷ []) fill_at.Reads.Post
 fill_at_one_answer κs a x y s t p q = (refl, rw (p.0, p.1, q.0, q.1))
 
-pub decode_row_one_answer : OneOutcome decode_row.Kinds.ps decode_row.Kinds.r (λ κs (table, (names, (references, (registry, (input, (at, (settings, (records, (payload, _))))))))). records.now ∷ payload.now ∷ []) decode_row.Reads.Post
+pub decode_row_one_answer : OneOutcome decode_row.Kinds.ps decode_row.Kinds.r (λ κs (format, (input, (at, (settings, (records, (payload, _)))))). records.now ∷ payload.now ∷ []) decode_row.Reads.Post
 decode_row_one_answer κs a x y s t p q = (ap (λ d. d.answer) (p ∙ sym q), ap (λ d. d.records ∷ d.payload ∷ []) (p ∙ sym q))
 
 pub give_one_answer : OneOutcome give.Kinds.ps give.Kinds.r (λ κs (s, _). s.now ∷ []) give.Reads.Post

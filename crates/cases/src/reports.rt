@@ -1,5 +1,5 @@
 // Answers in numbers, as a line begins.
-use rules::{Checked, Extent, Read, Report, Stop};
+use rules::{Extent, Refusal, Report};
 
 pub fn accepted(x: u64, y: u64) -> Report {
     Report {
@@ -22,10 +22,10 @@ pub fn nothing() -> Report {
     }
 }
 
-pub fn checked(c: Checked) -> Report {
+pub fn checked(c: Result<(), Refusal>) -> Report {
     match c {
-        Checked::Accepted => accepted(0, 0),
-        Checked::Refused(r) => r.in_numbers(),
+        Ok(()) => accepted(0, 0),
+        Err(r) => r.in_numbers(),
     }
 }
 
@@ -41,18 +41,18 @@ pub fn accepted_row(row: Extent) -> Report {
 }
 
 // The end is all zeros, which no row is: a row has bytes.
-pub fn read(r: Read) -> Report {
+pub fn read(r: Result<Option<Extent>, Refusal>) -> Report {
     match r {
-        Read::Row(row) => accepted_row(row),
-        Read::End => accepted(0, 0),
-        Read::Refused(why) => why.in_numbers(),
+        Ok(Some(row)) => accepted_row(row),
+        Ok(None) => accepted(0, 0),
+        Err(why) => why.in_numbers(),
     }
 }
 
 // Why a run stopped.
-pub fn stopped(stop: Stop) -> Report {
+pub fn stopped(stop: Result<(), Refusal>) -> Report {
     match stop {
-        Stop::End => accepted(0, 0),
-        Stop::Refused(why) => why.in_numbers(),
+        Ok(()) => accepted(0, 0),
+        Err(why) => why.in_numbers(),
     }
 }

@@ -4,14 +4,14 @@
 ghost use Rattle.std.specs.Prelude.{◌≡◌};
 ghost use Rattle.charge.specs.Lowering.{lowering};
 
-use leaves::budget::{Charged, RowBudget};
-use rules::Checked;
+use leaves::budget::RowBudget;
+use rules::Refusal;
 
 // What a charge leaves of an allowance, and what it answers.
 #[derive(Clone, Copy)]
 pub struct Lowered {
     pub budget: RowBudget,
-    pub answer: Checked,
+    pub answer: Result<(), Refusal>,
 }
 
 // A charge by value: lowered where it is accepted, and as it was where it is refused.
@@ -19,19 +19,19 @@ pub fn lower(before: RowBudget, bytes: u64, place: u64) -> Lowered
     ensures { result ≡ lowering before bytes place }
 {
     match before.charge(bytes, place) {
-        Charged::Left(left) => Lowered {
+        Ok(left) => Lowered {
             budget: left,
-            answer: Checked::Accepted,
+            answer: Ok(()),
         },
-        Charged::Refused(refusal) => Lowered {
+        Err(refusal) => Lowered {
             budget: before,
-            answer: Checked::Refused(refusal),
+            answer: Err(refusal),
         },
     }
 }
 
 // The same through a reference: so many bytes less, or 13 at `place`, and then the allowance stays.
-pub fn charge(budget: &mut RowBudget, bytes: u64, place: u64) -> Checked
+pub fn charge(budget: &mut RowBudget, bytes: u64, place: u64) -> Result<(), Refusal>
     ensures { record { budget = budget.new; answer = result } ≡ lowering budget.old bytes place }
 {
     let lowered = lower(*budget, bytes, place);

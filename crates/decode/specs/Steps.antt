@@ -1,6 +1,8 @@
 -- What the steps of decode over a checked format ask and answer.
 -- Assumes nothing: these are definitions.
-use Rattle.std.specs.Prelude.{ℕ, ◌+◌, ◌≤◌, List, length}
+use Rattle.std.specs.Prelude.{ℕ, ◌+◌, ◌≤◌, List, length, Result, Option, Some, Ok, Err, ⊤}
+use Rattle.rules.specs.declared.answer.Extent.{Extent}
+use Rattle.rules.specs.declared.refusal.Refusal.{Refusal}
 use Rattle.rules.specs.Block.{records, block}
 use Rattle.fill.specs.Filling.{Fillable}
 
@@ -10,3 +12,8 @@ pub record Granted (table inp : List ℕ) (at first count n m : ℕ) : Type 0 wh
   pub within : first + count ≤ records table
   pub tag : at + 2 ≤ length inp
   pub fills : Fillable (block table first count) inp (at + 2) n m
+
+-- the answer of the test for a row's room, among the answers of reading: the row, or why it has none
+unfoldable pub given_room : Extent → Result ⊤ Refusal → Result (Option Extent) Refusal
+given_room e (Ok tt) = Ok (Some e)
+given_room e (Err r) = Err r

@@ -3,47 +3,29 @@
 
 ghost use Rattle.std.specs.Prelude.{◌≡◌};
 ghost use Rattle.rules.specs.Reading.{decode_rule};
-ghost use Rattle.schema.specs.Slices.{slices};
 
 pub mod steps;
 
 use row::door::door;
-use rules::{Door, Read, Settings};
+use rules::{Door, Extent, Format, Refusal, Settings};
 use steps::decode_row;
 
 // The row at a position of the stream, as value records and payload bytes from the start of each slice; the end of the
 // stream; or why it is refused, and then both slices are as they were.
 pub fn next_row(
     settings: Settings,
-    table: &[u8],
-    names: &[u8],
-    references: &[u8],
-    registry: &[u8],
+    format: &Format,
     input: &[u8],
     position: u64,
     records: &mut [u8],
     payload: &mut [u8],
-) -> Read
+) -> Result<Option<Extent>, Refusal>
     ensures { record { answer = result; records = records.new; payload = payload.new }
-        ≡ decode_rule (slices table.now names.now references.now registry.now)
-        settings input.now position records.old payload.old }
+        ≡ decode_rule format.now settings input.now position records.old payload.old }
 {
-    let entry = door(
-        settings, table, names, references, registry, input, position,
-    );
+    let entry = door(settings, format, input, position)?;
     match entry {
-        Door::Open => decode_row(
-            table,
-            names,
-            references,
-            registry,
-            input,
-            position as usize,
-            settings,
-            records,
-            payload,
-        ),
-        Door::End => Read::End,
-        Door::Refused(why) => Read::Refused(why),
+        Door::Open => decode_row(format, input, position as usize, settings, records, payload),
+        Door::End => Ok(None),
     }
 }

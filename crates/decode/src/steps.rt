@@ -5,23 +5,22 @@ ghost use Rattle.rules.specs.Bytes.{over, longest_slice};
 ghost use Rattle.rules.specs.Block.{block};
 ghost use Rattle.rules.specs.ValueTable.{flat, payload_bytes};
 ghost use Rattle.rules.specs.Reading.{limits, row_at, room_for, filled};
-ghost use Rattle.schema.specs.Slices.{slices};
 ghost use Rattle.row.specs.Steps.{ThroughDoor};
 ghost use Rattle.fill.specs.Filling.{row_value};
-ghost use Rattle.decode.specs.Steps.{Granted};
+ghost use Rattle.decode.specs.Steps.{given_room, Granted};
 
 use block::table::block_of;
 use fill::fill_row;
 use record::value_record::records_in;
-use row::steps::{RowBlock, block_at, row_of};
-use rules::{Extent, Read, Refusal, Settings, Why, room_in};
+use row::steps::{block_at, row_of};
+use rules::{Extent, Format, Refusal, Settings, Why, room_in};
 
 // Room for a judged row's records, then for its payload bytes, in slices of these lengths; each refusal has the whole row's need.
-pub fn room_for(row: Extent, at: usize, records: usize, payload: usize) -> Read
-    ensures { result ≡ room_for at (min records longest_slice) (min payload longest_slice) row }
+pub fn room_for(row: Extent, at: usize, records: usize, payload: usize) -> Result<(), Refusal>
+    ensures { given_room row result ≡ room_for at (min records longest_slice) (min payload longest_slice) row }
 {
     if records_in(room_in(records)) < row.records {
-        return Read::Refused(Refusal {
+        return Err(Refusal {
             why: Why::NoNodeRoom {
                 needed: row.records,
             },
@@ -29,14 +28,14 @@ pub fn room_for(row: Extent, at: usize, records: usize, payload: usize) -> Read
         });
     }
     if room_in(payload) < row.payload {
-        return Read::Refused(Refusal {
+        return Err(Refusal {
             why: Why::NoPayloadRoom {
                 needed: row.payload,
             },
             place: at as u64,
         });
     }
-    Read::Row(row)
+    Ok(())
 }
 
 // A row that was judged and has room: the value of the root of its table's block, from the start of each slice.
@@ -66,36 +65,29 @@ pub fn fill_at(
 
 // The row at a position, judged, given room, filled in.
 pub fn decode_row(
-    table: &[u8],
-    names: &[u8],
-    references: &[u8],
-    registry: &[u8],
+    format: &Format,
     input: &[u8],
     at: usize,
     settings: Settings,
     records: &mut [u8],
     payload: &mut [u8],
-) -> Read
-    requires { ThroughDoor (slices table.now names.now references.now registry.now) input.now settings × (at ≤ length input.now) }
+) -> Result<Option<Extent>, Refusal>
+    requires { ThroughDoor format.now input.now settings × (at ≤ length input.now) }
     ensures { record { answer = result; records = records.new; payload = payload.new }
-        ≡ filled at (row_at (slices table.now names.now references.now registry.now)
-        input.now (limits settings) at)
+        ≡ filled at (row_at format.now input.now (limits settings) at)
         records.old payload.old }
 {
-    let found = block_at(names, references, registry, input, at);
-    match found {
-        RowBlock::Refused(why) => Read::Refused(why),
-        RowBlock::Block(tag, first, count) => {
-            let read = row_of(table, input, at, tag, first, count, settings);
-            let Read::Row(row) = read else {
-                return read;
-            };
-            let fits = room_for(row, at, records.len(), payload.len());
-            let Read::Row(_) = fits else {
-                return fits;
-            };
-            fill_at(table, input, at, first, count, records, payload);
-            Read::Row(row)
-        }
-    }
+    let found = block_at(format, input, at)?;
+    let row = row_of(format.table, input, at, found, settings)?;
+    room_for(row, at, records.len(), payload.len())?;
+    fill_at(
+        format.table,
+        input,
+        at,
+        found.first,
+        found.count,
+        records,
+        payload,
+    );
+    Ok(Some(row))
 }

@@ -7,14 +7,14 @@ mod arguments;
 mod reading;
 mod telling;
 
-ghost use Rattle.std.specs.Prelude.{◌≤◌, ◌≡◌, length, take};
+ghost use Rattle.std.specs.Prelude.{ℕ, ◌≤◌, ◌≡◌, length, take, Some};
 ghost use Rattle.windows.specs.Bounds.{Laid};
 
 use arguments::{argument_bytes, is_given};
 use failures::Failure;
 use reading::{read_one_more, run_stream};
 use reads::filling::read_full;
-use reads::{Outcome, TableRead, table_read};
+use reads::{RunFailure, TableFailure, table_read};
 use rules::Settings;
 use std::fs::File;
 use std::str::from_utf8;
@@ -41,40 +41,51 @@ fn open_file(rt: &HostRuntime, argument: usize, file: &[u8]) -> Option<File>
 }
 
 // Reads the file that an argument names into the space, from a position on, and answers where its bytes end: before the space's end, so
-// that there is room for the stream. Where that fails it tells so, and answers a position past the space. Given such a position it does
-// nothing and hands it on, so that a caller with several files tests the last answer alone.
+// that there is room for the stream. Where that fails it tells so, and answers none.
 fn read_table(
     rt: &HostRuntime,
     argument: usize,
     file: &[u8],
     space: &mut [u8],
     from: usize,
-) -> usize
-    requires { length file.now ≤ 16 }
-    ensures lower_bound { from ≤ result }
+) -> Option<usize>
+    requires { (length file.now ≤ 16) × (from ≤ length space.old) }
+    ensures bounds { (end : ℕ) → result ≡ Some end → (from ≤ end) × (end ≤ length space.new) }
     ensures space_unchanged { take from space.new ≡ take from space.old }
 {
-    if space.len() < from {
-        return from;
-    }
-    let past = space.len() + 1;
-    let Some(mut opened) = open_file(rt, argument, file) else {
-        return past;
-    };
+    let mut opened = open_file(rt, argument, file)?;
     let end = from + read_full(&mut opened, &mut space[from..]);
     let last = read_one_more(&mut opened);
     let read = table_read(end, space.len(), last);
     match read {
-        TableRead::Whole => end,
-        TableRead::TooLong => {
+        Ok(()) => Some(end),
+        Err(TableFailure::TooLong) => {
             tell_failure(rt, Failure::TooLong, file, argument);
-            past
+            None
         }
-        TableRead::Unreadable => {
+        Err(TableFailure::Unreadable) => {
             tell_failure(rt, Failure::CannotRead, file, argument);
-            past
+            None
         }
     }
+}
+
+// Reads the tables that four arguments name, the first of them by its number. They lie one behind the other in the space, so that only
+// their sum is limited.
+fn read_tables(rt: &HostRuntime, argument: usize, space: &mut [u8]) -> Option<Ends>
+    requires { argument ≤ 65535 }
+    ensures { (ends : Ends) → result ≡ Some ends → Laid ends ends.registry (length space.new) }
+{
+    let records = read_table(rt, argument, b"RECORDS", space, 0)?;
+    let names = read_table(rt, argument + 1, b"NAMES", space, records)?;
+    let references = read_table(rt, argument + 2, b"REFERENCES", space, names)?;
+    let registry = read_table(rt, argument + 3, b"REGISTRY", space, references)?;
+    Some(Ends {
+        records,
+        names,
+        references,
+        registry,
+    })
 }
 
 // Runs over the stream that an argument names, in the window that the tables leave, and tells how it came out.
@@ -84,38 +95,24 @@ fn deliver_stream(rt: &HostRuntime, argument: usize, space: &mut [u8], ends: End
     let Some(mut stream) = open_file(rt, argument, b"STREAM") else {
         return;
     };
-    let outcome = run_stream(Settings::new(), &mut stream, space, ends);
-    match outcome {
-        Outcome::Told(ran) => tell_run(rt, ran),
-        Outcome::NoRoom(position) => {
+    let told = run_stream(Settings::new(), &mut stream, space, ends);
+    match told {
+        Ok(ran) => tell_run(rt, ran),
+        Err(RunFailure::NoRoom(position)) => {
             let room = (space.len() - ends.registry) as u64;
             tell_failure(rt, Failure::NoRoom { position, room }, b"STREAM", argument);
         }
-        Outcome::Unreadable => tell_failure(rt, Failure::CannotRead, b"STREAM", argument),
+        Err(RunFailure::Unreadable) => tell_failure(rt, Failure::CannotRead, b"STREAM", argument),
     }
 }
 
-// Runs over the delivery that five arguments name, the first of them by its number. The tables lie one behind the other in the space, so
-// that only their sum is limited, and the rest of it is the window.
+// Runs over the delivery that five arguments name, the first of them by its number. What the tables leave of the space is the window.
 pub fn deliver_files(rt: &HostRuntime, space: &mut [u8], first: u16) {
     let argument = first as usize;
-    let records = read_table(rt, argument, b"RECORDS", space, 0);
-    let names = read_table(rt, argument + 1, b"NAMES", space, records);
-    let references = read_table(rt, argument + 2, b"REFERENCES", space, names);
-    let registry = read_table(rt, argument + 3, b"REGISTRY", space, references);
-    if registry <= space.len() {
-        deliver_stream(
-            rt,
-            argument + 4,
-            space,
-            Ends {
-                records,
-                names,
-                references,
-                registry,
-            },
-        );
-    }
+    let Some(ends) = read_tables(rt, argument, space) else {
+        return;
+    };
+    deliver_stream(rt, argument + 4, space, ends);
 }
 
 // The program: the delivery of its five arguments.

@@ -5,8 +5,8 @@ ghost use Rattle.windows.specs.Steps.{format_in};
 ghost use Rattle.deliveries.specs.Outcomes.{Answers};
 
 use reads::filling::read_full;
-use reads::{Outcome, outcome_of_last_read};
-use rules::{LONGEST, Refusal, Settings, Stop};
+use reads::{RunFailure, outcome_of_last_read};
+use rules::{LONGEST, Ran, Refusal, Settings};
 use std::io::Read;
 use windows::no_rows;
 use windows::space::{Ends, run_filled_window, run_window};
@@ -27,12 +27,12 @@ pub fn run_stream<R: Read>(
     stream: &mut R,
     space: &mut [u8],
     ends: Ends,
-) -> Outcome
+) -> Result<Ran, RunFailure>
     requires { Laid ends ends.registry (length space.old) }
     ensures { Answers (format_in space.old ends) settings ends space.new result }
 {
     let w = ends.registry;
-    let mut ran = run_window(settings, no_rows(Stop::End), space, ends, w);
+    let mut ran = run_window(settings, no_rows(Ok(())), space, ends, w);
     // Counted by hand: the end moves by what was read, and back by what the window has done with.
     let mut end = w;
     let mut read: u64 = 0;
@@ -43,7 +43,7 @@ pub fn run_stream<R: Read>(
         }
         read += got as u64;
         if (LONGEST as u64) < read {
-            return Outcome::Told(no_rows(Stop::Refused(Refusal::SETTING)));
+            return Ok(no_rows(Err(Refusal::SETTING)));
         }
         let reading = run_filled_window(settings, ran, space, ends, end + got);
         ran = reading.ran;

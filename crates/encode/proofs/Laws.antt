@@ -1,5 +1,8 @@
 -- What is known once schema and value table are accepted, and what each return of encode is by the rule.
 -- Assumes nothing.
+use Rattle.rules.specs.declared.answer.Extent.{Extent}
+use Rattle.std.specs.Prelude.{⊤}
+use Rattle.std.proofs.Common.{Result, Ok, Err}
 use Prim.Native.Nat.{ℕ, ◌+◌, ◌≤◌, ◌<◌, min}
 use mathlib.Core.Path.{◌≡◌, refl, sym, ◌∙◌}
 use mathlib.Core.Bool.{Bool, true, false}
@@ -21,9 +24,6 @@ use Rattle.rules.specs.Reading.{limits, room, when_accepted}
 use Rattle.rules.specs.Writing.{Encoded, unwritten, encode_value, encode_ok, encode_rule}
 use Rattle.rules.specs.declared.settings.Settings.{Settings}
 use Rattle.rules.specs.declared.refusal.Refusal.{Refusal}
-use Rattle.rules.specs.declared.answer.Checked.{Checked}
-use Rattle.rules.specs.declared.answer.Checked.TheVariants.{Accepted, Refused}
-use Rattle.rules.specs.declared.answer.Written.{Written}
 use Rattle.rules.proofs.Tests.{and_both}
 use Rattle.rules.proofs.Checks.{refused_not, then_both, pick_accepted}
 use Rattle.block_laws.proofs.Good.{FormedBlock, form_accepts}
@@ -46,12 +46,12 @@ pub beyond_both : (p n m : ℕ) → m < p → leb p (min n m) ≡ false
 beyond_both p n m h = lt-leb p (min n m) (omega arith)
 
 -- a block that the encoder accepts lies in the table and is formed
-accepted_formed : (table names : List ℕ) (first n : ℕ) → encoder_rules table names first n ≡ Accepted → FormedBlock table names first n
+accepted_formed : (table names : List ℕ) (first n : ℕ) → encoder_rules table names first n ≡ Ok tt → FormedBlock table names first n
 unfolding encoder_rules one_block
 accepted_formed table names first n e = (form_accepts table names first n).0 (and_both _ _ (pick_accepted _ _ _ e).0).1
 
 -- and its root is a tuple
-accepted_tuple : (table names : List ℕ) (first n : ℕ) → encoder_rules table names first n ≡ Accepted → (node_at (block table first n) 0).code ≡ 19
+accepted_tuple : (table names : List ℕ) (first n : ℕ) → encoder_rules table names first n ≡ Ok tt → (node_at (block table first n) 0).code ≡ 19
 unfolding encoder_rules one_block table_rule root_rule
 accepted_tuple table names first n e =
     let rules = (pick_accepted _ _ _ (pick_accepted _ _ _ (pick_accepted _ _ _ e).1).1).1 in
@@ -64,7 +64,7 @@ whole_value_lem sch lim recs pay out at (Whole v q) e w = rw e
 whole_value_lem sch lim recs pay out at Broken e w = absurd w
 
 -- a value table that is refused
-broken_value : (sch : List ℕ) (lim : Limits) (out : List ℕ) (at : ℕ) (p : Parsed Value) (r : Refusal) → form_checked p ≡ Refused r → unwritten out r ≡ encode_value sch lim p out at
+broken_value : (sch : List ℕ) (lim : Limits) (out : List ℕ) (at : ℕ) (p : Parsed Value) (r : Refusal) → form_checked p ≡ Err r → unwritten out r ≡ encode_value sch lim p out at
 unfolding form_checked encode_value
 broken_value sch lim out at (Whole v q) r e = absurd (refused_not r (sym e))
 broken_value sch lim out at Broken r e = let z : r ≡ BadValueTable = cc in rw z
@@ -73,11 +73,11 @@ broken_value sch lim out at Broken r e = let z : r ≡ BadValueTable = cc in rw 
 
 module _ (sch : List ℕ) (s : Settings) (recs pay out : List ℕ) (at : ℕ) where
   -- a value table that is refused
-  pub form_refused : (c : Checked) → c ≡ table_form recs pay → (r : Refusal) → c ≡ Refused r → unwritten out r ≡ encode_value sch (limits s) (table_value recs pay) out at
+  pub form_refused : (c : Result ⊤ Refusal) → c ≡ table_form recs pay → (r : Refusal) → c ≡ Err r → unwritten out r ≡ encode_value sch (limits s) (table_value recs pay) out at
   unfolding table_form
   form_refused c is r e = broken_value sch (limits s) out at (table_value recs pay) r (sym is ∙ e)
 
-  module _ (k : RowFlat sch recs pay) (c : Checked) (is : c ≡ table_form recs pay) (e : c ≡ Accepted) where
+  module _ (k : RowFlat sch recs pay) (c : Result ⊤ Refusal) (is : c ≡ table_form recs pay) (e : c ≡ Ok tt) where
     whole : IsWhole (table_value recs pay)
     unfolding table_form
     whole = accepted_whole (table_value recs pay) (sym is ∙ e)
@@ -87,7 +87,7 @@ module _ (sch : List ℕ) (s : Settings) (recs pay out : List ℕ) (at : ℕ) wh
     judgeable = record { sound = k.sound; root = k.root; tuple = k.tuple; whole = whole; short = k.short; small = k.small }
 
     -- and what is answered and left is the rule's
-    pub row_encoded : (x : Written) (out' : List ℕ) → x ≡ (placed_row sch (limits s) recs pay out at).answer → out' ≡ (placed_row sch (limits s) recs pay out at).output →
+    pub row_encoded : (x : Result Extent Refusal) (out' : List ℕ) → x ≡ (placed_row sch (limits s) recs pay out at).answer → out' ≡ (placed_row sch (limits s) recs pay out at).output →
         record { answer = x; output = out' } ≡ encode_value sch (limits s) (table_value recs pay) out at
     row_encoded x out' g h = rw (g, h) (whole_value_lem sch (limits s) recs pay out at (table_value recs pay) refl whole)
 
@@ -99,13 +99,13 @@ module _ (s : Settings) (table names : List ℕ) (first n : ℕ) (recs pay out :
   unfolding encode_rule pick
   out_of_bounds e = rw e
 
-  module _ (ok : encode_ok s table names recs pay out at ≡ true) (c : Checked) (is : c ≡ encoder_rules table names first n) where
+  module _ (ok : encode_ok s table names recs pay out at ≡ true) (c : Result ⊤ Refusal) (is : c ≡ encoder_rules table names first n) where
     -- a schema that is refused
-    pub schema_refused : (r : Refusal) → c ≡ Refused r → unwritten out r ≡ encode_rule s table names first n recs pay out at
+    pub schema_refused : (r : Refusal) → c ≡ Err r → unwritten out r ≡ encode_rule s table names first n recs pay out at
     unfolding encode_rule pick when_accepted
     schema_refused r e = rw (ok, ← is, e)
 
-    module _ (e : c ≡ Accepted) where
+    module _ (e : c ≡ Ok tt) where
       formed : FormedBlock table names first n
       formed = accepted_formed table names first n (sym is ∙ e)
 

@@ -10,8 +10,7 @@ ghost use Rattle.judge.specs.Flat.{RowFlat};
 
 use block::table::block_of;
 use judge::flat::flat_row;
-use judge::walk::AtOnce;
-use rules::{Checked, LONGEST, Refusal, Settings, Written};
+use rules::{Extent, LONGEST, Refusal, Settings};
 use schema::encoder_rules_at_once;
 use value::table_form;
 use write::steps::{place_flat_row, write_row};
@@ -58,20 +57,17 @@ fn encode_by(
     payload: &[u8],
     output: &mut [u8],
     at: usize,
-) -> Written
+) -> Result<Extent, Refusal>
     requires { RowFlat block.now records.now payload.now × (at ≤ min (length output.old) longest_slice) }
     ensures { record { answer = result; output = output.new } ≡ encode_value block.now (limits settings)
         (table_value records.now payload.now) output.old at }
 {
     let now = flat_row(block, settings, records, payload);
-    if let AtOnce::Fits(p) = now {
+    if let Some(p) = now {
         return place_flat_row(block, settings, p, records, payload, output, at);
     }
-    let form = table_form(records, payload);
-    match form {
-        Checked::Refused(why) => Written::Refused(why),
-        Checked::Accepted => write_row(block, settings, records, payload, output, at),
-    }
+    table_form(records, payload)?;
+    write_row(block, settings, records, payload, output, at)
 }
 
 // The value of a value table, written as a row of the block's schema from a position of the output on; or why it is refused, and
@@ -86,23 +82,20 @@ pub fn encode(
     payload: &[u8],
     output: &mut [u8],
     position: u64,
-) -> Written
+) -> Result<Extent, Refusal>
     ensures { record { answer = result; output = output.new } ≡ encode_rule settings table.now names.now first count
         records.now payload.now output.old position }
 {
     if !writing_within_bounds(settings, table, names, records, payload, output, position) {
-        return Written::Refused(Refusal::SETTING);
+        return Err(Refusal::SETTING);
     }
-    let schema = encoder_rules_at_once(table, names, first, count);
-    match schema {
-        Checked::Refused(why) => Written::Refused(why),
-        Checked::Accepted => encode_by(
-            block_of(table, first, count),
-            settings,
-            records,
-            payload,
-            output,
-            position as usize,
-        ),
-    }
+    encoder_rules_at_once(table, names, first, count)?;
+    encode_by(
+        block_of(table, first, count),
+        settings,
+        records,
+        payload,
+        output,
+        position as usize,
+    )
 }

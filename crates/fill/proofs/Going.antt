@@ -6,7 +6,8 @@ use mathlib.Core.List.{List}
 use native.Mathlib.Omega.{arith}
 use lib.ListN.{length}
 use Rattle.rules.specs.Bytes.{over}
-use Rattle.rules.specs.Wire.{Form}
+use Rattle.rules.specs.Wire.{Form, form}
+use Rattle.rules.specs.Block.{NodeIn, node_at, Closed}
 use Rattle.rules.specs.Value.{Value, Items, done, items, tally, tally_i, records_of, payload_of}
 use Rattle.rules.specs.ValueRecord.{value_record_start, value_record, layout, layouts}
 use Rattle.rules.specs.ValueTable.{payload_bytes, payload_bytes_i, below_i, heads, flat}
@@ -17,11 +18,12 @@ use Rattle.value_laws.proofs.Sizes.{length-flat, length_pays, one_record, items_
 use Rattle.fill.specs.declared.FillPos.{FillPos}
 use Rattle.fill.specs.declared.Next.{Next}
 use Rattle.fill.specs.declared.Next.TheVariants.{Child, End}
-use Rattle.fill.specs.Plain.{PlainRead, Got, value_read, end_read, Reader}
+use Rattle.fill.specs.Plain.{PlainRead, Got, value_read, end_read, Reader, read_at}
 use Rattle.fill.specs.Filling.{RoomToFill, past_filled, Filled, next_of}
 use Rattle.fill.proofs.Got.{got_from}
 use Rattle.value_laws.proofs.Children.{children}
-use Rattle.fill.proofs.Children.{left, ParentTable, Turn, Follows, child, ends, turn}
+use Rattle.rules.specs.Writing.{kind_for}
+use Rattle.fill.proofs.Children.{left, ParentTable, Turn, Follows, child, ends, turn, Opened, opened}
 
 abbrev pub spot : ℕ → ℕ → ℕ → FillPos
 spot at records payload = record { at = at; records = records; payload = payload }
@@ -136,3 +138,52 @@ module _ {inp : List ℕ} {rec : Reader} {n : Node} {f : Form} {own paid₀ : �
         records = w ∙ rw (p.table tag paid₀, all_counted, all_records, m) (over_front a (layouts (below_i (children (value_read x)) paid₀)) rs₀ (value_record_start own));
         payload = rw p.bytes all_payload;
       }
+
+-- ---- the loop, from what its function requires and the code reads of the node
+
+module _ (sch inp : List ℕ) (d i : ℕ) (s : FillPos) where
+  abbrev ToFill : ℕ → ℕ → Type 0
+  ToFill n m = Closed sch × NodeIn i (length sch) × (14 < (node_at sch i).code) × RoomToFill (read_at sch inp d i s.at) s n m
+
+  pub begun : (n m : ℕ) → ToFill n m → Opened sch inp d i s.at
+  begun n m k = opened sch inp d i s.at k.2 k.3.is
+
+  -- the node's own record and all of its children's have room
+  pub own_room : (n m : ℕ) → ToFill n m → value_record_start (s.records + (1 + tally_i (children (value_read (read_at sch inp d i s.at))) 1 0 0)) ≤ n
+  own_room n m k = rw (begun n m k).begins.parent.records at k.3.records
+
+  module _ {rs₀ ps₀ rs ps : List ℕ} {at filled paid j : ℕ} (k : ToFill (length rs₀) (length ps₀))
+      (g : Going inp (read_at sch inp (d - 1)) (node_at sch i) (form (node_at sch i).code) (children (value_read (read_at sch inp d i s.at))) (end_read (read_at sch inp d i s.at)) s.records s.payload rs₀ ps₀ rs ps at filled paid j)
+      (code first count : ℕ) (a : code ≡ (node_at sch i).code) (b : first ≡ (node_at sch i).first) (c : count ≡ (node_at sch i).children) (x : Next) (is : x ≡ next_of inp first count (form code) j at) where
+    next_is : x ≡ next_of inp (node_at sch i).first (node_at sch i).children (form (node_at sch i).code) j at
+    next_is = rw (a, b, c) at is
+
+    module _ (tag e q : ℕ) (h : x ≡ Child tag e q) (p : FillPos) (from : p ≡ spot q filled paid) where
+      turned : Turn inp (read_at sch inp (d - 1)) (node_at sch i) (form (node_at sch i).code) j g.enough (end_read (read_at sch inp d i s.at)) g.rest tag e q
+      turned = next_turn g x tag e q next_is h
+
+      child_fits : RoomToFill (read_at sch inp (d - 1) e p.at) p (length rs) (length ps)
+      child_fits = rw from (child_room g tag e q turned (own_room _ _ k) (rw (begun _ _ k).begins.parent.payload at k.3.payload))
+
+      -- the child is in the block, was read, and has room
+      pub child_asked : Closed sch × NodeIn e (length sch) × RoomToFill (read_at sch inp (d - 1) e p.at) p (length rs) (length ps)
+      unfolding Closed
+      child_asked = (k.0, omega (arith, turned.inside, k.0 i k.1), child_fits)
+
+      module _ (r : FillPos) (rs' ps' : List ℕ) (w : Filled (read_at sch inp (d - 1) e p.at) tag p r rs rs' ps ps') where
+        filled_here : Filled (read_at sch inp (d - 1) e q) tag (spot q filled paid) r rs rs' ps ps'
+        filled_here = rw from at w
+
+        -- it takes a record at least, and the loop goes on after it
+        pub child_smaller : (filled < r.records) × (value_record_start r.records ≤ length rs₀)
+        child_smaller = rw g.same_records at (fills_more g tag e q turned r rs' ps' filled_here (length rs) (length ps) (rw from at child_fits))
+
+        pub child_filled : Going inp (read_at sch inp (d - 1)) (node_at sch i) (form (node_at sch i).code) (children (value_read (read_at sch inp d i s.at))) (end_read (read_at sch inp d i s.at)) s.records s.payload rs₀ ps₀ rs' ps' r.at r.records r.payload (j + 1)
+        child_filled = going_next g tag e q turned r rs' ps' filled_here
+
+    -- and where no child follows, the node's own record is all that is left
+    pub node_filled : (tag q : ℕ) → x ≡ End q → (kind : ℕ) → kind ≡ kind_for code (form code) → (rs' : List ℕ) → rs' ≡ over rs (value_record_start s.records) (layout (value_record kind tag j 0)) →
+        (r : FillPos) → r ≡ spot q filled paid → Filled (read_at sch inp d i s.at) tag s r rs₀ rs' ps₀ ps
+    node_filled tag q h kind u rs' w r z =
+        let o = next_end g x q next_is h in
+        rw z (finish _ g o.0 s.at kind tag q rs' (rw (u, a) (begun _ _ k).begins.parent) o.1 w)

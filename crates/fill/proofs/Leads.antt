@@ -1,13 +1,14 @@
 -- What a node comes to at once: a leaf that is it, or a leaf that its tag names.
 -- Assumes nothing.
+use Rattle.std.proofs.Common.{Option, Some, None}
 use Prim.Native.Nat.{ℕ, ◌+◌, ◌-◌, ◌≤◌, ◌<◌}
 use mathlib.Core.Path.{◌≡◌, refl, sym, subst, ◌∙◌}
-use mathlib.Core.List.{List, ◌++◌}
+use mathlib.Core.List.{List, [], ◌++◌}
 use native.Mathlib.Omega.{arith}
 use lib.ListN.{length}
 use Rattle.rules.specs.Bytes.{le_at, over}
 use Rattle.rules.specs.Wire.{variant_form, form, width_of}
-use Rattle.rules.specs.Block.{node_at}
+use Rattle.rules.specs.Block.{NodeIn, node_at, Closed}
 use Rattle.rules.specs.Value.{Value, variant, records_of, payload_of, tally}
 use Rattle.rules.specs.ValueRecord.{value_record_start, value_record, layout, layouts}
 use Rattle.rules.specs.ValueTable.{payload_bytes, value_kind, size_of, content_of, head_of, below, heads, flat}
@@ -16,8 +17,6 @@ use Rattle.rules.proofs.Over.{over-at}
 use Rattle.value_laws.proofs.Records.{length-layout}
 use Rattle.leaves.proofs.Codes.{form_variant, tag_some}
 use Rattle.fill.specs.declared.FillPos.{FillPos}
-use Rattle.fill.specs.declared.ToFill.{ToFill}
-use Rattle.fill.specs.declared.ToFill.TheVariants.{Leaf, Children}
 use Rattle.fill.specs.Plain.{PlainRead, Got, IsGot, value_read, end_read, leaf_at, Reader, by_form, read_at}
 use Rattle.fill.specs.Filling.{past_filled}
 use Rattle.fill.specs.Leads.{Held, Rest, LeadsToFill}
@@ -97,11 +96,11 @@ variant_rest x y t tag at s rs rs' g e f h =
 
 module _ (sch inp : List ℕ) (d i code : ℕ) (c : code ≡ (node_at sch i).code) (s : FillPos) (tag : ℕ) (rs : List ℕ) where
   -- a leaf is its own
-  pub leads_self : (n : ℕ) → Held (read_at sch inp d i s.at) s n → code < 15 → LeadsToFill (read_at sch inp d i s.at) inp code tag s rs rs (Leaf code tag s)
+  pub leads_self : (n : ℕ) → Held (read_at sch inp d i s.at) s n → code < 15 → LeadsToFill (read_at sch inp d i s.at) inp code tag s rs rs (Some (code, tag, s))
   unfolding LeadsToFill
   leads_self n k h = (h, self_rest _ _ tag s rs (rw c (leaf_read sch inp d i s.at (rw (← c) h) k.is)))
 
-  pub leads_on : 15 ≤ code → LeadsToFill (read_at sch inp d i s.at) inp code tag s rs rs Children
+  pub leads_on : 15 ≤ code → LeadsToFill (read_at sch inp d i s.at) inp code tag s rs rs None
   unfolding LeadsToFill
   leads_on h = (h, refl)
 
@@ -116,29 +115,40 @@ module _ (sch inp : List ℕ) (d i code : ℕ) (c : code ≡ (node_at sch i).cod
     k : Chosen inp (read_at sch inp (d - 1)) (node_at sch i) w s.at (value_read (read_at sch inp d i s.at)) (end_read (read_at sch inp d i s.at))
     k = subst (λ (w : ℕ). Chosen inp (read_at sch inp (d - 1)) (node_at sch i) w s.at (value_read (read_at sch inp d i s.at)) (end_read (read_at sch inp d i s.at))) wide (chosen sch inp d i s.at (rw c at h) (rw c at l) g)
 
-    pub within : s.at + w ≤ length inp
+    within : s.at + w ≤ length inp
     within = omega (arith, k.there, p, tag_some code h (omega arith))
 
     child : (node_at sch i).first + le_at inp s.at w ≡ first + t
     child = omega (arith, tagged, f)
 
-    pub inside : first + t < (node_at sch i).first + (node_at sch i).children
+    inside : first + t < (node_at sch i).first + (node_at sch i).children
     inside = omega (arith, k.inside, child)
 
     pub leads_child : (below : ℕ) → below ≡ (node_at sch (first + t)).code → below < 15 → (rs' : List ℕ) → rs' ≡ over rs (value_record_start s.records) (layout (value_record 15 tag 1 0)) →
-        LeadsToFill (read_at sch inp d i s.at) inp code tag s rs rs' (Leaf below t (spot (s.at + w) (s.records + 1) s.payload))
+        LeadsToFill (read_at sch inp d i s.at) inp code tag s rs rs' (Some (below, t, (spot (s.at + w) (s.records + 1) s.payload)))
     unfolding LeadsToFill
     leads_child below u q rs' z =
         let y = leaf_read sch inp (d - 1) (first + t) (s.at + w) (rw (← u) q) (rw child at k.is) in
         (q, rw (u, ← y) (variant_rest _ _ t tag (s.at + w) s rs rs' (rw child at k.is) (rw (child, ← tagged) at k.value) (rw child at k.ends) z))
 
+-- where a variant was read, its tag is there and names a node of the block
+module _ (sch inp : List ℕ) (d i code : ℕ) (s : FillPos) (n : ℕ) (k : Closed sch × NodeIn i (length sch) × (code ≡ (node_at sch i).code) × Held (read_at sch inp d i s.at) s n) (h : 14 < code) (l : code ≤ 16) where
+  pub tag_there : (14 < code) × (code < 19) × (s.at + width_of (form code) ≤ length inp)
+  tag_there = (h, omega arith, within sch inp d i code k.2 s 0 [] k.3.is h (omega arith) _ _ refl refl _ refl)
+
+  pub child_there : (t : ℕ) → t ≡ le_at inp s.at (width_of (form code)) → (first : ℕ) → first ≡ (node_at sch i).first → NodeIn (first + t) (length sch)
+  unfolding Closed
+  child_there t is first f =
+      let a = inside sch inp d i code k.2 s 0 [] k.3.is h (omega arith) t _ is refl first f in
+      omega (arith, a, k.0 i k.1)
+
 -- ---- what the caller learns
 
-module _ (x : PlainRead Value) (inp : List ℕ) (code tag : ℕ) (s : FillPos) (rs rs' : List ℕ) (a : ToFill) (l : LeadsToFill x inp code tag s rs rs' a) where
-  pub reached_leaf : (c t : ℕ) (q : FillPos) → a ≡ Leaf c t q → (c < 15) × Rest x tag s rs (leaf_at inp c (form c) q.at) t q rs'
+module _ (x : PlainRead Value) (inp : List ℕ) (code tag : ℕ) (s : FillPos) (rs rs' : List ℕ) (a : Option (ℕ × ℕ × FillPos)) (l : LeadsToFill x inp code tag s rs rs' a) where
+  pub reached_leaf : (c t : ℕ) (q : FillPos) → a ≡ Some (c, t, q) → (c < 15) × Rest x tag s rs (leaf_at inp c (form c) q.at) t q rs'
   unfolding LeadsToFill
-  reached_leaf c t q e = subst (λ (y : ToFill). LeadsToFill x inp code tag s rs rs' y) e l
+  reached_leaf c t q e = subst (λ (y : Option (ℕ × ℕ × FillPos)). LeadsToFill x inp code tag s rs rs' y) e l
 
-  pub reached_children : a ≡ Children → (14 < code) × (rs' ≡ rs)
+  pub reached_children : a ≡ None → (14 < code) × (rs' ≡ rs)
   unfolding LeadsToFill
-  reached_children e = subst (λ (y : ToFill). LeadsToFill x inp code tag s rs rs' y) e l
+  reached_children e = subst (λ (y : Option (ℕ × ℕ × FillPos)). LeadsToFill x inp code tag s rs rs' y) e l

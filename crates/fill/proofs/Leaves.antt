@@ -73,7 +73,7 @@ module _ (inp : List ℕ) (code at : ℕ) where
   narrow_form tuple_form c l h = false_not c
   narrow_form unknown c l h = false_not c
 
-  pub narrow : code ≤ 12 → width_of (form code) ≤ 8 → IsGot (leaf_at inp code (form code) at) → Narrow (form code)
+  narrow : code ≤ 12 → width_of (form code) ≤ 8 → IsGot (leaf_at inp code (form code) at) → Narrow (form code)
   narrow c l h = narrow_form (form code) (scalar_code_lem code (omega arith)) l h
 
   -- ---- values whose n bytes from a position on are payload
@@ -100,7 +100,7 @@ module _ (inp : List ℕ) (code at : ℕ) where
   wide_form tuple_form c l h = false_not c
   wide_form unknown c l h = false_not c
 
-  pub wide_stored : code ≤ 12 → 8 < width_of (form code) → IsGot (leaf_at inp code (form code) at) → Stored (form code) at (width_of (form code))
+  wide_stored : code ≤ 12 → 8 < width_of (form code) → IsGot (leaf_at inp code (form code) at) → Stored (form code) at (width_of (form code))
   wide_stored c l h = wide_form (form code) (scalar_code_lem code (omega arith)) l h
 
   blob_form : IsGot (leaf_at inp code sized at) → Stored sized (at + 4) (le_at inp at 4)
@@ -111,7 +111,7 @@ module _ (inp : List ℕ) (code at : ℕ) where
       let n = length_part inp (at + 4) (le_at inp at 4) in
       record { there = omega (arith, a.0, b.0); ends = rw (a.1, b.1); table = λ tag p. rw (a.1, b.1, n); one = rw (a.1, b.1) (omega arith); load = rw (a.1, b.1) (omega (arith, n)); bytes = rw (a.1, b.1) }
 
-  pub blob_stored : 12 < code → code < 15 → IsGot (leaf_at inp code (form code) at) → Stored (form code) (at + 4) (le_at inp at 4)
+  blob_stored : 12 < code → code < 15 → IsGot (leaf_at inp code (form code) at) → Stored (form code) (at + 4) (le_at inp at 4)
   blob_stored g l h = let e = form_sized code g l in rw e (blob_form (rw e at h))
 
 -- no bytes hold 0, whatever the code
@@ -131,10 +131,10 @@ unfolding layouts
 one_layout r = append-nil (layout r)
 
 module _ (inp : List ℕ) (code : ℕ) (s : FillPos) (f : Form) where
-  pub narrow_room : (n m : ℕ) → Narrow inp code s.at f → RoomToFill (leaf_at inp code f s.at) s n m → ValueRecordIn s.records n
+  narrow_room : (n m : ℕ) → Narrow inp code s.at f → RoomToFill (leaf_at inp code f s.at) s n m → ValueRecordIn s.records n
   narrow_room n m k r = omega (arith, rw k.one at r.records)
 
-  pub narrow_fills : (tag w x : ℕ) (rs rs' ps : List ℕ) → Narrow inp code s.at f → w ≡ width_of f → x ≡ scalar_of inp code w s.at → rs' ≡ over rs (value_record_start s.records) (layout (value_record code tag 0 x)) →
+  narrow_fills : (tag w x : ℕ) (rs rs' ps : List ℕ) → Narrow inp code s.at f → w ≡ width_of f → x ≡ scalar_of inp code w s.at → rs' ≡ over rs (value_record_start s.records) (layout (value_record code tag 0 x)) →
       Filled (leaf_at inp code f s.at) tag s (record { at = s.at + w; records = s.records + 1; payload = s.payload }) rs rs' ps ps
   unfolding past_filled flat
   narrow_fills tag w x rs rs' ps k e d h = record {
@@ -143,16 +143,60 @@ module _ (inp : List ℕ) (code : ℕ) (s : FillPos) (f : Form) where
     payload = rw k.bytes (sym (over_none ps s.payload));
   }
 
+  -- room for a record and k payload bytes, which stand from a position on
+  abbrev StoredHeld : ℕ → ℕ → ℕ → ℕ → Type 0
+  StoredHeld from k n m = (from + k ≤ length inp) × (ValueRecordIn s.records n) × (s.payload + k ≤ m)
+
+  -- such a record and those bytes are what fills it
+  abbrev StoredFills : ℕ → ℕ → Type 0
+  StoredFills from k = (tag : ℕ) (q : FillPos) (rs rs' ps ps' : List ℕ) → q ≡ record { at = from + k; records = s.records + 1; payload = s.payload + k } →
+      rs' ≡ over rs (value_record_start s.records) (layout (value_record code tag k s.payload)) → ps' ≡ over ps s.payload (part inp from k) →
+      Filled (leaf_at inp code f s.at) tag s q rs rs' ps ps'
+
   module _ (from k : ℕ) (is : Stored inp code s.at f from k) where
-    pub stored_room : (n m : ℕ) → RoomToFill (leaf_at inp code f s.at) s n m → (from + k ≤ length inp) × (ValueRecordIn s.records n) × (s.payload + k ≤ m)
+    stored_room : (n m : ℕ) → RoomToFill (leaf_at inp code f s.at) s n m → StoredHeld from k n m
     stored_room n m r = (is.there, omega (arith, rw is.one at r.records), rw is.load at r.payload)
 
-    pub stored_fills : (tag : ℕ) (q : FillPos) (rs rs' ps ps' : List ℕ) → q ≡ record { at = from + k; records = s.records + 1; payload = s.payload + k } →
-        rs' ≡ over rs (value_record_start s.records) (layout (value_record code tag k s.payload)) → ps' ≡ over ps s.payload (part inp from k) →
-        Filled (leaf_at inp code f s.at) tag s q rs rs' ps ps'
+    stored_fills : StoredFills from k
     unfolding past_filled flat
     stored_fills tag q rs rs' ps ps' e g h = record {
       spot = rw (is.ends, is.one, is.load) e;
       records = rw (is.table tag s.payload, one_layout) g;
       payload = rw is.bytes h;
     }
+
+-- ---- a leaf that was read and has room: its bytes are there, and what the code writes fills it
+
+module _ (inp : List ℕ) (code : ℕ) (s : FillPos) (n m : ℕ) (k : (code < 15) × RoomToFill (leaf_at inp code (form code) s.at) s n m) where
+  -- in its record alone
+  module _ (l : code ≤ 12) (w : ℕ) (is : w ≡ width_of (form code)) (h : w ≤ 8) where
+    narrow_read : Narrow inp code s.at (form code)
+    narrow_read = narrow inp code s.at l (rw is at h) k.1.is
+
+    pub narrow_held : (w ≤ length inp - s.at) × ValueRecordIn s.records n
+    narrow_held = (rw is narrow_read.there, narrow_room inp code s (form code) n m narrow_read k.1)
+
+    pub narrow_filled : (tag x : ℕ) (rs rs' ps : List ℕ) → x ≡ scalar_of inp code w s.at → rs' ≡ over rs (value_record_start s.records) (layout (value_record code tag 0 x)) →
+        Filled (leaf_at inp code (form code) s.at) tag s (record { at = s.at + w; records = s.records + 1; payload = s.payload }) rs rs' ps ps
+    narrow_filled tag x rs rs' ps = narrow_fills inp code s (form code) tag w x rs rs' ps narrow_read is
+
+  -- and with payload
+  module _ (l : code ≤ 12) (w : ℕ) (is : w ≡ width_of (form code)) (h : 8 < w) where
+    wide_read : Stored inp code s.at (form code) s.at w
+    wide_read = rw is (wide_stored inp code s.at l (rw is at h) k.1.is)
+
+    pub wide_held : StoredHeld inp code s (form code) s.at w n m
+    wide_held = stored_room inp code s (form code) s.at w wide_read n m k.1
+
+    pub wide_filled : StoredFills inp code s (form code) s.at w
+    wide_filled = stored_fills inp code s (form code) s.at w wide_read
+
+  module _ (l : 12 < code) (b : ℕ) (is : b ≡ le_at inp s.at 4) where
+    blob_read : Stored inp code s.at (form code) (s.at + 4) b
+    blob_read = rw is (blob_stored inp code s.at l k.0 k.1.is)
+
+    pub blob_held : StoredHeld inp code s (form code) (s.at + 4) b n m
+    blob_held = stored_room inp code s (form code) (s.at + 4) b blob_read n m k.1
+
+    pub blob_filled : StoredFills inp code s (form code) (s.at + 4) b
+    blob_filled = stored_fills inp code s (form code) (s.at + 4) b blob_read

@@ -1,14 +1,12 @@
 -- What a node comes to at once.
 -- Assumes nothing: these are definitions.
-use Rattle.std.specs.Prelude.{ℕ, ◌+◌, ◌≤◌, ◌<◌, ◌≡◌, List}
+use Rattle.std.specs.Prelude.{ℕ, ◌+◌, ◌≤◌, ◌<◌, ◌≡◌, List, Option, Some, None}
 use Rattle.rules.specs.Wire.{form}
 use Rattle.rules.specs.Value.{Value, records_of}
 use Rattle.rules.specs.ValueRecord.{value_record_start}
 use Rattle.fill.specs.Plain.{PlainRead, IsGot, value_read, leaf_at}
 use Rattle.fill.specs.Filling.{RoomToFill, Filled}
 use Rattle.fill.specs.declared.FillPos.{FillPos}
-use Rattle.fill.specs.declared.ToFill.{ToFill}
-use Rattle.fill.specs.declared.ToFill.TheVariants.{Leaf, Children}
 
 -- a value was read, and n bytes have room for its records, from a spot on
 pub record Held (x : PlainRead Value) (s : FillPos) (n : ℕ) : Type 0 where
@@ -21,6 +19,6 @@ pub record Rest (x : PlainRead Value) (tag : ℕ) (s : FillPos) (rs : List ℕ) 
   pub fills : (r : FillPos) (rs'' ps ps' : List ℕ) → Filled y t q r rs' rs'' ps ps' → Filled x tag s r rs rs'' ps ps'
 
 -- a leaf that is all that is left, or a node with children, of which nothing is written yet
-unfoldable pub LeadsToFill : PlainRead Value → List ℕ → ℕ → ℕ → FillPos → List ℕ → List ℕ → ToFill → Type 0
-LeadsToFill x inp code tag s rs rs' (Leaf c t q) = (c < 15) × Rest x tag s rs (leaf_at inp c (form c) q.at) t q rs'
-LeadsToFill x inp code tag s rs rs' Children = (14 < code) × (rs' ≡ rs)
+unfoldable pub LeadsToFill : PlainRead Value → List ℕ → ℕ → ℕ → FillPos → List ℕ → List ℕ → Option (ℕ × ℕ × FillPos) → Type 0
+LeadsToFill x inp code tag s rs rs' (Some (c, t, q)) = (c < 15) × Rest x tag s rs (leaf_at inp c (form c) q.at) t q rs'
+LeadsToFill x inp code tag s rs rs' None = (14 < code) × (rs' ≡ rs)

@@ -221,13 +221,6 @@ fn fill_children(
     }
 }
 
-// What a node comes to at once: a leaf of this code, under this tag, from this spot on; or children.
-#[derive(Clone, Copy)]
-pub enum ToFill {
-    Leaf(u8, u64, FillPos),
-    Children,
-}
-
 // A node is a leaf itself, or a variant whose tag names one, whose own record is written here: so an optional column takes no children
 // step, as in the walk that judged it.
 fn leaf_at(
@@ -239,17 +232,17 @@ fn leaf_at(
     tag: u64,
     s: FillPos,
     records: &mut [u8],
-) -> ToFill
+) -> Option<(u8, u64, FillPos)>
     requires { Closed block.now × NodeIn node (length block.now) × (code ≡ (node_at block.now node).code)
         × Held (read_at block.now input.now depth node s.at) s (length records.old) }
     ensures { LeadsToFill (read_at block.now input.now depth node s.at) input.now
         code tag s records.old records.new result }
 {
     if code < 15 {
-        return ToFill::Leaf(code, tag, s);
+        return Some((code, tag, s));
     }
     if 16 < code {
-        return ToFill::Children;
+        return None;
     }
     let at = s.at;
     let bears = tag_at(code, input, at);
@@ -257,11 +250,11 @@ fn leaf_at(
     let child = (first + bears) as usize;
     let below = node_code(block, child);
     if 14 < below {
-        return ToFill::Children;
+        return None;
     }
     let own = s.records;
     put_record(records, own, 15, tag, 1, 0);
-    ToFill::Leaf(
+    Some((
         below,
         bears,
         FillPos {
@@ -269,7 +262,7 @@ fn leaf_at(
             records: own + 1,
             payload: s.payload,
         },
-    )
+    ))
 }
 
 // A node and all below it, as the child that its parent chose by `tag`.
@@ -292,10 +285,8 @@ fn fill_value(
     let code = node_code(block, node);
     let reached = leaf_at(block, node, code, depth, input, tag, s, records);
     match reached {
-        ToFill::Leaf(below, bears, from) => {
-            fill_leaf(below, input, bears, from, records, payload)
-        }
-        ToFill::Children => {
+        Some((below, bears, from)) => { fill_leaf(below, input, bears, from, records, payload) }
+        None => {
             // What a call lends has to lie in memory: copied here, so that a leaf is spared that.
             let nodes = block;
             let bytes = input;

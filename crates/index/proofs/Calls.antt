@@ -1,5 +1,7 @@
 -- The three calls, by what the run answered and what the second pass found.
 -- Assumes nothing.
+use Rattle.std.specs.Prelude.{⊤}
+use Rattle.std.proofs.Common.{Result, Option, Ok, Err, Some, None}
 use Prim.Native.Nat.{ℕ, ◌≤◌, ◌<◌, min}
 use mathlib.Core.Path.{◌≡◌, refl, sym, ap, ◌∙◌}
 use mathlib.Core.Bool.{Bool, true, false, not}
@@ -19,25 +21,22 @@ use Rattle.rules.specs.declared.settings.Settings.{Settings}
 use Rattle.rules.specs.declared.refusal.Refusal.{Refusal}
 use Rattle.rules.specs.declared.answer.RowSpan.{RowSpan}
 use Rattle.rules.specs.declared.answer.Ran.{Ran}
-use Rattle.rules.specs.declared.answer.Stop.{Stop}
 use Rattle.rules.proofs.Orders.{is_equal_lem, order_equal}
 use Rattle.rules.proofs.Stands.{length_part, part-whole}
 use Rattle.index_laws.proofs.Records.{length-index}
 use Rattle.index_laws.proofs.Ended.{rows}
-use Rattle.index.specs.declared.records.Compared.{Compared}
-use Rattle.index.specs.declared.records.Compared.TheVariants.{Same, Other}
 use Rattle.index.specs.Passes.{compared_with, Comparable, Writable}
 
 -- where the run is refused
-by_refusal : {A : Type 0} (stop : Stop) (a b : A) → (stop ≡ Stop.End → ⊥) → where_ended stop a b ≡ b
+by_refusal : {A : Type 0} (stop : Result ⊤ Refusal) (a b : A) → (stop ≡ Ok tt → ⊥) → where_ended stop a b ≡ b
 unfolding where_ended
-by_refusal Stop.End a b n = absurd (n refl)
-by_refusal (Stop.Refused r) a b n = refl
+by_refusal (Ok tt) a b n = absurd (n refl)
+by_refusal (Err r) a b n = refl
 
-pub not_end : (stop : Stop) (r : Refusal) → stop ≡ Stop.Refused r → stop ≡ Stop.End → ⊥
+pub not_end : (stop : Result ⊤ Refusal) (r : Refusal) → stop ≡ Err r → stop ≡ Ok tt → ⊥
 not_end stop r e q = let z : ◌≡◌ {A = ℕ} 0 1 = cc in omega arith
 
-pub not_other : (x : Compared) → x ≡ Other → (at : ℕ) → x ≡ Same at → ⊥
+pub not_other : (x : Option ℕ) → x ≡ None → (at : ℕ) → x ≡ Some at → ⊥
 not_other x e at q = let z : ◌≡◌ {A = ℕ} 0 1 = cc in omega arith
 
 -- bytes of another length are not the index of these rows
@@ -49,11 +48,11 @@ other_length rows bytes n = by (is_index_of rows bytes) refl
     by true q = unfold is_index_of in absurd (n (ap (λ (x : List ℕ). length x) (order_equal _ _ (is_equal_lem _ q)) ∙ length-index rows))
 
 -- what the second pass says of the records
-module _ (rows : List RowSpan) (count : ℕ) (index : List ℕ) (x : Compared) (is : x ≡ compared_with rows count index) where
-  abbrev Told : Bool → Compared
-  Told b = pick b (Same (byte_count (take count rows))) Other
+module _ (rows : List RowSpan) (count : ℕ) (index : List ℕ) (x : Option ℕ) (is : x ≡ compared_with rows count index) where
+  abbrev Told : Bool → Option ℕ
+  Told b = pick b (Some (byte_count (take count rows))) None
 
-  pub told_other : ((at : ℕ) → x ≡ Same at → ⊥) → is_index_of (take count rows) (part index 0 (index_record_start count)) ≡ false
+  pub told_other : ((at : ℕ) → x ≡ Some at → ⊥) → is_index_of (take count rows) (part index 0 (index_record_start count)) ≡ false
   unfolding compared_with pick
   told_other n = by (is_index_of (take count rows) (part index 0 (index_record_start count))) refl is
     where
@@ -61,7 +60,7 @@ module _ (rows : List RowSpan) (count : ℕ) (index : List ℕ) (x : Compared) (
       by true q e = absurd (n _ e)
       by false q e = refl
 
-  pub told_same_at : (at : ℕ) → x ≡ Same at → (is_index_of (take count rows) (part index 0 (index_record_start count)) ≡ true) × (at ≡ byte_count (take count rows))
+  pub told_same_at : (at : ℕ) → x ≡ Some at → (is_index_of (take count rows) (part index 0 (index_record_start count)) ≡ true) × (at ≡ byte_count (take count rows))
   unfolding compared_with pick
   told_same_at at k = by (is_index_of (take count rows) (part index 0 (index_record_start count))) refl is
     where
@@ -83,12 +82,12 @@ module _ (f : Format) (s : Settings) (inp : List ℕ) (ran : Ran) (is : ran ≡ 
   bytes_are = sym (ap (λ (r : Ran). r.bytes) is)
 
   -- the run's counts, and a refusal after it
-  after_run : (r : Refusal) → record { rows = ran.rows; bytes = ran.bytes; stop = Stop.Refused r } ≡ refused_after (run_rule f s inp) r
+  after_run : (r : Refusal) → record { rows = ran.rows; bytes = ran.bytes; stop = Err r } ≡ refused_after (run_rule f s inp) r
   unfolding refused_after
   after_run r = rw (← is)
 
-  module _ (refused : ran.stop ≡ Stop.End → ⊥) where
-    other_stop : (run_rule f s inp).stop ≡ Stop.End → ⊥
+  module _ (refused : ran.stop ≡ Ok tt → ⊥) where
+    other_stop : (run_rule f s inp).stop ≡ Ok tt → ⊥
     other_stop e = refused (sym stop_is ∙ e)
 
     pub build_refused : (index : List ℕ) → record { answer = ran; index = index } ≡ build_rule f s inp index
@@ -100,13 +99,13 @@ module _ (f : Format) (s : Settings) (inp : List ℕ) (ran : Ran) (is : ran ≡ 
     check_refused index h =
         rw (le-leb (length index) 4294967295 h) (is ∙ sym (by_refusal (run_rule f s inp).stop (pick (is_index_of (rows f s inp) index) (ran_of (run_rule f s inp)) (refused_after (run_rule f s inp) IndexMismatch)) (ran_of (run_rule f s inp)) other_stop))
 
-  module _ (end : ran.stop ≡ Stop.End) where
-    ends : (run_rule f s inp).stop ≡ Stop.End
+  module _ (end : ran.stop ≡ Ok tt) where
+    ends : (run_rule f s inp).stop ≡ Ok tt
     ends = stop_is ∙ end
 
     -- ---- room, and the records from `old` on
     module _ (index : List ℕ) (old r n : ℕ) (r-is : r ≡ min (length index) 4294967295) (n-is : n ≡ index_records_in r) where
-      no_room : n < ran.rows → record { answer = record { rows = ran.rows; bytes = ran.bytes; stop = Stop.Refused NoIndexRoom }; index = index } ≡ extended (run_rule f s inp) old index
+      no_room : n < ran.rows → record { answer = record { rows = ran.rows; bytes = ran.bytes; stop = Err NoIndexRoom }; index = index } ≡ extended (run_rule f s inp) old index
       unfolding extended room pick
       no_room h = rw (after_run NoIndexRoom, lt-leb (row_count (rows f s inp)) (index_records_in (min (length index) 4294967295)) (rw (n-is, r-is, ← rows_are) at h))
 
@@ -123,7 +122,7 @@ module _ (f : Format) (s : Settings) (inp : List ℕ) (ran : Ran) (is : ran ≡ 
       unfolding build_rule where_ended
       built = rw ends
 
-      pub build_no_room : n < ran.rows → record { answer = record { rows = ran.rows; bytes = ran.bytes; stop = Stop.Refused NoIndexRoom }; index = index } ≡ build_rule f s inp index
+      pub build_no_room : n < ran.rows → record { answer = record { rows = ran.rows; bytes = ran.bytes; stop = Err NoIndexRoom }; index = index } ≡ build_rule f s inp index
       build_no_room h = no_room index 0 r n r-is n-is h ∙ sym built
 
       pub build_put : ran.rows ≤ n → (index' : List ℕ) → index' ≡ over index (index_record_start 0) (index_of (drop 0 (rows f s inp))) → record { answer = ran; index = index' } ≡ build_rule f s inp index
@@ -135,11 +134,11 @@ module _ (f : Format) (s : Settings) (inp : List ℕ) (ran : Ran) (is : ran ≡ 
       unfolding check_index_rule where_ended pick
       checked = rw (le-leb (length index) 4294967295 h, ends)
 
-      mismatch : is_index_of (rows f s inp) index ≡ false → record { rows = ran.rows; bytes = ran.bytes; stop = Stop.Refused IndexMismatch } ≡ check_index_rule f s inp index
+      mismatch : is_index_of (rows f s inp) index ≡ false → record { rows = ran.rows; bytes = ran.bytes; stop = Err IndexMismatch } ≡ check_index_rule f s inp index
       unfolding pick
       mismatch e = after_run IndexMismatch ∙ sym (checked ∙ rw e)
 
-      pub check_other_size : (b : Bool) → b ≡ eqb (length index) (index_record_start ran.rows) → not b ≡ true → record { rows = ran.rows; bytes = ran.bytes; stop = Stop.Refused IndexMismatch } ≡ check_index_rule f s inp index
+      pub check_other_size : (b : Bool) → b ≡ eqb (length index) (index_record_start ran.rows) → not b ≡ true → record { rows = ran.rows; bytes = ran.bytes; stop = Err IndexMismatch } ≡ check_index_rule f s inp index
       check_other_size b q e =
           let z : eqb (length index) (index_record_start ran.rows) ≡ false = sym q ∙ not-true b e in
           mismatch (other_length (rows f s inp) index (rw rows_are (eqb-false (length index) (index_record_start ran.rows) z)))
@@ -155,21 +154,21 @@ module _ (f : Format) (s : Settings) (inp : List ℕ) (ran : Ran) (is : ran ≡ 
         unfolding row_count
         whole_index = rw (take_all ran.rows (rows f s inp) (omega (arith, rows_are)), ← size, part-whole index)
 
-        module _ (x : Compared) (so : x ≡ compared_with (rows f s inp) ran.rows index) where
-          pub check_other : ((at : ℕ) → x ≡ Same at → ⊥) → record { rows = ran.rows; bytes = ran.bytes; stop = Stop.Refused IndexMismatch } ≡ check_index_rule f s inp index
+        module _ (x : Option ℕ) (so : x ≡ compared_with (rows f s inp) ran.rows index) where
+          pub check_other : ((at : ℕ) → x ≡ Some at → ⊥) → record { rows = ran.rows; bytes = ran.bytes; stop = Err IndexMismatch } ≡ check_index_rule f s inp index
           check_other k = mismatch (sym whole_index ∙ told_other (rows f s inp) ran.rows index x so k)
 
-          pub check_same : (at : ℕ) → x ≡ Same at → ran ≡ check_index_rule f s inp index
+          pub check_same : (at : ℕ) → x ≡ Some at → ran ≡ check_index_rule f s inp index
           unfolding pick
           check_same at k = is ∙ sym (checked ∙ rw (sym whole_index ∙ (told_same_at (rows f s inp) ran.rows index x so at k).0))
 
-pub check_long : (f : Format) (s : Settings) (inp index : List ℕ) → 4294967295 < length index → record { rows = 0; bytes = 0; stop = Stop.Refused Setting } ≡ check_index_rule f s inp index
+pub check_long : (f : Format) (s : Settings) (inp index : List ℕ) → 4294967295 < length index → record { rows = 0; bytes = 0; stop = Err Setting } ≡ check_index_rule f s inp index
 unfolding check_index_rule pick ran_of refused_run row_count byte_count
 check_long f s inp index h = rw (lt-leb (length index) 4294967295 h)
 
 -- ---- extend
 module _ (f : Format) (s : Settings) (inp : List ℕ) (old : ℕ) (index : List ℕ) (r n : ℕ) (r-is : r ≡ min (length index) 4294967295) (n-is : n ≡ index_records_in r) where
-  pub extend_beyond : n < old → record { answer = record { rows = 0; bytes = 0; stop = Stop.Refused Setting }; index = index } ≡ extend_rule f s inp old index
+  pub extend_beyond : n < old → record { answer = record { rows = 0; bytes = 0; stop = Err Setting }; index = index } ≡ extend_rule f s inp old index
   unfolding extend_rule pick room ran_of refused_run row_count byte_count
   extend_beyond h = rw (lt-leb old (index_records_in (min (length index) 4294967295)) (rw (n-is, r-is) at h))
 
@@ -178,12 +177,12 @@ module _ (f : Format) (s : Settings) (inp : List ℕ) (old : ℕ) (index : List 
     unfolding room
     inside = le-leb old (index_records_in (min (length index) 4294967295)) (rw (n-is, r-is) at h)
 
-    pub extend_refused : (ran.stop ≡ Stop.End → ⊥) → record { answer = ran; index = index } ≡ extend_rule f s inp old index
+    pub extend_refused : (ran.stop ≡ Ok tt → ⊥) → record { answer = ran; index = index } ≡ extend_rule f s inp old index
     unfolding extend_rule pick
     extend_refused refused =
         rw (inside, by_refusal {A = Indexed} (run_rule f s inp).stop _ (record { answer = ran_of (run_rule f s inp); index = index }) (other_stop f s inp ran is refused), is)
 
-    module _ (end : ran.stop ≡ Stop.End) where
+    module _ (end : ran.stop ≡ Ok tt) where
       abbrev matches : Bool
       matches = is_index_of (take old (rows f s inp)) (part index 0 (index_record_start old))
 
@@ -191,12 +190,12 @@ module _ (f : Format) (s : Settings) (inp : List ℕ) (old : ℕ) (index : List 
       unfolding extend_rule where_ended pick
       extends = rw (inside, ends f s inp ran is end)
 
-      mismatched : matches ≡ false → record { answer = record { rows = ran.rows; bytes = ran.bytes; stop = Stop.Refused IndexMismatch }; index = index } ≡ extend_rule f s inp old index
+      mismatched : matches ≡ false → record { answer = record { rows = ran.rows; bytes = ran.bytes; stop = Err IndexMismatch }; index = index } ≡ extend_rule f s inp old index
       unfolding pick
       mismatched e = rw (after_run f s inp ran is IndexMismatch) (sym (extends ∙ rw e))
 
       -- more old records than rows
-      pub extend_few : ran.rows < old → record { answer = record { rows = ran.rows; bytes = ran.bytes; stop = Stop.Refused IndexMismatch }; index = index } ≡ extend_rule f s inp old index
+      pub extend_few : ran.rows < old → record { answer = record { rows = ran.rows; bytes = ran.bytes; stop = Err IndexMismatch }; index = index } ≡ extend_rule f s inp old index
       unfolding row_count
       extend_few k =
           mismatched (other_length (take old (rows f s inp)) (part index 0 (index_record_start old)) (λ z.
@@ -209,16 +208,16 @@ module _ (f : Format) (s : Settings) (inp : List ℕ) (old : ℕ) (index : List 
         pub extend_comparable : Comparable f s inp old (length index)
         extend_comparable = record { ended = ends f s inp ran is end; few = rw (rows_are f s inp ran is) k; within = omega (arith, h, n-is, r-is) }
 
-        module _ (x : Compared) (so : x ≡ compared_with (rows f s inp) old index) where
-          pub extend_other : ((at : ℕ) → x ≡ Same at → ⊥) → record { answer = record { rows = ran.rows; bytes = ran.bytes; stop = Stop.Refused IndexMismatch }; index = index } ≡ extend_rule f s inp old index
+        module _ (x : Option ℕ) (so : x ≡ compared_with (rows f s inp) old index) where
+          pub extend_other : ((at : ℕ) → x ≡ Some at → ⊥) → record { answer = record { rows = ran.rows; bytes = ran.bytes; stop = Err IndexMismatch }; index = index } ≡ extend_rule f s inp old index
           extend_other m = mismatched (told_other (rows f s inp) old index x so m)
 
-          module _ (at : ℕ) (m : x ≡ Same at) where
+          module _ (at : ℕ) (m : x ≡ Some at) where
             stands_so : extend_rule f s inp old index ≡ extended (run_rule f s inp) old index
             unfolding pick
             stands_so = extends ∙ rw (told_same_at (rows f s inp) old index x so at m).0
 
-            pub extend_no_room : n < ran.rows → record { answer = record { rows = ran.rows; bytes = ran.bytes; stop = Stop.Refused NoIndexRoom }; index = index } ≡ extend_rule f s inp old index
+            pub extend_no_room : n < ran.rows → record { answer = record { rows = ran.rows; bytes = ran.bytes; stop = Err NoIndexRoom }; index = index } ≡ extend_rule f s inp old index
             extend_no_room l = no_room f s inp ran is end index old r n r-is n-is l ∙ sym stands_so
 
             pub extend_writable : ran.rows ≤ n → Writable f s inp old at (length index)

@@ -1,5 +1,7 @@
 -- The second pass over a stream whose run came to its end: what holds at each turn, comparing or writing.
 -- Assumes nothing.
+use Rattle.rules.specs.declared.refusal.Refusal.{Refusal}
+use Rattle.std.proofs.Common.{Result, Option, Ok, Some, None}
 use Prim.Native.Nat.{ℕ, suc, ◌+◌, ◌-◌, ◌≤◌, ◌<◌}
 use mathlib.Core.Path.{◌≡◌, refl, sym, ap, ◌∙◌}
 use mathlib.Core.Bool.{Bool, true, false, not}
@@ -17,9 +19,6 @@ use Rattle.rules.specs.Index.{index_record_start, index_record, indexed_at, inde
 use Rattle.rules.specs.declared.settings.Settings.{Settings}
 use Rattle.rules.specs.declared.answer.Extent.{Extent}
 use Rattle.rules.specs.declared.answer.RowSpan.{RowSpan}
-use Rattle.rules.specs.declared.answer.Read.{Read}
-use Rattle.rules.specs.declared.answer.Read.TheVariants.{Row}
-use Rattle.rules.specs.declared.answer.Stop.{Stop}
 use Rattle.rules.proofs.Orders.{is_equal_lem, order_same, order_equal}
 use Rattle.rules.proofs.Over.{over_none, over-at, length_over}
 use Rattle.rules.proofs.Stands.{stands_left, stands_right, stands_both, stands_part, part-stands}
@@ -28,13 +27,7 @@ use Rattle.row.specs.Steps.{ThroughDoor}
 use Rattle.index_laws.proofs.Records.{length_record, stands_read, read_stands, length-index, index_append}
 use Rattle.index_laws.proofs.Ended.{rows, Opened, Empty, opened, Passing, passing_first, passing_left, passing_inside, passing_opened}
 use Rattle.index_laws.proofs.Next.{span, one_taken, one_dropped, bytes_append, none_left, some_left, never_other, Next, next}
-use Rattle.index.specs.declared.records.Compared.TheVariants.{Same, Other}
 use Rattle.index.specs.Passes.{compared_with, same_span}
-
--- of three variants it is not the first
-pub not_first : (◌≡◌ {A = ℕ} 0 1) ⊎ (◌≡◌ {A = ℕ} 0 2) → ⊥
-not_first (inl e) = omega arith
-not_first (inr e) = omega arith
 
 -- rows are the same just if their numbers are
 pub same_is : (a b : RowSpan) → same_span a b ≡ true → a ≡ b
@@ -82,7 +75,7 @@ module _ (f : Format) (s : Settings) (inp : List ℕ) where
   pub writing_first : (index₀ : List ℕ) (first start : ℕ) → first ≤ row_count whole → start ≡ byte_count (take first whole) → Writing index₀ first index₀ start first
   writing_first index₀ first start h e = record { passing = record { few = h; begins = e }; same = refl; is = refl }
 
-  module _ (bs : Bytes inp) (end : (run_rule f s inp).stop ≡ Stop.End) where
+  module _ (bs : Bytes inp) (end : (run_rule f s inp).stop ≡ Ok tt) where
     -- ---- one turn of either pass, where a byte or a row is left
     module _ (at i : ℕ) (p : Passing f s inp at i) (some : (at < length inp) ⊎ (i < row_count whole)) where
       open_here : Opened f s inp
@@ -101,12 +94,12 @@ module _ (f : Format) (s : Settings) (inp : List ℕ) where
           by (inl l) = l
           by (inr l) = some_left f inp (limits s) bs at (drop i whole) (passing_left f s inp bs at i p open_here) (passing_inside f s inp bs at i p open_here) (omega (arith, length-drop i whole))
 
-      module _ (read : Read) (is : read ≡ skipped at (row_at f inp (limits s) at)) where
+      module _ (read : Result (Option Extent) Refusal) (is : read ≡ skipped at (row_at f inp (limits s) at)) where
         -- a row is read
-        pub reads_row : ((e : Extent) → read ≡ Row e → ⊥) → ⊥
+        pub reads_row : ((e : Extent) → read ≡ Ok (Some e) → ⊥) → ⊥
         reads_row = never_other f inp (limits s) bs at (drop i whole) (passing_left f s inp bs at i p open_here) (passing_inside f s inp bs at i p open_here) byte_left read is
 
-        module _ (e : Extent) (row : read ≡ Row e) where
+        module _ (e : Extent) (row : read ≡ Ok (Some e)) where
           abbrev Turn : Type 0
           Turn = Next f inp (limits s) bs at (drop i whole) (passing_left f s inp bs at i p open_here) (passing_inside f s inp bs at i p open_here) byte_left read is e
 
@@ -144,7 +137,7 @@ module _ (f : Format) (s : Settings) (inp : List ℕ) where
       before i h = length-index (take i whole) ∙ ap (λ (n : ℕ). index_record_start n) (length-take-le i whole h)
 
       -- all records stand there, and the rows end so far
-      pub compared_same : (at i : ℕ) → Comparing index count at i → count ≤ i → Same at ≡ compared_with whole count index
+      pub compared_same : (at i : ℕ) → Comparing index count at i → count ≤ i → Some at ≡ compared_with whole count index
       unfolding compared_with is_index_of is_equal pick
       compared_same at i c l =
           let z : i ≡ count = omega (arith, c.few) in
@@ -154,11 +147,11 @@ module _ (f : Format) (s : Settings) (inp : List ℕ) where
           let b : at ≡ byte_count (take count whole) = rw z at c.passing.begins in
           rw (q, order_same (index_of (take count whole)), b)
 
-      module _ (at i : ℕ) (c : Comparing index count at i) (l : i < count) (read : Read) (is : read ≡ skipped at (row_at f inp (limits s) at)) where
+      module _ (at i : ℕ) (c : Comparing index count at i) (l : i < count) (read : Result (Option Extent) Refusal) (is : read ≡ skipped at (row_at f inp (limits s) at)) where
         pub some_row : (at < length inp) ⊎ (i < row_count whole)
         some_row = inr (omega arith)
 
-        module _ (e : Extent) (row : read ≡ Row e) where
+        module _ (e : Extent) (row : read ≡ Ok (Some e)) where
           abbrev here : Next f inp (limits s) bs at (drop i whole) (passing_left f s inp bs at i c.passing (open_here at i c.passing some_row)) (passing_inside f s inp bs at i c.passing (open_here at i c.passing some_row)) (byte_left at i c.passing some_row) read is e
           here = turn at i c.passing some_row read is e row
 
@@ -176,11 +169,11 @@ module _ (f : Format) (s : Settings) (inp : List ℕ) where
               }
 
           -- a record that is another row's: they are not the first rows' records
-          pub compared_other : (indexed_at index i ≡ span at e → ⊥) → Other ≡ compared_with whole count index
+          pub compared_other : (indexed_at index i ≡ span at e → ⊥) → None ≡ compared_with whole count index
           unfolding compared_with is_index_of pick index_of
           compared_other differs = by (is_equal (order (part index 0 (index_record_start count)) (index_of (take count whole)))) refl
             where
-              by : (b : Bool) → is_equal (order (part index 0 (index_record_start count)) (index_of (take count whole))) ≡ b → Other ≡ pick b (Same (byte_count (take count whole))) Other
+              by : (b : Bool) → is_equal (order (part index 0 (index_record_start count)) (index_of (take count whole))) ≡ b → None ≡ pick b (Some (byte_count (take count whole))) None
               by false q = refl
               by true q =
                   let k : part index 0 (index_record_start count) ≡ index_of (take count whole) = order_equal _ _ (is_equal_lem _ q) in
@@ -210,7 +203,7 @@ module _ (f : Format) (s : Settings) (inp : List ℕ) where
           by (inl o) = none_left f inp (limits s) bs at (drop i whole) (passing_left f s inp bs at i w.passing o) (passing_inside f s inp bs at i w.passing o) l
           by (inr n) = drop_of_length-le whole {i = i} (let z : length whole ≡ 0 = ap (λ (x : List RowSpan). length x) n.no_rows in omega (arith, z))
 
-      module _ (index : List ℕ) (at i : ℕ) (w : Writing index₀ first index at i) (l : at < length inp) (read : Read) (is : read ≡ skipped at (row_at f inp (limits s) at)) (e : Extent) (row : read ≡ Row e) where
+      module _ (index : List ℕ) (at i : ℕ) (w : Writing index₀ first index at i) (l : at < length inp) (read : Result (Option Extent) Refusal) (is : read ≡ skipped at (row_at f inp (limits s) at)) (e : Extent) (row : read ≡ Ok (Some e)) where
         pub record_room_lem : index_record_start (row_count whole) ≤ length index₀ → IndexRecordIn i (length index)
         record_room_lem room = let r = row_left at i w.passing (inl l) read is e row in omega (arith, r, w.same)
 

@@ -3,19 +3,11 @@ ghost use Rattle.std.specs.Prelude.{◌≡◌, length, drop};
 ghost use Rattle.rules.specs.Bytes.{over};
 ghost use Rattle.rules.specs.Reading.{run_rule};
 ghost use Rattle.rules.specs.Index.{index_record_start, index_of};
-ghost use Rattle.schema.specs.Slices.{slices};
 ghost use Rattle.index.specs.Passes.{Comparable, compared_with, same_span, Writable};
 
 use record::index_record::{index_record_at, put_index_record};
 use row::steps::row_at;
-use rules::{Extent, Read, RowSpan, Settings};
-
-// The first records of an index are those of the stream's first rows, which end here; or they are not.
-#[derive(Clone, Copy)]
-pub enum Compared {
-    Same(usize),
-    Other,
-}
+use rules::{Extent, Format, RowSpan, Settings};
 
 // A record is that of the row that was read at a position.
 fn same_span(indexed: RowSpan, at: usize, row: Extent) -> bool
@@ -26,58 +18,47 @@ fn same_span(indexed: RowSpan, at: usize, row: Extent) -> bool
 
 // The index's first `count` records, by the stream's first rows.
 pub fn compare_records(
-    table: &[u8],
-    names: &[u8],
-    references: &[u8],
-    registry: &[u8],
+    format: &Format,
     input: &[u8],
     settings: Settings,
     index: &[u8],
     count: usize,
-) -> Compared
-    requires { Comparable (slices table.now names.now references.now registry.now) settings input.now count (length index.now) }
-    ensures { result ≡ compared_with
-        (run_rule (slices table.now names.now references.now registry.now) settings
-        input.now).rows
-        count index.now }
+) -> Option<usize>
+    requires { Comparable format.now settings input.now count (length index.now) }
+    ensures { result ≡ compared_with (run_rule format.now settings input.now).rows count index.now }
 {
     let mut at: usize = 0;
     for i in 0..count {
-        let read = row_at(table, names, references, registry, input, at, settings);
-        let Read::Row(row) = read else {
-            return Compared::Other;
+        let read = row_at(format, input, at, settings);
+        let Ok(row) = read else {
+            return None;
         };
         if !same_span(index_record_at(index, i), at, row) {
-            return Compared::Other;
+            return None;
         }
         at += row.bytes as usize;
     }
-    Compared::Same(at)
+    Some(at)
 }
 
 // The records of the rows from row `first` on, which begins at `start`.
 pub fn put_records(
-    table: &[u8],
-    names: &[u8],
-    references: &[u8],
-    registry: &[u8],
+    format: &Format,
     input: &[u8],
     settings: Settings,
     index: &mut [u8],
     first: usize,
     start: usize,
 )
-    requires { Writable (slices table.now names.now references.now registry.now) settings input.now first start (length index.old) }
-    ensures { index.new ≡ over index.old (index_record_start first) (index_of (drop first
-        (run_rule (slices table.now names.now references.now registry.now) settings
-        input.now).rows)) }
+    requires { Writable format.now settings input.now first start (length index.old) }
+    ensures { index.new ≡ over index.old (index_record_start first) (index_of (drop first (run_rule format.now settings input.now).rows)) }
 {
     let mut at: usize = start;
     // Counted by hand: the input's end ends it, and not a count of rows.
     let mut i: usize = first;
     while at < input.len() {
-        let read = row_at(table, names, references, registry, input, at, settings);
-        let Read::Row(row) = read else {
+        let read = row_at(format, input, at, settings);
+        let Ok(row) = read else {
             return;
         };
         put_index_record(

@@ -1,5 +1,7 @@
 -- A stream whose run came to its end.
 -- Assumes nothing.
+use Rattle.std.specs.Prelude.{⊤}
+use Rattle.std.proofs.Common.{Result, Ok, Err}
 use Prim.Native.Nat.{ℕ, suc, ◌+◌, ◌≤◌, ◌<◌}
 use mathlib.Core.Path.{◌≡◌, refl, sym, ap}
 use mathlib.Core.Bool.{Bool, true, false}
@@ -16,11 +18,8 @@ use Rattle.rules.specs.Reading.{Run, limits, when_accepted, bounds_ok, door, thr
 use Rattle.rules.specs.Refusals.{Setting}
 use Rattle.rules.specs.declared.settings.Settings.{Settings}
 use Rattle.rules.specs.declared.refusal.Refusal.{Refusal}
-use Rattle.rules.specs.declared.answer.Checked.{Checked}
 use Rattle.rules.specs.declared.answer.Door.{Door}
-use Rattle.rules.specs.declared.answer.Door.TheVariants as door-is
 use Rattle.rules.specs.declared.answer.RowSpan.{RowSpan}
-use Rattle.rules.specs.declared.answer.Stop.{Stop}
 use Rattle.row_laws.proofs.Door.{MayAsk, behind_open}
 use Rattle.row_laws.proofs.Running.{Iterates, run_iterates}
 use Rattle.index_laws.proofs.Rows.{iterates_from, begins_inside}
@@ -32,46 +31,46 @@ module _ (f : Format) (s : Settings) (inp : List ℕ) where
   -- it went through the door, and skip accepts its rows one after another up to the end
   pub record Opened : Type 0 where
     pub may : MayAsk f s inp
-    pub goes : Iterates f inp (limits s) 0 rows Stop.End
+    pub goes : Iterates f inp (limits s) 0 rows (Ok tt)
 
   -- or there was nothing to read
   pub record Empty : Type 0 where
-    pub shut : door f s inp 0 ≡ door-is.End
+    pub shut : door f s inp 0 ≡ Ok Door.End
     pub no_rows : rows ≡ []
     pub no_bytes : length inp ≡ 0
 
-  pub at_end : door f s inp 0 ≡ door-is.End → length inp ≡ 0
+  pub at_end : door f s inp 0 ≡ Ok Door.End → length inp ≡ 0
   unfolding door pick when_accepted
   at_end e = by (bounds_ok s f inp and leb 0 (length inp)) (format_rules f) (eqb 0 (length inp)) refl e
     where
-      by : (b : Bool) (c : Checked) (last : Bool) → eqb 0 (length inp) ≡ last → pick b (when_accepted door-is.Refused c (pick last door-is.End door-is.Open)) (door-is.Refused Setting) ≡ door-is.End → length inp ≡ 0
-      by true Checked.Accepted true k e = sym (eqb-true 0 (length inp) k)
-      by true Checked.Accepted false k e = absurd (let z : ◌≡◌ {A = ℕ} 0 1 = cc in omega arith)
-      by true (Checked.Refused r) last k e = absurd (let z : ◌≡◌ {A = ℕ} 0 1 = cc in omega arith)
+      by : (b : Bool) (c : Result ⊤ Refusal) (last : Bool) → eqb 0 (length inp) ≡ last → pick b (when_accepted Err c (pick last (Ok Door.End) (Ok Door.Open))) (Err Setting) ≡ Ok Door.End → length inp ≡ 0
+      by true (Ok tt) true k e = sym (eqb-true 0 (length inp) k)
+      by true (Ok tt) false k e = absurd (let z : ◌≡◌ {A = ℕ} 0 1 = cc in omega arith)
+      by true (Err r) last k e = absurd (let z : ◌≡◌ {A = ℕ} 0 1 = cc in omega arith)
       by false c last k e = absurd (let z : ◌≡◌ {A = ℕ} 0 1 = cc in omega arith)
 
-  abbrev behind : Door → Run
+  abbrev behind : Result Door Refusal → Run
   behind d = through d refused_run ended_run (run_from f inp (limits s) (suc (length inp)) 0)
 
-  ran_by : (d : Door) → door f s inp 0 ≡ d → run_rule f s inp ≡ behind d
+  ran_by : (d : Result Door Refusal) → door f s inp 0 ≡ d → run_rule f s inp ≡ behind d
   unfolding run_rule
   ran_by d e = rw e
 
-  pub opened : Bytes inp → (run_rule f s inp).stop ≡ Stop.End → Opened ⊎ Empty
+  pub opened : Bytes inp → (run_rule f s inp).stop ≡ Ok tt → Opened ⊎ Empty
   unfolding through
   opened bs end = by (door f s inp 0) refl
     where
-      by : (d : Door) → door f s inp 0 ≡ d → Opened ⊎ Empty
-      by door-is.Open e =
+      by : (d : Result Door Refusal) → door f s inp 0 ≡ d → Opened ⊎ Empty
+      by (Ok Door.Open) e =
           let o = behind_open f s inp 0 e in
-          let r = ran_by door-is.Open e in
+          let r = ran_by (Ok Door.Open) e in
           let q : rows ≡ (run_from f inp (limits s) (suc (length inp)) 0).rows = ap (λ (x : Run). x.rows) r in
-          let z : (run_from f inp (limits s) (suc (length inp)) 0).stop ≡ Stop.End = rw r at end in
+          let z : (run_from f inp (limits s) (suc (length inp)) 0).stop ≡ Ok tt = rw r at end in
           inl (record { may = o.0; goes = rw (q, ← z) (run_iterates f inp (limits s) bs (suc (length inp)) 0 (omega arith) (omega arith)) })
-      by door-is.End e = let r = ran_by door-is.End e in inr (record { shut = e; no_rows = unfold ended_run in ap (λ (x : Run). x.rows) r; no_bytes = at_end e })
-      by (door-is.Refused x) e = absurd (never x (rw (ran_by (door-is.Refused x) e) at end))
+      by (Ok Door.End) e = let r = ran_by (Ok Door.End) e in inr (record { shut = e; no_rows = unfold ended_run in ap (λ (x : Run). x.rows) r; no_bytes = at_end e })
+      by (Err x) e = absurd (never x (rw (ran_by (Err x) e) at end))
         where
-          never : (x : Refusal) → (refused_run x).stop ≡ Stop.End → ⊥
+          never : (x : Refusal) → (refused_run x).stop ≡ Ok tt → ⊥
           never x z = unfold refused_run in let y : ◌≡◌ {A = ℕ} 0 1 = cc in omega arith
 
   -- ---- row i, and where it begins
@@ -85,14 +84,14 @@ module _ (f : Format) (s : Settings) (inp : List ℕ) where
 
   module _ (bs : Bytes inp) (at i : ℕ) (p : Passing at i) where
     -- the rows from there on
-    pub passing_left : Opened → Iterates f inp (limits s) at (drop i rows) Stop.End
+    pub passing_left : Opened → Iterates f inp (limits s) at (drop i rows) (Ok tt)
     passing_left o = let z : 0 + byte_count (take i rows) ≡ at = omega (arith, p.begins) in rw z at (iterates_from f inp (limits s) i p.few o.goes)
 
     pub passing_inside : Opened → at ≤ length inp
     passing_inside o = let r = begins_inside f inp (limits s) bs i p.few o.goes (omega arith) in omega (arith, r, p.begins)
 
     -- where a byte or a row is left, the run went through the door
-    pub passing_opened : (run_rule f s inp).stop ≡ Stop.End → (at < length inp) ⊎ (i < row_count rows) → Opened
+    pub passing_opened : (run_rule f s inp).stop ≡ Ok tt → (at < length inp) ⊎ (i < row_count rows) → Opened
     unfolding row_count
     passing_opened end h = by (opened bs end) h
       where

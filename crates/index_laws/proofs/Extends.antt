@@ -1,5 +1,8 @@
 -- A longer stream begins with the rows of its first part; so extending that part's index is building the whole.
 -- Assumes nothing.
+use Rattle.rules.specs.declared.refusal.Refusal.{Refusal}
+use Rattle.std.specs.Prelude.{⊤}
+use Rattle.std.proofs.Common.{Result, Ok, Err}
 use Prim.Native.Nat.{ℕ, ◌+◌, ◌≤◌}
 use mathlib.Core.Path.{◌≡◌, refl, sym, ap, ◌∙◌}
 use mathlib.Core.Bool.{true}
@@ -19,7 +22,6 @@ use Rattle.rules.specs.Windows.{goes_on, moved_row, continued}
 use Rattle.rules.specs.Index.{Indexed, IndexOf, index_record_start, index_records_in, index_of, is_index_of, where_ended, refused_after, extended, build_rule, extend_rule}
 use Rattle.rules.specs.declared.settings.Settings.{Settings}
 use Rattle.rules.specs.declared.answer.RowSpan.{RowSpan}
-use Rattle.rules.specs.declared.answer.Stop.{Stop}
 use Rattle.rules.proofs.Over.{over-more}
 use Rattle.rules.proofs.Stands.{stands_part}
 use Rattle.row_laws.proofs.Windows.{run_in_windows}
@@ -34,7 +36,7 @@ over-same [] s at st = refl
 over-same (x ∷ xs) s at st = let z : set s at x ≡ s = rw (sym st.0.1) (set-get_or s at 0) in rw z (over-same xs s (at + 1) st.1)
 
 -- the rows of a stream's first part come first, however the run over all ends
-pub rows_begin : (f : Format) (s : Settings) (inp more : List ℕ) → Bytes (inp ++ more) → length (inp ++ more) ≤ 4294967295 → (run_rule f s inp).stop ≡ Stop.End →
+pub rows_begin : (f : Format) (s : Settings) (inp more : List ℕ) → Bytes (inp ++ more) → length (inp ++ more) ≤ 4294967295 → (run_rule f s inp).stop ≡ Ok tt →
     take (row_count (run_rule f s inp).rows) (run_rule f s (inp ++ more)).rows ≡ (run_rule f s inp).rows
 unfolding row_count goes_on continued
 rows_begin f s inp more bs short end =
@@ -56,7 +58,7 @@ module _ (f : Format) (s : Settings) (inp more : List ℕ) (bs : Bytes (inp ++ m
   inside : leb old (index_records_in (room slice)) ≡ true
   inside = le-leb old (index_records_in (room slice)) (omega (arith, size, counted))
 
-  module _ (end : all.stop ≡ Stop.End) where
+  module _ (end : all.stop ≡ Ok tt) where
     -- a run that ended had no more bytes than a slice may have
     short : length (inp ++ more) ≤ 4294967295
     short = by (opened f s (inp ++ more) bs end)
@@ -96,6 +98,6 @@ module _ (f : Format) (s : Settings) (inp more : List ℕ) (bs : Bytes (inp ++ m
       tried : Indexed
       tried = pick (is_index_of (take old all.rows) (part slice 0 (index_record_start old))) (extended all old slice) (record { answer = refused_after all IndexMismatch; index = slice })
 
-      by : (t : Stop) → all.stop ≡ t → where_ended {A = Indexed} t tried (record { answer = ran_of all; index = slice }) ≡ where_ended {A = Indexed} t (extended all 0 slice) (record { answer = ran_of all; index = slice })
-      by Stop.End e = unfold where_ended in rw (matches e) (same_extended e)
-      by (Stop.Refused r) e = unfold where_ended in refl
+      by : (t : Result ⊤ Refusal) → all.stop ≡ t → where_ended {A = Indexed} t tried (record { answer = ran_of all; index = slice }) ≡ where_ended {A = Indexed} t (extended all 0 slice) (record { answer = ran_of all; index = slice })
+      by (Ok tt) e = unfold where_ended in rw (matches e) (same_extended e)
+      by (Err r) e = unfold where_ended in refl

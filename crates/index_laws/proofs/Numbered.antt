@@ -1,5 +1,6 @@
 -- With an index that check accepts, row n is the run's row n.
 -- Assumes nothing.
+use Rattle.std.proofs.Common.{Ok, Err, Some}
 use Prim.Native.Nat.{ℕ, ◌+◌, ◌≤◌, ◌<◌}
 use mathlib.Core.Path.{◌≡◌, refl, sym, ap, ◌∙◌}
 use mathlib.Core.Bool.{Bool, true, false}
@@ -19,9 +20,6 @@ use Rattle.rules.specs.Index.{IndexOf, index_record_start, index_records_in, ind
 use Rattle.rules.specs.declared.settings.Settings.{Settings}
 use Rattle.rules.specs.declared.answer.Extent.{Extent}
 use Rattle.rules.specs.declared.answer.RowSpan.{RowSpan}
-use Rattle.rules.specs.declared.answer.Read.{Read}
-use Rattle.rules.specs.declared.answer.Read.TheVariants.{Row}
-use Rattle.rules.specs.declared.answer.Stop.{Stop}
 use Rattle.rules.proofs.Stands.{stands_self, stands_left, stands_right}
 use Rattle.rules.proofs.Tests.{and_true}
 use Rattle.row_laws.proofs.Door.{MayAsk, through_end, door_asked}
@@ -32,7 +30,7 @@ use Rattle.index_laws.proofs.Ended.{rows, Opened, Empty, opened, Passing, passin
 use Rattle.index_laws.proofs.Next.{span, some_left}
 use Rattle.index_laws.proofs.Holds.{check_exactly, checked_short}
 
-module _ (f : Format) (s : Settings) (inp index : List ℕ) (bs : Bytes inp) (good : (check_index_rule f s inp index).stop ≡ Stop.End) (n : ℕ) (rs ps : List ℕ) where
+module _ (f : Format) (s : Settings) (inp index : List ℕ) (bs : Bytes inp) (good : (check_index_rule f s inp index).stop ≡ Ok tt) (n : ℕ) (rs ps : List ℕ) where
   is : IndexOf f s inp index
   is = (check_exactly f s inp index (checked_short f s inp index good)).0 good
 
@@ -66,18 +64,18 @@ module _ (f : Format) (s : Settings) (inp index : List ℕ) (bs : Bytes inp) (go
     record Nth : Type 0 where
       e : Extent
       after : List RowSpan
-      reads : skip_from f inp (limits s) at ≡ Row e
+      reads : skip_from f inp (limits s) at ≡ Ok (Some e)
       first : drop n (rows f s inp) ≡ span at e ∷ after
 
     nth : Nth
     unfolding row_count
     nth = by (passing_left f s inp bs at n here o) refl
       where
-        by : {rest : List RowSpan} → Iterates f inp (limits s) at rest Stop.End → drop n (rows f s inp) ≡ rest → Nth
+        by : {rest : List RowSpan} → Iterates f inp (limits s) at rest (Ok tt) → drop n (rows f s inp) ≡ rest → Nth
         by (ended x) w = absurd (let z : length (drop n (rows f s inp)) ≡ 0 = ap (λ (l : List RowSpan). length l) w in omega (arith, z, length-drop n (rows f s inp)))
         by (accepted {e = e} {rows = after} x i) w = record { e = e; after = after; reads = x; first = w }
 
-    judged : skipped at (row_at f inp (limits s) at) ≡ Row nth.e
+    judged : skipped at (row_at f inp (limits s) at) ≡ Ok (Some nth.e)
     unfolding skip_from pick
     judged = rw (ne_eqb at (length inp) (λ z. omega (arith, before))) at nth.reads
 
@@ -97,7 +95,7 @@ module _ (f : Format) (s : Settings) (inp index : List ℕ) (bs : Bytes inp) (go
     the_row : row_of_index f inp (limits s) rs ps index n ≡ filled at (row_at f inp (limits s) at) rs ps
     unfolding row_of_index row_of_record is_that_row pick
     the_row =
-        let k : is_that_row (span at nth.e) (Row nth.e) ≡ true = and_true _ _ (eq-eqb nth.e.table nth.e.table refl) (eq-eqb nth.e.bytes nth.e.bytes refl) in
+        let k : is_that_row (span at nth.e) (Ok (Some nth.e)) ≡ true = and_true _ _ (eq-eqb nth.e.table nth.e.table refl) (eq-eqb nth.e.bytes nth.e.bytes refl) in
         rw (lt-ltb n (index_records_in (length index)) (omega (arith, many)), record_n, lt-ltb at (length inp) before, judged, k)
 
     decoded : decode_rule f s inp at rs ps ≡ filled at (row_at f inp (limits s) at) rs ps
@@ -109,12 +107,12 @@ module _ (f : Format) (s : Settings) (inp index : List ℕ) (bs : Bytes inp) (go
     numbered = asked o.may ∙ (the_row ∙ sym decoded)
 
   -- and from the count on there is none
-  pub none_numbered : row_count (rows f s inp) ≤ n → indexed_row_rule f s inp index n rs ps ≡ untouched (Read.Refused NoSuchRow) rs ps
+  pub none_numbered : row_count (rows f s inp) ≤ n → indexed_row_rule f s inp index n rs ps ≡ untouched (Err NoSuchRow) rs ps
   none_numbered h = by (opened f s inp bs is.ended) ∙ none
     where
       by : Opened f s inp ⊎ Empty f s inp → indexed_row_rule f s inp index n rs ps ≡ row_of_index f inp (limits s) rs ps index n
       by (inl o) = asked o.may
       by (inr x) = unfold indexed_row_rule pick through in rw (le-leb (length index) 4294967295 (checked_short f s inp index good), x.shut)
 
-      none : row_of_index f inp (limits s) rs ps index n ≡ untouched (Read.Refused NoSuchRow) rs ps
+      none : row_of_index f inp (limits s) rs ps index n ≡ untouched (Err NoSuchRow) rs ps
       none = unfold row_of_index pick in rw (le-ltb n (index_records_in (length index)) (omega (arith, many)))

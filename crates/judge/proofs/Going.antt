@@ -1,5 +1,6 @@
 -- The loop of the walk that judges: what the children that are left come to is what all of them do.
 -- Assumes nothing.
+use Rattle.std.proofs.Common.{Result, Ok, Err}
 use Prim.Native.Nat.{ℕ, ◌+◌, ◌-◌, ◌*◌, ◌^◌, ◌≤◌, ◌<◌}
 use mathlib.Core.Path.{◌≡◌, refl, sym, ap, ◌∙◌}
 use mathlib.Core.Bool.{Bool, true, false}
@@ -31,10 +32,6 @@ use Rattle.judge.specs.Table.{IsWhole, whole_value, whole_end, value_standing_at
 use Rattle.judge.specs.Judging.{judge_pos, judged, tagged_of, chosen_of, count_ok, closing_bytes, Judgeable, Opened, judged_at}
 use Rattle.judge.specs.Tags.{tag_bytes, closing}
 use Rattle.judge.specs.declared.walk.JudgePos.{JudgePos}
-use Rattle.judge.specs.declared.walk.Judged.{Judged}
-use Rattle.judge.specs.declared.walk.Judged.TheVariants.{Fits, Refused}
-use Rattle.judge.specs.declared.walk.Chosen.{Chosen}
-use Rattle.judge.specs.declared.walk.Chosen.TheVariants as chosen_is
 use Rattle.judge.proofs.Codes.{widest}
 use Rattle.judge.proofs.Kids.{choosing, chosen_for, kids, unfit, opens}
 use Rattle.judge.proofs.Short.{few_bytes}
@@ -47,12 +44,12 @@ pub record Putting (m : ℕ) (q : Spot) (y : Wrote) (p : JudgePos) : Type 0 wher
   pub is : y ≡ Put bytes
   pub ends : p ≡ judge_pos q.at q.from (m + length bytes)
 
-pub judged_fits : (m : ℕ) (q : Spot) (y : Wrote) (p : JudgePos) → judged m q y ≡ Fits p → Putting m q y p
+pub judged_fits : (m : ℕ) (q : Spot) (y : Wrote) (p : JudgePos) → judged m q y ≡ Ok p → Putting m q y p
 unfolding judged
 judged_fits m q (Put b) p e = record { bytes = b; is = refl; ends = (cc) }
 judged_fits m q (rule.Refused r) p e = absurd (let z : ◌≡◌ {A = ℕ} 0 1 = cc in omega arith)
 
-pub judged_refused : (m : ℕ) (q : Spot) (y : Wrote) (x : Refusal) → judged m q y ≡ Refused x → y ≡ rule.Refused x
+pub judged_refused : (m : ℕ) (q : Spot) (y : Wrote) (x : Refusal) → judged m q y ≡ Err x → y ≡ rule.Refused x
 unfolding judged
 judged_refused m q (Put b) x e = absurd (let z : ◌≡◌ {A = ℕ} 0 1 = cc in omega arith)
 judged_refused m q (rule.Refused r) x e = (cc)
@@ -91,36 +88,40 @@ pub record Choice (first count : ℕ) (s : Shape) (t c w : ℕ) : Type 0 where
   pub low : c < first + count
   pub tag : length (tag_bytes s t) ≡ w
 
-tagged_choice : (code first count w t r c u : ℕ) → tagged_of code first count w t r ≡ chosen_is.Child c u → (c < first + count) × (w ≡ u)
+tagged_choice : (code first count w t r c u : ℕ) → tagged_of code first count w t r ≡ Ok (c, u) → (c < first + count) × (w ≡ u)
 unfolding tagged_of
 tagged_choice code first count w t r c u e = by (ltb t count) refl e
   where
-    by : (b : Bool) → ltb t count ≡ b → pick b (chosen_is.Child (first + t) w) (chosen_is.Refused (InvalidVariantTag code t count r)) ≡ chosen_is.Child c u → (c < first + count) × (w ≡ u)
-    by true h f = let g : c ≡ first + t = unfold pick in cc in (omega (arith, ltb-true t count h), unfold pick in cc)
+    by : (b : Bool) → ltb t count ≡ b → pick {A = Result (ℕ × ℕ) Refusal} b (Ok ((first + t), w)) (Err (InvalidVariantTag code t count r)) ≡ Ok (c, u) → (c < first + count) × (w ≡ u)
+    by true h f =
+        let g : ◌≡◌ {A = ℕ × ℕ} (first + t, w) (c, u) = unfold pick in cc in
+        (omega (arith, ap (λ (x : ℕ × ℕ). x.0) g, ltb-true t count h), ap (λ (x : ℕ × ℕ). x.1) g)
     by false h f = absurd (let z : ◌≡◌ {A = ℕ} 0 1 = unfold pick in cc in omega arith)
 
-pub choice : (code first count : ℕ) (s : Shape) (j t r c w : ℕ) → (s ≡ as_tuple → j < count) → chosen_of code first count s j t r ≡ chosen_is.Child c w → Choice first count s t c w
+pub choice : (code first count : ℕ) (s : Shape) (j t r c w : ℕ) → (s ≡ as_tuple → j < count) → chosen_of code first count s j t r ≡ Ok (c, w) → Choice first count s t c w
 unfolding chosen_of tag_bytes
 choice code first count (as_variant u) j t r c w h e = let g = tagged_choice code first count u t r c w e in record { low = g.0; tag = length-le u t ∙ g.1 }
 choice code first count (as_repeated u) j t r c w h e = let g = tagged_choice code first count u t r c w e in record { low = g.0; tag = length-le u t ∙ g.1 }
-choice code first count as_tuple j t r c w h e = let f : c ≡ first + j = cc in record { low = omega (arith, h refl); tag = (cc) }
+choice code first count as_tuple j t r c w h e =
+    let f : ◌≡◌ {A = ℕ × ℕ} (first + j, 0) (c, w) = cc in
+    record { low = omega (arith, ap (λ (x : ℕ × ℕ). x.0) f, h refl); tag = ap (λ (x : ℕ × ℕ). x.1) f }
 
 -- ---- a turn
 
-module _ (sch : List ℕ) (lim : Limits) (i : ℕ) (s : Shape) (j t : ℕ) (v : Value) (is : Items) (r n : ℕ) (z : Spot) (pk : Chosen) (e : pk ≡ chosen_for sch lim i s j t r) where
-  pick_refused : (x : Refusal) → pk ≡ chosen_is.Refused x → judged n z (kids sch lim i s (item t v is) j r) ≡ Refused x
+module _ (sch : List ℕ) (lim : Limits) (i : ℕ) (s : Shape) (j t : ℕ) (v : Value) (is : Items) (r n : ℕ) (z : Spot) (pk : Result (ℕ × ℕ) Refusal) (e : pk ≡ chosen_for sch lim i s j t r) where
+  pick_refused : (x : Refusal) → pk ≡ Err x → judged n z (kids sch lim i s (item t v is) j r) ≡ Err x
   unfolding kids choosing judged
   pick_refused x f = rw (← e, f)
 
-  module _ (c w : ℕ) (f : pk ≡ chosen_is.Child c w) (len : length (tag_bytes s t) ≡ w) (a : Judged) (q : Spot) (g : a ≡ judged (n + w) q (write sch lim v c r)) where
-    child_refused : (x : Refusal) → a ≡ Refused x → judged n z (kids sch lim i s (item t v is) j r) ≡ Refused x
+  module _ (c w : ℕ) (f : pk ≡ Ok (c, w)) (len : length (tag_bytes s t) ≡ w) (a : Result JudgePos Refusal) (q : Spot) (g : a ≡ judged (n + w) q (write sch lim v c r)) where
+    child_refused : (x : Refusal) → a ≡ Err x → judged n z (kids sch lim i s (item t v is) j r) ≡ Err x
     unfolding kids choosing judged ◌>>=◌
     child_refused x h = rw (← e, f, judged_refused (n + w) q (write sch lim v c r) x (sym g ∙ h))
 
     joined : (x y : List ℕ) → n + length (tag_bytes s t ++ (x ++ y)) ≡ ((n + w) + length x) + length y
     joined x y = simp length-append (omega (arith, len))
 
-    on : (p : JudgePos) → a ≡ Fits p → judged n z (kids sch lim i s (item t v is) j r) ≡ judged p.bytes z (kids sch lim i s is (j + 1) (r + records_of v))
+    on : (p : JudgePos) → a ≡ Ok p → judged n z (kids sch lim i s (item t v is) j r) ≡ judged p.bytes z (kids sch lim i s is (j + 1) (r + records_of v))
     unfolding kids choosing judged ◌>>=◌
     on p h =
         let b = judged_fits (n + w) q (write sch lim v c r) p (sym g ∙ h) in
@@ -157,7 +158,7 @@ module _ (sch : List ℕ) (i : ℕ) (table store : List ℕ) (depth : ℕ) (p : 
 
 module _ (sch : List ℕ) (lim : Limits) (i : ℕ) (table store : List ℕ) where
   -- after j children: those that are left, and that they come to the whole
-  pub record Going (s : Shape) (d size : ℕ) (z : Spot) (whole : Judged) (q : JudgePos) (j : ℕ) : Type 0 where
+  pub record Going (s : Shape) (d size : ℕ) (z : Spot) (whole : Result JudgePos Refusal) (q : JudgePos) (j : ℕ) : Type 0 where
     pub rest : Items
     pub reads : ReadsI table store d (spot q.at q.from) rest z
     pub counted : j + items rest ≡ size
@@ -166,7 +167,7 @@ module _ (sch : List ℕ) (lim : Limits) (i : ℕ) (table store : List ℕ) wher
 
   module _ (depth : ℕ) (p : JudgePos) (k : Judgeable sch i depth table store p) where
     -- a value of another kind
-    pub misfit : (code has : ℕ) → code ≡ (node_at sch i).code → has ≡ (value_record_at table p.at).kind → (has ≡ kind_for code (form code) → ⊥) → Refused (ValueDoesNotMatchSchema code has p.at) ≡ judged_at sch lim i depth table store p
+    pub misfit : (code has : ℕ) → code ≡ (node_at sch i).code → has ≡ (value_record_at table p.at).kind → (has ≡ kind_for code (form code) → ⊥) → Err (ValueDoesNotMatchSchema code has p.at) ≡ judged_at sch lim i depth table store p
     unfolding judged_at judged
     misfit code has a b h =
         let e : has ≡ value_kind (whole_value (value_standing_at table store depth p.at p.from)) = b ∙ kind_told table store (omega (arith, k.short)) (whole_reads sch i table store depth p k) in
@@ -185,7 +186,7 @@ module _ (sch : List ℕ) (lim : Limits) (i : ℕ) (table store : List ℕ) wher
           rw (o.is, e, is_size) (opens sch lim i (whole_value (value_standing_at table store depth p.at p.from)) p.at is_compound (sym (kind_told table store (omega (arith, k.short)) (whole_reads sch i table store depth p k)) ∙ o.kind ∙ ap (λ (x : ℕ). kind_for x (form x)) o.is) (whole_reads sch i table store depth p k).fits)
 
       -- a tuple of another count
-      pub miscounted : (count : ℕ) → count ≡ (node_at sch i).children → count_ok (shape_of code) size count ≡ false → Refused (TupleLength count size p.at) ≡ judged_at sch lim i depth table store p
+      pub miscounted : (count : ℕ) → count ≡ (node_at sch i).children → count_ok (shape_of code) size count ≡ false → Err (TupleLength count size p.at) ≡ judged_at sch lim i depth table store p
       unfolding judged_at judged pick
       miscounted count e f = rw (is_written count e, f)
 
@@ -200,17 +201,17 @@ module _ (sch : List ℕ) (lim : Limits) (i : ℕ) (table store : List ℕ) wher
         comes = rw (is_written count e, f);
       }
 
-  module _ {s : Shape} {d size : ℕ} {z : Spot} {whole : Judged} {q : JudgePos} {j : ℕ} (short : length table ≤ 4294967295) (g : Going s d size z whole q j) where
+  module _ {s : Shape} {d size : ℕ} {z : Spot} {whole : Result JudgePos Refusal} {q : JudgePos} {j : ℕ} (short : length table ≤ 4294967295) (g : Going s d size z whole q j) where
     -- the positions that are left are before the end
     pub before : (q.at ≤ z.at) × ((q.from ≤ z.from) × (q.from ≤ length store))
     before = (omega (arith, g.reads.span.at_end), (omega (arith, g.reads.span.from_end), omega (arith, g.reads.span.from_end, span_in table store g.reads.span)))
 
     -- no child is left
-    pub going_end : size ≤ j → Fits (judge_pos q.at q.from (q.bytes + closing_bytes s)) ≡ whole
+    pub going_end : size ≤ j → Ok (judge_pos q.at q.from (q.bytes + closing_bytes s)) ≡ whole
     unfolding kids judged below_i payload_bytes_i items
     going_end h = of g.rest g.reads (omega (arith, g.counted)) g.comes
       where
-        of : (is : Items) → ReadsI table store d (spot q.at q.from) is z → items is ≡ 0 → judged q.bytes z (kids sch lim i s is j q.at) ≡ whole → Fits (judge_pos q.at q.from (q.bytes + closing_bytes s)) ≡ whole
+        of : (is : Items) → ReadsI table store d (spot q.at q.from) is z → items is ≡ 0 → judged q.bytes z (kids sch lim i s is j q.at) ≡ whole → Ok (judge_pos q.at q.from (q.bytes + closing_bytes s)) ≡ whole
         of done r n e =
             let x : z ≡ spot q.at q.from = lands_here table store r.span in
             rw (← (closing_length s)) (rw x at e)
@@ -223,7 +224,7 @@ module _ (sch : List ℕ) (lim : Limits) (i : ℕ) (table store : List ℕ) wher
       pub record_there_lem : ValueRecordIn q.at (length table)
       record_there_lem = inside table store short the_turn.here
 
-      module _ (code first count : ℕ) (a : code ≡ (node_at sch i).code) (b : first ≡ (node_at sch i).first) (c : count ≡ (node_at sch i).children) (pk : Chosen) (e : pk ≡ chosen_of code first count s j (value_record_at table q.at).tag q.at) where
+      module _ (code first count : ℕ) (a : code ≡ (node_at sch i).code) (b : first ≡ (node_at sch i).first) (c : count ≡ (node_at sch i).children) (pk : Result (ℕ × ℕ) Refusal) (e : pk ≡ chosen_of code first count s j (value_record_at table q.at).tag q.at) where
         picks : pk ≡ chosen_for sch lim i s j the_turn.tag q.at
         picks = e ∙ rw (a, b, c, the_turn.bears)
 
@@ -231,10 +232,10 @@ module _ (sch : List ℕ) (lim : Limits) (i : ℕ) (table store : List ℕ) wher
         came = rw the_turn.first at g.comes
 
         -- no child is chosen
-        pub going_unpicked : (x : Refusal) → pk ≡ chosen_is.Refused x → Refused x ≡ whole
+        pub going_unpicked : (x : Refusal) → pk ≡ Err x → Err x ≡ whole
         going_unpicked x f = sym (pick_refused sch lim i s j the_turn.tag the_turn.value the_turn.rest q.at q.bytes z pk picks x f) ∙ came
 
-        module _ (x w : ℕ) (f : pk ≡ chosen_is.Child x w) (choose : s ≡ as_tuple → j < count) where
+        module _ (x w : ℕ) (f : pk ≡ Ok (x, w)) (choose : s ≡ as_tuple → j < count) where
           the_choice : Choice first count s the_turn.tag x w
           the_choice = choice code first count s j the_turn.tag q.at x w choose (sym (e ∙ rw the_turn.bears) ∙ f)
 
@@ -255,17 +256,17 @@ module _ (sch : List ℕ) (lim : Limits) (i : ℕ) (table store : List ℕ) wher
             few = omega (arith, g.few, m);
           }
 
-          module _ (y : Judged) (is : y ≡ judged_at sch lim x d table store (judge_pos q.at q.from (q.bytes + w))) where
+          module _ (y : Result JudgePos Refusal) (is : y ≡ judged_at sch lim x d table store (judge_pos q.at q.from (q.bytes + w))) where
             answers : y ≡ judged (q.bytes + w) (spot (q.at + records_of the_turn.value) (q.from + payload_of the_turn.value)) (write sch lim the_turn.value x q.at)
             unfolding judged_at whole_value whole_end
             answers = is ∙ rw (turn_stands table store short d q.at q.from z g.rest the_turn)
 
             -- the child is refused
-            pub going_refused : (r : Refusal) → y ≡ Refused r → Refused r ≡ whole
+            pub going_refused : (r : Refusal) → y ≡ Err r → Err r ≡ whole
             going_refused r bad = sym (child_refused sch lim i s j the_turn.tag the_turn.value the_turn.rest q.at q.bytes z pk picks x w f the_choice.tag y _ answers r bad) ∙ came
 
             -- or is part of the row
-            module _ (p : JudgePos) (fit : y ≡ Fits p) where
+            module _ (p : JudgePos) (fit : y ≡ Ok p) where
               put : Putting (q.bytes + w) (spot (q.at + records_of the_turn.value) (q.from + payload_of the_turn.value)) (write sch lim the_turn.value x q.at) p
               put = judged_fits _ _ _ p (sym answers ∙ fit)
 
@@ -306,7 +307,7 @@ module _ (sch : List ℕ) (lim : Limits) (i depth : ℕ) (table store : List ℕ
   pub known : code ≤ 19
   known = rw o.is (k.sound.codes i k.inside)
 
-  pub wrong_count : (r : Bool) → r ≡ count_ok (shape_of code) size count → r ≡ false → Refused (TupleLength count size p.at) ≡ judged_at sch lim i depth table store p
+  pub wrong_count : (r : Bool) → r ≡ count_ok (shape_of code) size count → r ≡ false → Err (TupleLength count size p.at) ≡ judged_at sch lim i depth table store p
   wrong_count r e f = miscounted sch lim i table store depth p k code size o count the-count (sym e ∙ f)
 
   pub begins : (r : Bool) → r ≡ count_ok (shape_of code) size count → r ≡ true →
@@ -324,7 +325,7 @@ module _ (sch : List ℕ) (lim : Limits) (i depth : ℕ) (table store : List ℕ
         let a : q.at < 2 ^ 30 = omega (arith, n.0, at_end table store short w, far table store short w, inside table store short w, k.short) in
         (a, (omega (arith, n.1.1, k.small), omega (arith, a, g.few, n.1.1, k.small)))
 
-    pub ends_there : (n : ℕ) → n ≡ closing_bytes (shape_of code) → size ≤ j → Fits (judge_pos q.at q.from (q.bytes + n)) ≡ judged_at sch lim i depth table store p
+    pub ends_there : (n : ℕ) → n ≡ closing_bytes (shape_of code) → size ≤ j → Ok (judge_pos q.at q.from (q.bytes + n)) ≡ judged_at sch lim i depth table store p
     ends_there n e h = rw e (going_end sch lim i table store short g h)
 
     module _ (h : j < size) where
@@ -336,14 +337,14 @@ module _ (sch : List ℕ) (lim : Limits) (i depth : ℕ) (table store : List ℕ
           let w = whole_reads sch i table store depth p k in
           (o.compound, known, omega (arith, in_block, l), omega (arith, in_block, l, h, o.count, size_small table store short w))
 
-      module _ (v : ValueRecord) (m : v ≡ value_record_at table q.at) (pk : Chosen) (e : pk ≡ chosen_of code first count (shape_of code) j v.tag q.at) where
+      module _ (v : ValueRecord) (m : v ≡ value_record_at table q.at) (pk : Result (ℕ × ℕ) Refusal) (e : pk ≡ chosen_of code first count (shape_of code) j v.tag q.at) where
         asked : pk ≡ chosen_of code first count (shape_of code) j (value_record_at table q.at).tag q.at
         asked = e ∙ ap (λ (u : ValueRecord). chosen_of code first count (shape_of code) j u.tag q.at) m
 
-        pub no_pick : (x : Refusal) → pk ≡ chosen_is.Refused x → Refused x ≡ judged_at sch lim i depth table store p
+        pub no_pick : (x : Refusal) → pk ≡ Err x → Err x ≡ judged_at sch lim i depth table store p
         no_pick x f = going_unpicked sch lim i table store short g h code first count o.is the-first the-count pk asked x f
 
-        module _ (x w : ℕ) (f : pk ≡ chosen_is.Child x w) where
+        module _ (x w : ℕ) (f : pk ≡ Ok (x, w)) where
           chooses : shape_of code ≡ as_tuple → j < count
           chooses n = counted_tuple code size count j (sym t ∙ y) h n
 
@@ -353,9 +354,9 @@ module _ (sch : List ℕ) (lim : Limits) (i depth : ℕ) (table store : List ℕ
           pub child : Judgeable sch x (depth - 1) table store (judge_pos q.at q.from (q.bytes + w))
           child = child_judgeable sch lim i table store short g h code first count o.is the-first the-count pk asked x w f chooses k.sound in_block narrow k.small
 
-          module _ (a : Judged) (is : a ≡ judged_at sch lim x (depth - 1) table store (judge_pos q.at q.from (q.bytes + w))) where
-            pub no_child_fits : (u : Refusal) → a ≡ Refused u → Refused u ≡ judged_at sch lim i depth table store p
+          module _ (a : Result JudgePos Refusal) (is : a ≡ judged_at sch lim x (depth - 1) table store (judge_pos q.at q.from (q.bytes + w))) where
+            pub no_child_fits : (u : Refusal) → a ≡ Err u → Err u ≡ judged_at sch lim i depth table store p
             no_child_fits u bad = going_refused sch lim i table store short g h code first count o.is the-first the-count pk asked x w f chooses a is u bad
 
-            pub goes_on_lem : (u : JudgePos) → a ≡ Fits u → Going sch lim i table store (shape_of code) (depth - 1) size (whole_end (value_standing_at table store depth p.at p.from)) (judged_at sch lim i depth table store p) u (j + 1)
+            pub goes_on_lem : (u : JudgePos) → a ≡ Ok u → Going sch lim i table store (shape_of code) (depth - 1) size (whole_end (value_standing_at table store depth p.at p.from)) (judged_at sch lim i depth table store p) u (j + 1)
             goes_on_lem u fit = going_next sch lim i table store short g h code first count o.is the-first the-count pk asked x w f chooses a is u fit narrow

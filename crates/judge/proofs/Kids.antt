@@ -1,5 +1,7 @@
 -- A value with children is written one child after another: one rule for variants, repeated ones and tuples.
 -- Assumes nothing.
+use Rattle.rules.specs.declared.refusal.Refusal.{Refusal}
+use Rattle.std.proofs.Common.{Result, Ok, Err}
 use Prim.Native.Nat.{ℕ, ◌+◌, ◌≤◌}
 use mathlib.Core.Path.{◌≡◌, refl}
 use mathlib.Core.Bool.{Bool, true, false}
@@ -23,17 +25,15 @@ use Rattle.value_laws.proofs.Children.{untagged, children}
 use Rattle.leaves.specs.Shapes.{Shape, as_variant, as_repeated, as_tuple, shape_of}
 use Rattle.judge.specs.Judging.{tagged_of, chosen_of, count_ok}
 use Rattle.judge.specs.Tags.{tag_bytes, closing}
-use Rattle.judge.specs.declared.walk.Chosen.{Chosen}
-use Rattle.judge.specs.declared.walk.Chosen.TheVariants as chosen_is
 use Rattle.judge.proofs.Codes.{fixed_range, raw_range, sized_range, variant_shape, repeated_shape, tuple_shape}
 
 -- what follows the choice of a child
-unfoldable pub choosing : Chosen → (ℕ → Wrote) → Wrote
-choosing (chosen_is.Child c w) k = k c
-choosing (chosen_is.Refused r) k = Refused r
+unfoldable pub choosing : Result (ℕ × ℕ) Refusal → (ℕ → Wrote) → Wrote
+choosing (Ok (c, w)) k = k c
+choosing (Err r) k = Refused r
 
 module _ (sch : List ℕ) (lim : Limits) (i : ℕ) where
-  abbrev pub chosen_for : Shape → ℕ → ℕ → ℕ → Chosen
+  abbrev pub chosen_for : Shape → ℕ → ℕ → ℕ → Result (ℕ × ℕ) Refusal
   chosen_for s j t r = chosen_of (node_at sch i).code (node_at sch i).first (node_at sch i).children s j t r
 
   -- children of node i from the j-th on, whose records begin at r
@@ -49,7 +49,7 @@ module _ (sch : List ℕ) (lim : Limits) (i : ℕ) where
   unfolding tagged tagged_of
   by_tag_lem w t r x k e = by (ltb t (node_at sch i).children)
     where
-      by : (b : Bool) → pick b x (Refused (InvalidVariantTag (node_at sch i).code t (node_at sch i).children r)) ≡ choosing (pick b (chosen_is.Child ((node_at sch i).first + t) w) (chosen_is.Refused (InvalidVariantTag (node_at sch i).code t (node_at sch i).children r))) k
+      by : (b : Bool) → pick b x (Refused (InvalidVariantTag (node_at sch i).code t (node_at sch i).children r)) ≡ choosing (pick b (Ok (((node_at sch i).first + t), w)) (Err (InvalidVariantTag (node_at sch i).code t (node_at sch i).children r))) k
       by true = unfold pick choosing in e
       by false = unfold pick choosing in refl
 

@@ -1,5 +1,6 @@
 -- Values without children: what is judged of each is what writing it answers.
 -- Assumes nothing.
+use Rattle.std.proofs.Common.{Ok, Err}
 use Prim.Native.Nat.{ℕ, ◌+◌, ◌^◌, ◌≤◌, ◌<◌}
 use mathlib.Core.Path.{◌≡◌, refl, sym, ap, ◌∙◌}
 use mathlib.Core.Bool.{Bool, true, false}
@@ -27,7 +28,6 @@ use Rattle.leaves.specs.Fields.{payload_of_fixed}
 use Rattle.judge.specs.Table.{whole_value, value_standing_at}
 use Rattle.judge.specs.Judging.{judge_pos, judged, leaf_of, Judgeable, Opened, judged_at}
 use Rattle.judge.specs.declared.walk.JudgePos.{JudgePos}
-use Rattle.judge.specs.declared.walk.Judged.TheVariants as judged-is
 use Rattle.judge.proofs.Codes.{leaf_kind, fixed_range, raw_range, sized_range}
 use Rattle.judge.proofs.Standing.{spot, inside, size_small, kind_told, at_end, from_end, length_told}
 use Rattle.judge.proofs.Going.{whole_reads, misfit}
@@ -65,8 +65,8 @@ module _ (sch : List ℕ) (lim : Limits) (i : ℕ) (table store : List ℕ) (sho
   blob_leaf x r l e = rw (le-ltb code 13 l, length_told table store short r, ← is, eq-eqb code _ e) (by (leb (length x) (blob_limit lim code)))
     where
       by : (b : Bool) →
-          pick false (judged-is.Fits (judge_pos (p.at + 1) (p.from + payload_of_fixed (width_of (form code))) (p.bytes + width_of (form code))))
-          (pick b (judged-is.Fits (judge_pos (p.at + 1) (p.from + length x) (p.bytes + (4 + length x)))) (judged-is.Refused (BlobTooLarge code (length x) (blob_limit lim code) p.at)))
+          pick false (Ok (judge_pos (p.at + 1) (p.from + payload_of_fixed (width_of (form code))) (p.bytes + width_of (form code))))
+          (pick b (Ok (judge_pos (p.at + 1) (p.from + length x) (p.bytes + (4 + length x)))) (Err (BlobTooLarge code (length x) (blob_limit lim code) p.at)))
           ≡ judged p.bytes z (pick true (pick b (Put (le 4 (length x) ++ x)) (rule.Refused (BlobTooLarge code (length x) (blob_limit lim code) p.at))) (rule.Refused (ValueDoesNotMatchSchema code code p.at)))
       by true = rw ((blob_ends x r).0, (blob_ends x r).1, blob_bytes x)
       by false = refl
@@ -122,7 +122,7 @@ module _ (sch : List ℕ) (i depth : ℕ) (table store : List ℕ) (p : JudgePos
       opened h l = record { is = is; compound = l; kind = sym (ap (λ (u : ValueRecord). u.kind) m) ∙ h ∙ e; count = ap (λ (u : ValueRecord). u.size) m }
 
       module _ (lim : Limits) where
-        pub other_kind : (v.kind ≡ has → ⊥) → judged-is.Refused (ValueDoesNotMatchSchema code v.kind p.at) ≡ judged_at sch lim i depth table store p
+        pub other_kind : (v.kind ≡ has → ⊥) → Err (ValueDoesNotMatchSchema code v.kind p.at) ≡ judged_at sch lim i depth table store p
         other_kind h = misfit sch lim i table store depth p k code v.kind is (ap (λ (u : ValueRecord). u.kind) m) (λ x. h (x ∙ sym e))
 
         pub leaf_answer : v.kind ≡ has → code < 15 → leaf_of lim code v.size p ≡ judged_at sch lim i depth table store p

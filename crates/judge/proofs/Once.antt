@@ -1,5 +1,8 @@
 -- A variant with a leaf below it, judged at once: the one turn of the children step.
 -- Assumes nothing.
+use Rattle.rules.specs.declared.refusal.Refusal.{Refusal}
+use Rattle.std.proofs.Common.{Result, Option, Ok, Some}
+use Rattle.std.specs.Result.{result_ok}
 use Prim.Native.Nat.{ℕ, ◌+◌, ◌-◌, ◌^◌, ◌≤◌, ◌<◌}
 use mathlib.Core.Path.{◌≡◌, refl, sym, ap, ◌∙◌}
 use mathlib.Core.Bool.{true}
@@ -8,6 +11,7 @@ use native.Mathlib.Omega.{arith}
 use native.Mathlib.Nat.{add-zero}
 use lib.ListN.{length}
 use Rattle.rules.specs.Block.{node_at}
+use Rattle.rules.proofs.Checks.{value_in}
 use Rattle.rules.specs.ValueRecord.{value_record_at, ValueRecordIn}
 use Rattle.rules.specs.declared.table_record.ValueRecord.{ValueRecord}
 use Rattle.rules.specs.Walk.{Limits}
@@ -17,24 +21,15 @@ use Rattle.leaves.proofs.Codes.{shape_variant}
 use Rattle.judge.specs.Table.{whole_end, value_standing_at}
 use Rattle.judge.specs.Judging.{judge_pos, leaf_of, chosen_of, count_ok, closing_bytes, Judgeable, Opened, judged_at}
 use Rattle.judge.specs.declared.walk.JudgePos.{JudgePos}
-use Rattle.judge.specs.declared.walk.Judged.{Judged}
-use Rattle.judge.specs.declared.walk.Judged.TheVariants.{Fits}
-use Rattle.judge.specs.declared.walk.AtOnce.TheVariants as at_once
-use Rattle.judge.specs.declared.walk.Chosen.{Chosen}
-use Rattle.judge.specs.declared.walk.Chosen.TheVariants as chosen_is
 use Rattle.judge.proofs.Codes.{leaf_kind, uncounted}
 use Rattle.judge.proofs.Standing.{kind_told}
 use Rattle.judge.proofs.Kids.{one_child}
 use Rattle.judge.proofs.Going.{variant_kind, Going, whole_reads, is_size, begins, bounds, ends_there, there, asks, narrow, child, goes_on_lem}
 use Rattle.judge.proofs.Leaves.{leaf_bounds, leaf_answer}
 
--- nothing is said yet
-pub later_not : {A : Type 0} (q : JudgePos) → at_once.Later ≡ at_once.Fits q → A
-later_not q e = let z : ◌≡◌ {A = ℕ} 0 1 = cc in absurd (omega arith)
-
 -- what is said at once is said in the end
-pub fits_on : (p q : JudgePos) → at_once.Fits p ≡ at_once.Fits q → Fits p ≡ Fits q
-fits_on p q e = let h : p ≡ q = cc in ap Fits h
+pub fits_on : (p q : JudgePos) → ◌≡◌ {A = Option JudgePos} (Some p) (Some q) → ◌≡◌ {A = Result JudgePos Refusal} (Ok p) (Ok q)
+fits_on p q e = let h : p ≡ q = cc in ap Ok h
 
 module _ (sch : List ℕ) (lim : Limits) (i depth : ℕ) (table store : List ℕ) (p : JudgePos) (k : Judgeable sch i depth table store p) (code size : ℕ) (o : Opened sch i code table p size) (l : code ≤ 16) (first count : ℕ) (the-first : first ≡ (node_at sch i).first) (the-count : count ≡ (node_at sch i).children) where
   one : size ≡ 1
@@ -57,7 +52,10 @@ module _ (sch : List ℕ) (lim : Limits) (i depth : ℕ) (table store : List ℕ
   pub below_asks : length sch < 2 ^ 64 → (14 < code) × (code ≤ 19) × (first + count < 2 ^ 64) × (first + 0 < 2 ^ 64)
   below_asks = asks sch lim i depth table store p k code size o first count the-first the-count true counts refl first_turn some
 
-  module _ (v : ValueRecord) (m : v ≡ value_record_at table (p.at + 1)) (pk : Chosen) (e : pk ≡ chosen_of code first count (shape_of code) 0 v.tag (p.at + 1)) (x w : ℕ) (f : pk ≡ chosen_is.Child x w) where
+  module _ (v : ValueRecord) (m : v ≡ value_record_at table (p.at + 1)) (pk : Result (ℕ × ℕ) Refusal) (e : pk ≡ chosen_of code first count (shape_of code) 0 v.tag (p.at + 1)) (chosen : Option (ℕ × ℕ)) (taken : chosen ≡ result_ok pk) (x w : ℕ) (was : chosen ≡ Some (x, w)) where
+    f : pk ≡ Ok (x, w)
+    f = value_in pk (x, w) (sym taken ∙ was)
+
     may : Judgeable sch x (depth - 1) table store (judge_pos (p.at + 1) p.from (p.bytes + w))
     may = child sch lim i depth table store p k code size o first count the-first the-count true counts refl first_turn some v m pk e x w f
 
@@ -70,7 +68,7 @@ module _ (sch : List ℕ) (lim : Limits) (i depth : ℕ) (table store : List ℕ
     pub below_bounds : (v.size < 2 ^ 32) × ((p.at + 1 < 2 ^ 32) × ((p.from < 2 ^ 32) × (p.bytes + w < 2 ^ 40)))
     below_bounds = leaf_bounds sch x (depth - 1) table store (judge_pos (p.at + 1) p.from (p.bytes + w)) may v m
 
-    pub judged_once : (leaf : ℕ) → leaf ≡ (node_at sch x).code → leaf < 15 → v.kind ≡ leaf → (a : Judged) → a ≡ leaf_of lim leaf v.size (judge_pos (p.at + 1) p.from (p.bytes + w)) → (q : JudgePos) → a ≡ Fits q → Fits q ≡ judged_at sch lim i depth table store p
+    pub judged_once : (leaf : ℕ) → leaf ≡ (node_at sch x).code → leaf < 15 → v.kind ≡ leaf → (a : Result JudgePos Refusal) → a ≡ leaf_of lim leaf v.size (judge_pos (p.at + 1) p.from (p.bytes + w)) → (q : JudgePos) → a ≡ Ok q → Ok q ≡ judged_at sch lim i depth table store p
     unfolding closing_bytes
     judged_once leaf is h kind a y q fit =
         let n = leaf_answer sch x (depth - 1) table store (judge_pos (p.at + 1) p.from (p.bytes + w)) may v m leaf is leaf (leaf_kind leaf h) lim kind h in

@@ -1,22 +1,17 @@
 -- What is said of a flat row at once, where something is said.
 -- Assumes nothing: these are definitions.
-use Rattle.std.specs.Prelude.{ℕ, ◌+◌, ◌*◌, ◌^◌, ◌≤◌, ◌<◌, ◌≡◌, Bool, true, false, List, length}
+use Rattle.std.specs.Prelude.{ℕ, ◌+◌, ◌*◌, ◌^◌, ◌≤◌, ◌<◌, ◌≡◌, Bool, true, false, List, length, Option, Ok, Some, None}
 use Rattle.rules.specs.Block.{node_at}
 use Rattle.rules.specs.Walk.{Limits}
 use Rattle.rules.specs.ValueRecord.{value_record_at, ValueRecordIn}
 use Rattle.rules.specs.ValueCheck.{table_form}
-use Rattle.rules.specs.declared.answer.Checked.TheVariants.{Accepted}
 use Rattle.read.specs.Ready.{HasNode, SoundNodes}
 use Rattle.value.specs.Records.{value_record_ok}
 use Rattle.value.specs.Walk.{walk_table}
 use Rattle.value.specs.declared.TablePos.{TablePos}
-use Rattle.value.specs.declared.Walked.TheVariants.{At}
 use Rattle.judge.specs.Table.{IsWhole, value_standing_at}
 use Rattle.judge.specs.Judging.{leaf_of, judged_at, judged_row}
 use Rattle.judge.specs.declared.walk.JudgePos.{JudgePos}
-use Rattle.judge.specs.declared.walk.Judged.TheVariants.{Fits}
-use Rattle.judge.specs.declared.flat.Column.{Column}
-use Rattle.judge.specs.declared.flat.Column.TheVariants.{Leaf, Other}
 
 -- the table's part of where the walk stands
 abbrev pub table_pos : JudgePos → TablePos
@@ -34,8 +29,8 @@ pub record Flat (sch : List ℕ) (i : ℕ) (table store : List ℕ) (p : JudgePo
 module _ (sch : List ℕ) (i : ℕ) (table store : List ℕ) where
   -- a column ends at q by the check of the table; where its value stands, judging it says the same; and its bytes are few
   pub record Seen (lim : Limits) (p q : JudgePos) : Type 0 where
-    pub walks : At (table_pos q) ≡ walk_table table (length store) 63 false (table_pos p)
-    pub judges : IsWhole (value_standing_at table store 63 p.at p.from) → Fits q ≡ judged_at sch lim i 63 table store p
+    pub walks : Some (table_pos q) ≡ walk_table table (length store) 63 false (table_pos p)
+    pub judges : IsWhole (value_standing_at table store 63 p.at p.from) → Ok q ≡ judged_at sch lim i 63 table store p
     pub within : q.from ≤ length store
     pub grows : q.bytes + (80 * p.at + p.from) ≤ p.bytes + (80 * q.at + q.from)
 
@@ -46,11 +41,11 @@ module _ (sch : List ℕ) (i : ℕ) (table store : List ℕ) where
     pub within : q.from ≤ length store
     pub few : q.bytes < 2 ^ 40
     pub ends : (lim : Limits) (r : JudgePos) → value_record_ok (value_record_at table q.at) tagged q.from (length store) ≡ true → (value_record_at table q.at).kind ≡ code →
-        Fits r ≡ leaf_of lim code (value_record_at table q.at).size q → r.from ≡ q.from + (value_record_at table q.at).size → Seen lim p r
+        Ok r ≡ leaf_of lim code (value_record_at table q.at).size q → r.from ≡ q.from + (value_record_at table q.at).size → Seen lim p r
 
-  unfoldable pub LeadsToLeaf : JudgePos → Column → Type 0
-  LeadsToLeaf p (Leaf code tagged q) = OnlyLeaf p code tagged q
-  LeadsToLeaf p Other = Unit
+  unfoldable pub LeadsToLeaf : JudgePos → Option (ℕ × Bool × JudgePos) → Type 0
+  LeadsToLeaf p (Some (code, tagged, q)) = OnlyLeaf p code tagged q
+  LeadsToLeaf p None = Unit
 
 -- ---- a row
 
@@ -64,5 +59,5 @@ pub record RowFlat (sch table store : List ℕ) : Type 0 where
 
 -- the form of the table is accepted, and so is the row
 pub record RowSeen (sch : List ℕ) (lim : Limits) (table store : List ℕ) (q : JudgePos) : Type 0 where
-  pub form : Accepted ≡ table_form table store
-  pub row : Fits q ≡ judged_row sch lim table store
+  pub form : Ok tt ≡ table_form table store
+  pub row : Ok q ≡ judged_row sch lim table store

@@ -1,6 +1,7 @@
 -- What the walk that judges answers: what writing the value would, with the bytes counted.
 -- Assumes nothing: these are definitions.
-use Rattle.std.specs.Prelude.{ℕ, ◌+◌, ◌*◌, ◌^◌, ◌≤◌, ◌<◌, ◌≡◌, Bool, true, List, length, ltb, leb, eqb}
+use Rattle.rules.specs.declared.refusal.Refusal.{Refusal}
+use Rattle.std.specs.Prelude.{ℕ, ◌+◌, ◌*◌, ◌^◌, ◌≤◌, ◌<◌, ◌≡◌, Bool, true, List, length, ltb, leb, eqb, Result, Ok, Err}
 use Rattle.rules.specs.Choice.{pick}
 use Rattle.rules.specs.Wire.{form, width_of}
 use Rattle.rules.specs.Block.{node_at}
@@ -15,38 +16,34 @@ use Rattle.leaves.specs.Shapes.{Shape, as_variant, as_repeated, as_tuple}
 use Rattle.read.specs.Ready.{HasNode, SoundNodes}
 use Rattle.judge.specs.Table.{IsWhole, whole_value, whole_end, value_standing_at}
 use Rattle.judge.specs.declared.walk.JudgePos.{JudgePos}
-use Rattle.judge.specs.declared.walk.Judged.{Judged}
-use Rattle.judge.specs.declared.walk.Judged.TheVariants.{Fits, Refused}
-use Rattle.judge.specs.declared.walk.Chosen.{Chosen}
-use Rattle.judge.specs.declared.walk.Chosen.TheVariants as chosen_is
 
 abbrev pub judge_pos : ℕ → ℕ → ℕ → JudgePos
 judge_pos at from bytes = record { at = at; from = from; bytes = bytes }
 
 -- n bytes and those that are put, and where the value leaves off; or the refusal
-unfoldable pub judged : ℕ → Spot → Wrote → Judged
-judged n z (Put b) = Fits (judge_pos z.at z.from (n + length b))
-judged n z (rule.Refused r) = Refused r
+unfoldable pub judged : ℕ → Spot → Wrote → Result JudgePos Refusal
+judged n z (Put b) = Ok (judge_pos z.at z.from (n + length b))
+judged n z (rule.Refused r) = Err r
 
 -- ---- steps
 
 -- a node without children: its bytes, of which those that its record does not hold are payload; or 14 at its record
-unfoldable pub leaf_of : Limits → ℕ → ℕ → JudgePos → Judged
+unfoldable pub leaf_of : Limits → ℕ → ℕ → JudgePos → Result JudgePos Refusal
 leaf_of lim code size p =
-    pick (ltb code 13) (Fits (judge_pos (p.at + 1) (p.from + payload_of_fixed (width_of (form code))) (p.bytes + width_of (form code))))
-    (pick (leb size (blob_limit lim code)) (Fits (judge_pos (p.at + 1) (p.from + size) (p.bytes + (4 + size))))
-    (Refused (BlobTooLarge code size (blob_limit lim code) p.at)))
+    pick (ltb code 13) (Ok (judge_pos (p.at + 1) (p.from + payload_of_fixed (width_of (form code))) (p.bytes + width_of (form code))))
+    (pick (leb size (blob_limit lim code)) (Ok (judge_pos (p.at + 1) (p.from + size) (p.bytes + (4 + size))))
+    (Err (BlobTooLarge code size (blob_limit lim code) p.at)))
 
 module _ (code first count : ℕ) where
   -- the child that a tag of w bytes names, or 17 at record r
-  unfoldable pub tagged_of : ℕ → ℕ → ℕ → Chosen
-  tagged_of w tag r = pick (ltb tag count) (chosen_is.Child (first + tag) w) (chosen_is.Refused (InvalidVariantTag code tag count r))
+  unfoldable pub tagged_of : ℕ → ℕ → ℕ → Result (ℕ × ℕ) Refusal
+  tagged_of w tag r = pick (ltb tag count) (Ok ((first + tag), w)) (Err (InvalidVariantTag code tag count r))
 
   -- the child after i others, whose record r bears a tag
-  unfoldable pub chosen_of : Shape → ℕ → ℕ → ℕ → Chosen
+  unfoldable pub chosen_of : Shape → ℕ → ℕ → ℕ → Result (ℕ × ℕ) Refusal
   chosen_of (as_variant w) i tag r = tagged_of w tag r
   chosen_of (as_repeated w) i tag r = tagged_of w tag r
-  chosen_of as_tuple i tag r = chosen_is.Child (first + i) 0
+  chosen_of as_tuple i tag r = Ok ((first + i), 0)
 
 -- a tuple has as many children as its node
 unfoldable pub count_ok : Shape → ℕ → ℕ → Bool
@@ -80,7 +77,7 @@ pub record Opened (sch : List ℕ) (i code : ℕ) (table : List ℕ) (p : JudgeP
   pub count : size ≡ (value_record_at table p.at).size
 
 -- what writing the value that stands there answers
-unfoldable pub judged_at : List ℕ → Limits → ℕ → ℕ → List ℕ → List ℕ → JudgePos → Judged
+unfoldable pub judged_at : List ℕ → Limits → ℕ → ℕ → List ℕ → List ℕ → JudgePos → Result JudgePos Refusal
 judged_at sch lim i depth table store p =
     let x = value_standing_at table store depth p.at p.from in
     judged p.bytes (whole_end x) (write sch lim (whole_value x) i p.at)
@@ -97,7 +94,7 @@ pub record RowJudgeable (sch table store : List ℕ) : Type 0 where
   pub small : length store < 2 ^ 32
 
 -- what writing the table's value as a row answers
-unfoldable pub judged_row : List ℕ → Limits → List ℕ → List ℕ → Judged
+unfoldable pub judged_row : List ℕ → Limits → List ℕ → List ℕ → Result JudgePos Refusal
 judged_row sch lim table store =
     let x = table_value table store in
     judged 0 (whole_end x) (write_row sch lim (whole_value x))

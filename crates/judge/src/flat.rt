@@ -1,14 +1,14 @@
 // A flat row, each of whose columns is a scalar, optional or not: the form of its value table and the row that it makes, in one loop over the
 // columns. It says what the row takes where all is well, and nothing else: every other row, and whatever is wrong, is left to the check of
 // the table and to the walk that judges.
-ghost use Rattle.std.specs.Prelude.{◌≡◌, true, ◌+◌, ◌^◌, ◌≤◌, ◌<◌, length};
+ghost use Rattle.std.specs.Prelude.{◌≡◌, true, ◌+◌, ◌^◌, ◌≤◌, ◌<◌, length, Ok, Some};
 ghost use Rattle.rules.specs.Reading.{limits};
 ghost use Rattle.rules.specs.ValueRecord.{ValueRecordIn};
 ghost use Rattle.value.specs.Records.{value_record_ok};
 ghost use Rattle.judge.specs.Judging.{leaf_of};
 ghost use Rattle.judge.specs.Flat.{Flat, Seen, LeadsToLeaf, RowFlat, RowSeen};
 
-use super::walk::{AtOnce, Chosen, JudgePos, Judged, judge_leaf, next_child};
+use super::walk::{JudgePos, judge_leaf, next_child};
 use record::node::{node_children, node_code, node_first};
 use record::value_record::{records_in, value_record_at, whole_records};
 use rules::{Settings, ValueRecord};
@@ -22,69 +22,63 @@ fn leaf_fits(
     store: usize,
     tagged: bool,
     p: JudgePos,
-) -> AtOnce
+) -> Option<JudgePos>
     requires { (code < 15) × (store < 2 ^ 32) × (p.at < 2 ^ 32) × (p.from ≤ store) × (p.bytes < 2 ^ 40) }
-    ensures { (q : JudgePos) → result ≡ AtOnce.Fits q → (value_record_ok own tagged p.from store ≡ true) × (own.kind ≡ code)
-        × (Judged.Fits q ≡ leaf_of (limits settings) code own.size p) × (q.from ≡ p.from + own.size) }
+    ensures { (q : JudgePos) → result ≡ Some q → (value_record_ok own tagged p.from store ≡ true) × (own.kind ≡ code)
+        × (Ok q ≡ leaf_of (limits settings) code own.size p) × (q.from ≡ p.from + own.size) }
 {
     if own.kind != code {
-        return AtOnce::Later;
+        return None;
     }
     if !record_ok(own, tagged, p.from, store) {
-        return AtOnce::Later;
+        return None;
     }
-    let j = judge_leaf(code, own.size, settings, p);
-    let Judged::Fits(q) = j else {
-        return AtOnce::Later;
-    };
+    let q = judge_leaf(code, own.size, settings, p).ok()?;
     if q.from != p.from + own.size as usize {
-        return AtOnce::Later;
+        return None;
     }
-    AtOnce::Fits(q)
+    Some(q)
 }
 
-// What a column comes to: a leaf of this code, whose record may bear a tag or not, from this position on; or something else.
-#[derive(Clone, Copy)]
-pub enum Column {
-    Leaf(u8, bool, JudgePos),
-    Other,
-}
-
-// A column is a leaf itself, or a variant whose tag names one.
-fn column_leaf(block: &[u8], node: usize, records: &[u8], payload: &[u8], p: JudgePos) -> Column
+// The leaf that a column comes to: its code, whether its record may bear a tag, and where it is judged from. A column is a leaf itself, or a
+// variant whose tag names one.
+fn column_leaf(
+    block: &[u8],
+    node: usize,
+    records: &[u8],
+    payload: &[u8],
+    p: JudgePos,
+) -> Option<(u8, bool, JudgePos)>
     requires { Flat block.now node records.now payload.now p × ValueRecordIn p.at (length records.now) }
     ensures { LeadsToLeaf block.now node records.now payload.now p result }
 {
     let code = node_code(block, node);
     if code < 15 {
-        return Column::Leaf(code, false, p);
+        return Some((code, false, p));
     }
     if 16 < code {
-        return Column::Other;
+        return None;
     }
     let own = value_record_at(records, p.at);
     if own.kind != 15 {
-        return Column::Other;
+        return None;
     }
     if !record_ok(own, false, p.from, payload.len()) {
-        return Column::Other;
+        return None;
     }
     let at = p.at + 1;
     if records_in(records.len() as u64) <= at as u64 {
-        return Column::Other;
+        return None;
     }
     let below = value_record_at(records, at);
     let first = node_first(block, node);
     let count = node_children(block, node);
-    let pick = next_child(code, first, count, 0, below.tag, at);
-    let Chosen::Child(child, width) = pick else {
-        return Column::Other;
-    };
+    let (child, width) = next_child(code, first, count, 0, below.tag, at).ok()?;
     let leaf = node_code(block, child);
     if 14 < leaf {
-        return Column::Other;
+        return None;
     }
-    Column::Leaf(
+    Some((
         leaf,
         true,
         JudgePos {
@@ -92,7 +86,7 @@ fn column_leaf(block: &[u8], node: usize, records: &[u8], payload: &[u8], p: Jud
             from: p.from,
             bytes: p.bytes + width,
         },
-    )
+    ))
 }
 
 // A column.
@@ -103,49 +97,49 @@ fn column_fits(
     records: &[u8],
     payload: &[u8],
     p: JudgePos,
-) -> AtOnce
+) -> Option<JudgePos>
     requires { Flat block.now node records.now payload.now p }
-    ensures { (q : JudgePos) → result ≡ AtOnce.Fits q → Seen block.now node records.now
+    ensures { (q : JudgePos) → result ≡ Some q → Seen block.now node records.now
         payload.now (limits settings) p q }
 {
     if records_in(records.len() as u64) <= p.at as u64 {
-        return AtOnce::Later;
+        return None;
     }
-    let reached = column_leaf(block, node, records, payload, p);
-    match reached {
-        Column::Leaf(code, tagged, start) => {
-            let own = value_record_at(records, start.at);
-            leaf_fits(code, own, settings, payload.len(), tagged, start)
-        }
-        Column::Other => AtOnce::Later,
-    }
+    let (code, tagged, start) = column_leaf(block, node, records, payload, p)?;
+    let own = value_record_at(records, start.at);
+    leaf_fits(code, own, settings, payload.len(), tagged, start)
 }
 
 // The row: its root's record, its columns, and nothing after them.
-pub fn flat_row(block: &[u8], settings: Settings, records: &[u8], payload: &[u8]) -> AtOnce
+pub fn flat_row(
+    block: &[u8],
+    settings: Settings,
+    records: &[u8],
+    payload: &[u8],
+) -> Option<JudgePos>
     requires { RowFlat block.now records.now payload.now }
-    ensures { (q : JudgePos) → result ≡ AtOnce.Fits q → RowSeen block.now (limits settings) records.now
+    ensures { (q : JudgePos) → result ≡ Some q → RowSeen block.now (limits settings) records.now
         payload.now q }
 {
     let bytes = records.len() as u64;
     if !whole_records(bytes) {
-        return AtOnce::Later;
+        return None;
     }
     let total = records_in(bytes);
     if total == 0 {
-        return AtOnce::Later;
+        return None;
     }
     let own = value_record_at(records, 0);
     if own.kind != 17 {
-        return AtOnce::Later;
+        return None;
     }
     if !record_ok(own, false, 0, payload.len()) {
-        return AtOnce::Later;
+        return None;
     }
     let first = node_first(block, 0);
     let count = node_children(block, 0);
     if own.size != count {
-        return AtOnce::Later;
+        return None;
     }
     let mut q = JudgePos {
         at: 1,
@@ -154,17 +148,14 @@ pub fn flat_row(block: &[u8], settings: Settings, records: &[u8], payload: &[u8]
     };
     for i in 0..count {
         let column = (first + i) as usize;
-        let s = column_fits(block, column, settings, records, payload, q);
-        let AtOnce::Fits(r) = s else {
-            return AtOnce::Later;
-        };
+        let r = column_fits(block, column, settings, records, payload, q)?;
         q = r;
     }
     if q.at as u64 != total {
-        return AtOnce::Later;
+        return None;
     }
     if q.from != payload.len() {
-        return AtOnce::Later;
+        return None;
     }
-    AtOnce::Fits(q)
+    Some(q)
 }

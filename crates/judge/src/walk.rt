@@ -1,6 +1,6 @@
 // The walk that judges: a block and a value table whose form was accepted. It answers the refusal that the row meets first, or how many
 // bytes the row has. A node step and a children step call each other, and depth falls.
-ghost use Rattle.std.specs.Prelude.{◌≡◌, ◌+◌, ◌^◌, ◌≤◌, ◌<◌, length};
+ghost use Rattle.std.specs.Prelude.{◌≡◌, ◌+◌, ◌^◌, ◌≤◌, ◌<◌, length, Ok, Err, Some};
 ghost use Rattle.rules.specs.Wire.{form};
 ghost use Rattle.rules.specs.Reading.{limits};
 ghost use Rattle.rules.specs.Writing.{kind_for};
@@ -19,41 +19,6 @@ pub struct JudgePos {
     pub at: usize,
     pub from: usize,
     pub bytes: u64,
-}
-
-// What judging a value answers: what it takes, or why it is not written.
-#[derive(Clone, Copy)]
-pub enum Judged {
-    Fits(JudgePos),
-    Refused(Refusal),
-}
-
-// A node's next child by its node and the bytes of the tag that chooses it, or why there is none.
-#[derive(Clone, Copy)]
-pub enum Chosen {
-    Child(usize, u64),
-    Refused(Refusal),
-}
-
-// ---- a refusal, taken out of one answer and handed up in another. Each is called where the answer is known to be one, so that its
-// other arm is never met.
-
-fn judged_refused_by_choice(pick: Chosen) -> Judged
-    ensures { (why : Refusal) → pick ≡ Chosen.Refused why → result ≡ Judged.Refused why }
-{
-    match pick {
-        Chosen::Refused(why) => Judged::Refused(why),
-        Chosen::Child(_, _) => Judged::Refused(Refusal::SETTING),
-    }
-}
-
-fn judged_refused_by_child(value: Judged) -> Judged
-    ensures { (why : Refusal) → value ≡ Judged.Refused why → result ≡ Judged.Refused why }
-{
-    match value {
-        Judged::Refused(why) => Judged::Refused(why),
-        Judged::Fits(_) => Judged::Refused(Refusal::SETTING),
-    }
 }
 
 // ---- nodes without children
@@ -76,7 +41,7 @@ fn kind_of(code: u8) -> u8
 }
 
 // A value of a fixed width, or a blob within its type's limit.
-pub fn judge_leaf(code: u8, size: u64, settings: Settings, p: JudgePos) -> Judged
+pub fn judge_leaf(code: u8, size: u64, settings: Settings, p: JudgePos) -> Result<JudgePos, Refusal>
     requires { (code < 15) × (size < 2 ^ 32) × (p.at < 2 ^ 32) × (p.from < 2 ^ 32) × (p.bytes < 2 ^ 40) }
     ensures { result ≡ leaf_of (limits settings) code size p }
 {
@@ -85,7 +50,7 @@ pub fn judge_leaf(code: u8, size: u64, settings: Settings, p: JudgePos) -> Judge
     let bytes = p.bytes;
     if code < 13 {
         let width = code_width(code);
-        return Judged::Fits(JudgePos {
+        return Ok(JudgePos {
             at: at + 1,
             from: from + payload_of_fixed(width) as usize,
             bytes: bytes + width as u64,
@@ -93,7 +58,7 @@ pub fn judge_leaf(code: u8, size: u64, settings: Settings, p: JudgePos) -> Judge
     }
     let limit = settings.blob_limit(code);
     if limit < size {
-        return Judged::Refused(Refusal {
+        return Err(Refusal {
             why: Why::BlobTooLarge {
                 wire_type: code,
                 length: size,
@@ -102,7 +67,7 @@ pub fn judge_leaf(code: u8, size: u64, settings: Settings, p: JudgePos) -> Judge
             place: at as u64,
         });
     }
-    Judged::Fits(JudgePos {
+    Ok(JudgePos {
         at: at + 1,
         from: from + size as usize,
         bytes: bytes + (4 + size),
@@ -112,15 +77,22 @@ pub fn judge_leaf(code: u8, size: u64, settings: Settings, p: JudgePos) -> Judge
 // ---- nodes with children
 
 // The child after i others, whose record bears `tag` and is the one at `at`.
-pub fn next_child(code: u8, first: u64, count: u64, i: u64, tag: u64, at: usize) -> Chosen
+pub fn next_child(
+    code: u8,
+    first: u64,
+    count: u64,
+    i: u64,
+    tag: u64,
+    at: usize,
+) -> Result<(usize, u64), Refusal>
     requires { (14 < code) × (code ≤ 19) × (first + count < 2 ^ 64) × (first + i < 2 ^ 64) }
     ensures { result ≡ chosen_of code first count (shape_of code) i tag at }
 {
     if 18 < code {
-        return Chosen::Child((first + i) as usize, 0);
+        return Ok(((first + i) as usize, 0));
     }
     if count <= tag {
-        return Chosen::Refused(Refusal {
+        return Err(Refusal {
             why: Why::InvalidVariantTag {
                 wire_type: code,
                 tag,
@@ -129,7 +101,7 @@ pub fn next_child(code: u8, first: u64, count: u64, i: u64, tag: u64, at: usize)
             place: at as u64,
         });
     }
-    Chosen::Child((first + tag) as usize, tag_width(code) as u64)
+    Ok(((first + tag) as usize, tag_width(code) as u64))
 }
 
 // Whether a node of so many children takes a value of so many: only a tuple is asked.
@@ -156,13 +128,6 @@ fn closing(code: u8) -> u64
     tag_width(code) as u64
 }
 
-// What a node with children comes to at once: what it takes, or nothing yet.
-#[derive(Clone, Copy)]
-pub enum AtOnce {
-    Fits(JudgePos),
-    Later,
-}
-
 // A variant with a leaf below it that fits is judged here: so an optional column takes no children step, as in the walks that read.
 // Whatever else there is, and every refusal, is left to that step.
 fn judge_at_once(
@@ -175,39 +140,32 @@ fn judge_at_once(
     payload: &[u8],
     p: JudgePos,
     size: u64,
-) -> AtOnce
+) -> Option<JudgePos>
     requires { Judgeable block.now node depth records.now payload.now p × Opened block.now node code records.now p size }
-    ensures { (q : JudgePos) → result ≡ AtOnce.Fits q → Judged.Fits q ≡ judged_at block.now (limits settings)
+    ensures { (q : JudgePos) → result ≡ Some q → Ok q ≡ judged_at block.now (limits settings)
         node depth records.now payload.now p }
 {
     if 16 < code {
-        return AtOnce::Later;
+        return None;
     }
     let first = node_first(block, node);
     let count = node_children(block, node);
     let at = p.at + 1;
     let below = value_record_at(records, at);
-    let pick = next_child(code, first, count, 0, below.tag, at);
-    let Chosen::Child(child, width) = pick else {
-        return AtOnce::Later;
-    };
+    let (child, width) = next_child(code, first, count, 0, below.tag, at).ok()?;
     let leaf = node_code(block, child);
     if 14 < leaf {
-        return AtOnce::Later;
+        return None;
     }
     if below.kind != leaf {
-        return AtOnce::Later;
+        return None;
     }
     let start = JudgePos {
         at,
         from: p.from,
         bytes: p.bytes + width,
     };
-    let j = judge_leaf(leaf, below.size, settings, start);
-    let Judged::Fits(q) = j else {
-        return AtOnce::Later;
-    };
-    AtOnce::Fits(q)
+    judge_leaf(leaf, below.size, settings, start).ok()
 }
 
 // The node step. The kind is judged before all else.
@@ -220,7 +178,7 @@ fn judge_value(
     records: &[u8],
     payload: &[u8],
     p: JudgePos,
-) -> Judged
+) -> Result<JudgePos, Refusal>
     requires { Judgeable block.now node depth records.now payload.now p }
     ensures { result ≡ judged_at block.now (limits settings) node depth records.now payload.now p }
 {
@@ -230,7 +188,7 @@ fn judge_value(
     let size = own.size;
     let code = node_code(block, node);
     if kind != kind_of(code) {
-        return Judged::Refused(Refusal {
+        return Err(Refusal {
             why: Why::ValueDoesNotMatchSchema {
                 wire_type: code,
                 kind,
@@ -240,30 +198,24 @@ fn judge_value(
     }
     // Here and below an answer is taken apart and built anew: returned as it came, it would go through memory once more.
     if code < 15 {
-        let j = judge_leaf(code, size, settings, p);
-        let Judged::Fits(q) = j else {
-            return j;
-        };
-        return Judged::Fits(q);
+        let q = judge_leaf(code, size, settings, p)?;
+        return Ok(q);
     }
     let now = judge_at_once(
         block, node, code, depth, settings, records, payload, p, size,
     );
-    if let AtOnce::Fits(q) = now {
-        return Judged::Fits(q);
+    if let Some(q) = now {
+        return Ok(q);
     }
     // What a call lends has to lie in memory: copied here, so that a leaf is spared that.
     let nodes = block;
     let table = records;
     let store = payload;
     let start = p;
-    let j = judge_children(
+    let q = judge_children(
         nodes, node, code, depth, settings, table, store, start, size,
-    );
-    let Judged::Fits(q) = j else {
-        return j;
-    };
-    Judged::Fits(q)
+    )?;
+    Ok(q)
 }
 
 // The children step: one loop for tuples, variants and repeated variants, so that each step calls the other from one place only. A
@@ -279,7 +231,7 @@ fn judge_children(
     payload: &[u8],
     p: JudgePos,
     size: u64,
-) -> Judged
+) -> Result<JudgePos, Refusal>
     requires { Judgeable block.now node depth records.now payload.now p × Opened block.now node code records.now p size }
     ensures { result ≡ judged_at block.now (limits settings) node depth records.now payload.now p }
 {
@@ -287,7 +239,7 @@ fn judge_children(
     let count = node_children(block, node);
     let own = p.at;
     if !count_fits(code, size, count) {
-        return Judged::Refused(Refusal {
+        return Err(Refusal {
             why: Why::TupleLength {
                 expected: count,
                 actual: size,
@@ -303,22 +255,16 @@ fn judge_children(
     for i in 0..size {
         let at = q.at;
         let below = value_record_at(records, at);
-        let pick = next_child(code, first, count, i, below.tag, at);
-        let Chosen::Child(child, width) = pick else {
-            return judged_refused_by_choice(pick);
-        };
+        let (child, width) = next_child(code, first, count, i, below.tag, at)?;
         let start = JudgePos {
             at,
             from: q.from,
             bytes: q.bytes + width,
         };
-        let j = judge_value(block, child, depth - 1, settings, records, payload, start);
-        let Judged::Fits(r) = j else {
-            return judged_refused_by_child(j);
-        };
+        let r = judge_value(block, child, depth - 1, settings, records, payload, start)?;
         q = r;
     }
-    Judged::Fits(JudgePos {
+    Ok(JudgePos {
         at: q.at,
         from: q.from,
         bytes: q.bytes + closing(code),
@@ -327,7 +273,12 @@ fn judge_children(
 
 // A row: its table's tag, and the value of the whole table at the root. The root is no leaf, and the row enters by the children step: so
 // the node step has one caller, is compiled into it, and a leaf costs no call.
-pub fn judge_row(block: &[u8], settings: Settings, records: &[u8], payload: &[u8]) -> Judged
+pub fn judge_row(
+    block: &[u8],
+    settings: Settings,
+    records: &[u8],
+    payload: &[u8],
+) -> Result<JudgePos, Refusal>
     requires { RowJudgeable block.now records.now payload.now }
     ensures { result ≡ judged_row block.now (limits settings) records.now payload.now }
 {
@@ -340,7 +291,7 @@ pub fn judge_row(block: &[u8], settings: Settings, records: &[u8], payload: &[u8
     let kind = own.kind;
     let code = node_code(block, 0);
     if kind != kind_of(code) {
-        return Judged::Refused(Refusal {
+        return Err(Refusal {
             why: Why::ValueDoesNotMatchSchema {
                 wire_type: code,
                 kind,
@@ -348,9 +299,6 @@ pub fn judge_row(block: &[u8], settings: Settings, records: &[u8], payload: &[u8
             place: 0,
         });
     }
-    let j = judge_children(block, 0, code, 64, settings, records, payload, p, own.size);
-    let Judged::Fits(q) = j else {
-        return j;
-    };
-    Judged::Fits(q)
+    let q = judge_children(block, 0, code, 64, settings, records, payload, p, own.size)?;
+    Ok(q)
 }

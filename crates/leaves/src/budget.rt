@@ -15,13 +15,6 @@ pub struct RowBudget {
     pub limit: u64,
 }
 
-// What a charge answers.
-#[derive(Clone, Copy)]
-pub enum Charged {
-    Left(RowBudget),
-    Refused(Refusal),
-}
-
 impl RowBudget {
     // The allowance of a row that has not begun.
     pub fn new(max_string32_bytes: u64, max_yson32_bytes: u64, limit: u64) -> Self
@@ -36,18 +29,18 @@ impl RowBudget {
     }
 
     // So many bytes less, or 13 at `place`. Equality with what is left is accepted.
-    pub fn charge(self, bytes: u64, place: u64) -> Charged
+    pub fn charge(self, bytes: u64, place: u64) -> Result<RowBudget, Refusal>
         ensures { result ≡ spent self bytes place }
     {
         let limit = self.limit;
         let remaining = self.remaining;
         if remaining < bytes {
-            return Charged::Refused(Refusal {
+            return Err(Refusal {
                 why: Why::RowTooLarge { limit },
                 place,
             });
         }
-        Charged::Left(RowBudget {
+        Ok(RowBudget {
             max_string32_bytes: self.max_string32_bytes,
             max_yson32_bytes: self.max_yson32_bytes,
             remaining: remaining - bytes,

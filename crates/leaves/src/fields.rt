@@ -1,5 +1,5 @@
 // The fields of a row: tags, lengths, and what the wire types of a fixed width leave in the payload store.
-ghost use Rattle.std.specs.Prelude.{◌≡◌, ◌+◌, ◌≤◌, ◌<◌, length};
+ghost use Rattle.std.specs.Prelude.{◌≡◌, ◌+◌, ◌≤◌, ◌<◌, length, Err};
 ghost use Rattle.rules.specs.Refusals.{Truncated};
 ghost use Rattle.rules.specs.Wire.{form, width_of};
 ghost use Rattle.leaves.specs.Fields.{read_number_at, payload_of_fixed};
@@ -9,25 +9,18 @@ use rules::{Refusal, Why};
 use wire::codes::tag_width;
 use wire::{u16_at, u32_at, wide};
 
-// A number and the position after it, or 12 where its bytes are cut.
-#[derive(Clone, Copy)]
-pub enum ReadNumber {
-    Is(u64, usize),
-    Refused(Refusal),
-}
-
 // A field that the stream's end cuts.
-fn truncated(context: u8, at: usize) -> ReadNumber
-    ensures { result ≡ ReadNumber.Refused (Truncated context at) }
+fn truncated(context: u8, at: usize) -> Result<(u64, usize), Refusal>
+    ensures { result ≡ Err (Truncated context at) }
 {
-    ReadNumber::Refused(Refusal {
+    Err(Refusal {
         why: Why::Truncated { context },
         place: at as u64,
     })
 }
 
 // A variant's tag.
-pub fn read_tag(code: u8, input: &[u8], at: usize) -> ReadNumber
+pub fn read_tag(code: u8, input: &[u8], at: usize) -> Result<(u64, usize), Refusal>
     requires { (14 < code) × (code < 19) × (at ≤ length input.now) }
     ensures { result ≡ read_number_at input.now (width_of (form code)) (14 + width_of (form code)) at }
 {
@@ -36,34 +29,34 @@ pub fn read_tag(code: u8, input: &[u8], at: usize) -> ReadNumber
         if left < 1 {
             return truncated(15, at);
         }
-        return ReadNumber::Is(wide(input[at]), at + 1);
+        return Ok((wide(input[at]), at + 1));
     }
     if left < 2 {
         return truncated(16, at);
     }
-    ReadNumber::Is(u16_at(input, at), at + 2)
+    Ok((u16_at(input, at), at + 2))
 }
 
 // The number of a row's table.
-pub fn read_table(input: &[u8], at: usize) -> ReadNumber
+pub fn read_table(input: &[u8], at: usize) -> Result<(u64, usize), Refusal>
     requires { at ≤ length input.now }
     ensures { result ≡ read_number_at input.now 2 17 at }
 {
     if input.len() - at < 2 {
         return truncated(17, at);
     }
-    ReadNumber::Is(u16_at(input, at), at + 2)
+    Ok((u16_at(input, at), at + 2))
 }
 
 // A blob's length.
-pub fn read_length(input: &[u8], at: usize) -> ReadNumber
+pub fn read_length(input: &[u8], at: usize) -> Result<(u64, usize), Refusal>
     requires { at ≤ length input.now }
     ensures { result ≡ read_number_at input.now 4 13 at }
 {
     if input.len() - at < 4 {
         return truncated(13, at);
     }
-    ReadNumber::Is(u32_at(input, at), at + 4)
+    Ok((u32_at(input, at), at + 4))
 }
 
 // How many bytes of a fixed width lie in the payload store: those of a value that a record's eight bytes do not hold.

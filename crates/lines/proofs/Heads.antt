@@ -1,5 +1,6 @@
 -- A refusal's line, from its line of the table.
 -- Assumes nothing.
+use Rattle.std.proofs.Common.{Ok, Err}
 use Prim.Native.Nat.{ℕ}
 use mathlib.Core.Path.{◌≡◌, refl, ap, ◌∙◌}
 use mathlib.Core.List.{List, ◌++◌, append_assoc}
@@ -12,7 +13,6 @@ use Rattle.rules.specs.declared.refusal.Why.TheVariants.{Setting, BadSchemaTable
 use Rattle.rules.specs.declared.refusal.Refusal.{Refusal}
 use Rattle.rules.specs.declared.refusal.RefusalLine.{RefusalLine}
 use Rattle.rules.specs.declared.answer.Ran.{Ran}
-use Rattle.rules.specs.declared.answer.Stop.{Stop}
 use Rattle.lines.specs.Puts.{TextPut, head}
 
 -- of the name's bytes the word is the name
@@ -66,10 +66,10 @@ module _ (r : Refusal) (rows bytes : ℕ) where
 
 -- a run's line, by how it stops
 module _ (s t : List ℕ) (end : ℕ) (ran : Ran) where
-  pub run_ended : ran.stop ≡ Stop.End → TextPut s 0 (end_line ran.rows ran.bytes) t end → TextPut s 0 (run_line ran) t end
+  pub run_ended : ran.stop ≡ Ok tt → TextPut s 0 (end_line ran.rows ran.bytes) t end → TextPut s 0 (run_line ran) t end
   unfolding run_line run_line_of
   run_ended e p = rw e p
 
-  pub run_refused : (r : Refusal) → ran.stop ≡ Stop.Refused r → TextPut s 0 (refused_line r ran.rows ran.bytes) t end → TextPut s 0 (run_line ran) t end
+  pub run_refused : (r : Refusal) → ran.stop ≡ Err r → TextPut s 0 (refused_line r ran.rows ran.bytes) t end → TextPut s 0 (run_line ran) t end
   unfolding run_line run_line_of
   run_refused r e p = rw e p

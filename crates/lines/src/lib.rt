@@ -1,11 +1,12 @@
-// Lines of text, made in a buffer: each function puts a text or a number at a position and answers where the next one goes.
+// Lines of text, made in a buffer: each function puts a text or a number at a position and answers where the next one goes. No writer is passed: so a
+// contract says each byte, and nothing can fail.
 #![tactic(auto)]
 
 ghost use Rattle.std.specs.Prelude.{ℕ, ◌+◌, ◌≤◌, ◌<◌, ◌++◌, length, slice_index, ◌≡◌, ◌≢◌};
 ghost use Rattle.rules.specs.Lines.{decimal, word, is_none, spaced, item, labelled, word_of, closing_bracket, carried, stopped_at, end_line, refused_line, run_line};
 ghost use Rattle.lines.specs.Puts.{TextPut, head};
 
-use rules::{Label, Labels, Ran, Refusal, RefusalLine, Stop};
+use rules::{Label, Labels, Ran, Refusal, RefusalLine};
 use words::{label_word, word_of};
 
 // A text.
@@ -205,7 +206,7 @@ pub fn put_run_line(buffer: &mut [u8], ran: Ran) -> usize
 {
     let stop = ran.stop;
     match stop {
-        Stop::End => put_end_line(buffer, ran.rows, ran.bytes),
-        Stop::Refused(refusal) => put_refused_line(buffer, refusal, ran.rows, ran.bytes),
+        Ok(()) => put_end_line(buffer, ran.rows, ran.bytes),
+        Err(refusal) => put_refused_line(buffer, refusal, ran.rows, ran.bytes),
     }
 }

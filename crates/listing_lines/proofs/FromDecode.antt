@@ -1,5 +1,6 @@
 -- A piece, by what decode answers and leaves.
 -- Assumes nothing.
+use Rattle.std.proofs.Common.{Result, Option, Ok, Err, Some, None}
 use Prim.Native.Nat.{ℕ, ◌+◌, ◌≤◌, ◌<◌}
 use mathlib.Core.Path.{◌≡◌, refl, sym, ap, ◌∙◌}
 use mathlib.Core.Bool.{Bool, true, false}
@@ -25,10 +26,7 @@ use Rattle.rules.specs.Listing.{row_lines, refusal_line, Piece, row_piece, last_
 use Rattle.rules.specs.declared.settings.Settings.{Settings}
 use Rattle.rules.specs.declared.refusal.Refusal.{Refusal}
 use Rattle.rules.specs.declared.answer.Door.{Door}
-use Rattle.rules.specs.declared.answer.Door.TheVariants as door-is
 use Rattle.rules.specs.declared.answer.Extent.{Extent}
-use Rattle.rules.specs.declared.answer.Read.{Read}
-use Rattle.rules.specs.declared.answer.Read.TheVariants.{Row, End}
 use Rattle.rules.proofs.Stands.{stands_seam}
 use Rattle.row_laws.proofs.TableRows.{row_accepts}
 use Rattle.row_laws.proofs.Decoding.{decode_tested, accepts_inside}
@@ -63,20 +61,20 @@ module _ (f : Format) (inp : List ℕ) (n at : ℕ) (rs ps : List ℕ) (lr : len
       read (Got (t, v) q) = unfold row_piece_of value_got skipped room_test in rw (rooms.0, rooms.1)
       read (Refused r) = unfold row_piece_of value_got skipped room_test piece_of in refl
 
-      by : (d : Door) → through d (λ r. last_piece (refusal_line r)) (last_piece (end_line n at)) (row_piece_of n at (row_at f inp (limits defaults) at)) ≡ piece_of n at (value_got (row_at f inp (limits defaults) at)) (room_test at rs ps (through d Read.Refused End (skipped at (row_at f inp (limits defaults) at))))
-      by door-is.Open = unfold through in read (row_at f inp (limits defaults) at)
-      by door-is.End = unfold through room_test piece_of in refl
-      by (door-is.Refused r) = unfold through room_test piece_of in refl
+      by : (d : Result Door Refusal) → through d (λ r. last_piece (refusal_line r)) (last_piece (end_line n at)) (row_piece_of n at (row_at f inp (limits defaults) at)) ≡ piece_of n at (value_got (row_at f inp (limits defaults) at)) (room_test at rs ps (through d Err (Ok None) (skipped at (row_at f inp (limits defaults) at))))
+      by (Ok Door.Open) = unfold through in read (row_at f inp (limits defaults) at)
+      by (Ok Door.End) = unfold through room_test piece_of in refl
+      by (Err r) = unfold through room_test piece_of in refl
 
-  pub piece_end : (decode_rule f defaults inp at rs ps).answer ≡ End → piece_at f inp n at ≡ last_piece (end_line n at)
+  pub piece_end : (decode_rule f defaults inp at rs ps).answer ≡ Ok None → piece_at f inp n at ≡ last_piece (end_line n at)
   unfolding piece_of
   piece_end e = rw e at piece_by
 
-  pub piece_refused : (r : Refusal) → (decode_rule f defaults inp at rs ps).answer ≡ Read.Refused r → piece_at f inp n at ≡ last_piece (refusal_line r)
+  pub piece_refused : (r : Refusal) → (decode_rule f defaults inp at rs ps).answer ≡ Err r → piece_at f inp n at ≡ last_piece (refusal_line r)
   unfolding piece_of
   piece_refused r e = rw e at piece_by
 
-  module _ (bs : Bytes inp) (e : Extent) (is : (decode_rule f defaults inp at rs ps).answer ≡ Row e) where
+  module _ (bs : Bytes inp) (e : Extent) (is : (decode_rule f defaults inp at rs ps).answer ≡ Ok (Some e)) where
     pub held : Held f inp (limits defaults) at rs ps e (decode_rule f defaults inp at rs ps)
     unfolding read_said
     held = decoded_held f defaults inp at rs ps bs e (rw is)
@@ -111,15 +109,15 @@ module _ (f : Format) (inp : List ℕ) (n at : ℕ) (rs ps : List ℕ) (lr : len
   unfolding piece_of after start
   piece_goes bs lines bytes h = by (decode_rule f defaults inp at rs ps).answer refl (sym piece_by ∙ h)
     where
-      by : (a : Read) → (decode_rule f defaults inp at rs ps).answer ≡ a → piece_of n at (value_got (row_at f inp (limits defaults) at)) a ≡ row_piece lines bytes → (2 ≤ bytes) × (at + bytes ≤ length inp)
-      by (Row e) is q =
+      by : (a : Result (Option Extent) Refusal) → (decode_rule f defaults inp at rs ps).answer ≡ a → piece_of n at (value_got (row_at f inp (limits defaults) at)) a ≡ row_piece lines bytes → (2 ≤ bytes) × (at + bytes ≤ length inp)
+      by (Ok (Some e)) is q =
           let z : e.bytes ≡ bytes = cc in
           let a = (held bs e is).left.stands in
           let i = accepts_inside f inp (limits defaults) at a in
           let m : at + e.bytes ≡ at + length a.bytes = ap (λ (x : Pos). x.at) a.ends in
           (omega (arith, z, m, i.0), omega (arith, z, m, i.1))
-      by End is q = absurd (let z : ◌≡◌ {A = ℕ} 0 1 = cc in omega arith)
-      by (Read.Refused r) is q = absurd (let z : ◌≡◌ {A = ℕ} 0 1 = cc in omega arith)
+      by (Ok None) is q = absurd (let z : ◌≡◌ {A = ℕ} 0 1 = cc in omega arith)
+      by (Err r) is q = absurd (let z : ◌≡◌ {A = ℕ} 0 1 = cc in omega arith)
 
 length-blank : (k : ℕ) → length (blank k) ≡ k
 unfolding blank
@@ -156,14 +154,14 @@ module _ (schema names inp : List ℕ) (n at : ℕ) (rs ps : List ℕ) (lr : len
   decoded = is ∙ rw (def, inline)
 
   module _ (text text' : List ℕ) (end : ℕ) where
-    pub read_end : d.answer ≡ End → TextPut text 0 (end_line n at) text' end → record { shown = shown-is.Last end; text = text' } ≡ show_piece (piece_at one inp n at) text
+    pub read_end : d.answer ≡ Ok None → TextPut text 0 (end_line n at) text' end → record { shown = shown-is.Last end; text = text' } ≡ show_piece (piece_at one inp n at) text
     read_end a u = shown_last text text' end _ _ (piece_end one inp n at rs ps lr lp (sym (ap (λ (x : Decoded). x.answer) decoded) ∙ a)) u
 
-    pub read_refused : (r : Refusal) → d.answer ≡ Read.Refused r → TextPut text 0 (refusal_line r) text' end → record { shown = shown-is.Last end; text = text' } ≡ show_piece (piece_at one inp n at) text
+    pub read_refused : (r : Refusal) → d.answer ≡ Err r → TextPut text 0 (refusal_line r) text' end → record { shown = shown-is.Last end; text = text' } ≡ show_piece (piece_at one inp n at) text
     read_refused r a u = shown_last text text' end _ _ (piece_refused one inp n at rs ps lr lp r (sym (ap (λ (x : Decoded). x.answer) decoded) ∙ a)) u
 
-  module _ (bs : Bytes inp) (e : Extent) (a : d.answer ≡ Row e) where
-    as_answered : (decode_rule one defaults inp at rs ps).answer ≡ Row e
+  module _ (bs : Bytes inp) (e : Extent) (a : d.answer ≡ Ok (Some e)) where
+    as_answered : (decode_rule one defaults inp at rs ps).answer ≡ Ok (Some e)
     as_answered = sym (ap (λ (x : Decoded). x.answer) decoded) ∙ a
 
     abbrev told : Value

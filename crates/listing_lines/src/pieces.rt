@@ -9,11 +9,12 @@ use crate::rows::list_row;
 use decode::next_row;
 use lines::put_end_line;
 use record::node::NODE_SIZE;
-use rules::{Read, Refusal, Settings};
+use rules::{Format, Refusal, Settings};
 use texts::put_refusal_line;
 
 // What stands at the start of a buffer: the lines of a row, how many bytes of text they are, and how many bytes of the stream the row is;
 // the last line and its bytes; or nothing, since there is no room for any row's lines.
+// (Three cases, one of them without data: an `Option` of an enum of two would say the same with a layer more.)
 #[derive(Clone, Copy)]
 pub enum Shown {
     Row(usize, u64),
@@ -88,19 +89,23 @@ fn put_read(
     let reference = inline_table(schema.len() / NODE_SIZE);
     let read = next_row(
         Settings::new(),
-        schema,
-        names,
-        &reference,
-        b"",
+        &Format {
+            table: schema,
+            names,
+            references: &reference,
+            registry: b"",
+        },
         stream,
         at,
         records,
         payload,
     );
     match read {
-        Read::Row(extent) => Shown::Row(list_row(records, payload, row, text), extent.bytes),
-        Read::End => Shown::Last(put_end_line(text, row, at)),
-        Read::Refused(why) => Shown::Last(put_refusal_line(text, why)),
+        Ok(found) => match found {
+            Some(extent) => Shown::Row(list_row(records, payload, row, text), extent.bytes),
+            None => Shown::Last(put_end_line(text, row, at)),
+        },
+        Err(why) => Shown::Last(put_refusal_line(text, why)),
     }
 }
 

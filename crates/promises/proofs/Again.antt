@@ -1,5 +1,6 @@
 -- A row that was decoded encodes again, to a row of the same length, which decodes to the same table.
 -- Assumes nothing.
+use Rattle.std.proofs.Common.{Ok}
 use Prim.Native.Nat.{ℕ, ◌+◌, ◌≤◌}
 use mathlib.Core.Path.{◌≡◌, refl, sym, ap, ◌∙◌, subst}
 use mathlib.Core.List.{List}
@@ -20,7 +21,6 @@ use Rattle.rules.specs.Writing.{Encoded, encode_from}
 use Rattle.rules.specs.RoundTrip.{EncodeAsked, Encodable, decoded_as, PlainRow}
 use Rattle.rules.specs.declared.settings.Settings.{Settings}
 use Rattle.rules.specs.declared.answer.Extent.{Extent}
-use Rattle.rules.specs.declared.answer.Written.{Written}
 use Rattle.rules.proofs.Stands.{stands_right, stands_part}
 use Rattle.row_laws.proofs.Only.{only}
 use Rattle.promises.proofs.Lengths.{table_row_length}
@@ -54,10 +54,10 @@ module _ (f : Format) (s : Settings) (inp : List ℕ) (at : ℕ) (e : Extent) (v
   same_counts = rw (← bytes_are, records, payload, ← zero) refl
 
   -- it is answered again, with its very counts,
-  row_again : (encode_from f s first n recs pay out position).answer ≡ Written.Row e
+  row_again : (encode_from f s first n recs pay out position).answer ≡ Ok e
   row_again =
       let w = encoded_as f s first n recs pay out position asked v is ((encoded_when f s first n recs pay out position asked v is).1 can) in
-      ap (λ (d : Encoded). d.answer) w ∙ ap Written.Row same_counts
+      ap (λ (d : Encoded). d.answer) w ∙ ap Ok same_counts
 
   -- and decodes anywhere to the table that was encoded
   table_again : (inp' : List ℕ) (at' : ℕ) (rs' ps' : List ℕ) → Stands inp' at' (part (encode_from f s first n recs pay out position).output position e.bytes) → length inp' ≤ 4294967295 →
@@ -89,7 +89,7 @@ module _ (f : Format) (s : Settings) (inp : List ℕ) (at : ℕ) (rs ps : List �
     (read : read_said (decode_rule f s inp at rs ps).answer ≡ row_said e) (zero : e.table ≡ 0) (first n : ℕ) (recs pay out : List ℕ) (position : ℕ)
     (records : recs ≡ take (value_record_start e.records) (decode_rule f s inp at rs ps).records) (payload : pay ≡ take e.payload (decode_rule f s inp at rs ps).payload)
     (asked : EncodeAsked f s first n recs pay out position) (fits : position + e.bytes ≤ room out) where
-  pub encodes_again : (encode_from f s first n recs pay out position).answer ≡ Written.Row e
+  pub encodes_again : (encode_from f s first n recs pay out position).answer ≡ Ok e
   encodes_again =
       let was = decoded_held f s inp at rs ps bs e read in
       row_again f s inp at e was.left.value was.left.stands was.left.conforms was.records was.payload zero first n recs pay out position (rw (records, payload) was.left.table) asked fits

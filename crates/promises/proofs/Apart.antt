@@ -1,5 +1,7 @@
 -- What an answer says in document 01's numbers fixes it: no two answers say the same.
 -- Assumes nothing.
+use Rattle.std.specs.Prelude.{⊤}
+use Rattle.std.proofs.Common.{Result, Option, Ok, Err, Some, None}
 use Prim.Native.Nat.{ℕ, ◌-◌}
 use mathlib.Core.Path.{◌≡◌, refl, sym, ap, ◌∙◌}
 use mathlib.Core.List.{List, [], ◌∷◌}
@@ -12,12 +14,7 @@ use Rattle.rules.specs.Answers.{Said, said, none_said, row_said, read_said, stop
 use Rattle.rules.specs.declared.refusal.Refusal.{Refusal}
 use Rattle.rules.specs.declared.refusal.Why.{Why}
 use Rattle.rules.specs.declared.refusal.Why.TheVariants as why
-use Rattle.rules.specs.declared.answer.Checked.{Checked}
 use Rattle.rules.specs.declared.answer.Extent.{Extent}
-use Rattle.rules.specs.declared.answer.Read.{Read}
-use Rattle.rules.specs.declared.answer.Stop.{Stop}
-use Rattle.rules.specs.declared.answer.Written.{Written}
-use Rattle.rules.specs.declared.answer.TextWritten.{TextWritten}
 use Rattle.rules.proofs.Answers.{refusal_number_lem, one_row}
 
 -- the reasons of document 01 in the order of their numbers, with three values
@@ -106,42 +103,42 @@ row_not_none : (e : Extent) → row_said e ≡ none_said → ⊥
 unfolding row_said none_said
 row_not_none e h = let g = ap (λ (z : Said). z.carries) h in let z : ◌≡◌ {A = ℕ} 0 1 = cc in omega arith
 
-pub reads_apart : (a b : Read) → read_said a ≡ read_said b → a ≡ b
+pub reads_apart : (a b : Result (Option Extent) Refusal) → read_said a ≡ read_said b → a ≡ b
 unfolding read_said
-reads_apart (Read.Row x) (Read.Row y) h = ap Read.Row (one_row x y h)
-reads_apart (Read.Row x) Read.End h = absurd (row_not_none x h)
-reads_apart (Read.Row x) (Read.Refused r) h = absurd (not_row r x (sym h))
-reads_apart Read.End (Read.Row y) h = absurd (row_not_none y (sym h))
-reads_apart Read.End Read.End h = refl
-reads_apart Read.End (Read.Refused r) h = absurd (not_none r (sym h))
-reads_apart (Read.Refused r) (Read.Row y) h = absurd (not_row r y h)
-reads_apart (Read.Refused r) Read.End h = absurd (not_none r h)
-reads_apart (Read.Refused r) (Read.Refused t) h = ap Read.Refused (refusals_apart r t h)
+reads_apart (Ok (Some x)) (Ok (Some y)) h = ap (λ x. Ok (Some x)) (one_row x y h)
+reads_apart (Ok (Some x)) (Ok None) h = absurd (row_not_none x h)
+reads_apart (Ok (Some x)) (Err r) h = absurd (not_row r x (sym h))
+reads_apart (Ok None) (Ok (Some y)) h = absurd (row_not_none y (sym h))
+reads_apart (Ok None) (Ok None) h = refl
+reads_apart (Ok None) (Err r) h = absurd (not_none r (sym h))
+reads_apart (Err r) (Ok (Some y)) h = absurd (not_row r y h)
+reads_apart (Err r) (Ok None) h = absurd (not_none r h)
+reads_apart (Err r) (Err t) h = ap Err (refusals_apart r t h)
 
-pub stops_apart : (a b : Stop) → stop_said a ≡ stop_said b → a ≡ b
+pub stops_apart : (a b : Result ⊤ Refusal) → stop_said a ≡ stop_said b → a ≡ b
 unfolding stop_said
-stops_apart Stop.End Stop.End h = refl
-stops_apart Stop.End (Stop.Refused r) h = absurd (not_none r (sym h))
-stops_apart (Stop.Refused r) Stop.End h = absurd (not_none r h)
-stops_apart (Stop.Refused r) (Stop.Refused t) h = ap Stop.Refused (refusals_apart r t h)
+stops_apart (Ok _) (Ok _) h = refl
+stops_apart (Ok tt) (Err r) h = absurd (not_none r (sym h))
+stops_apart (Err r) (Ok tt) h = absurd (not_none r h)
+stops_apart (Err r) (Err t) h = ap Err (refusals_apart r t h)
 
-pub writings_apart : (a b : Written) → written_said a ≡ written_said b → a ≡ b
+pub writings_apart : (a b : Result Extent Refusal) → written_said a ≡ written_said b → a ≡ b
 unfolding written_said
-writings_apart (Written.Row x) (Written.Row y) h = ap Written.Row (one_row x y h)
-writings_apart (Written.Row x) (Written.Refused r) h = absurd (not_row r x (sym h))
-writings_apart (Written.Refused r) (Written.Row y) h = absurd (not_row r y h)
-writings_apart (Written.Refused r) (Written.Refused t) h = ap Written.Refused (refusals_apart r t h)
+writings_apart (Ok x) (Ok y) h = ap Ok (one_row x y h)
+writings_apart (Ok x) (Err r) h = absurd (not_row r x (sym h))
+writings_apart (Err r) (Ok y) h = absurd (not_row r y h)
+writings_apart (Err r) (Err t) h = ap Err (refusals_apart r t h)
 
-pub texts_apart : (a b : TextWritten) → text_said a ≡ text_said b → a ≡ b
+pub texts_apart : (a b : Result ℕ Refusal) → text_said a ≡ text_said b → a ≡ b
 unfolding text_said
-texts_apart (TextWritten.Text m) (TextWritten.Text n) h = ap TextWritten.Text (ap (λ (x : Said). get_or x.carries 0 0) h)
-texts_apart (TextWritten.Text m) (TextWritten.Refused r) h = absurd (refusal_number_lem r (ap (λ (x : Said). x.number) (sym h)))
-texts_apart (TextWritten.Refused r) (TextWritten.Text n) h = absurd (refusal_number_lem r (ap (λ (x : Said). x.number) h))
-texts_apart (TextWritten.Refused r) (TextWritten.Refused t) h = ap TextWritten.Refused (refusals_apart r t h)
+texts_apart (Ok m) (Ok n) h = ap Ok (ap (λ (x : Said). get_or x.carries 0 0) h)
+texts_apart (Ok m) (Err r) h = absurd (refusal_number_lem r (ap (λ (x : Said). x.number) (sym h)))
+texts_apart (Err r) (Ok n) h = absurd (refusal_number_lem r (ap (λ (x : Said). x.number) h))
+texts_apart (Err r) (Err t) h = ap Err (refusals_apart r t h)
 
-pub checks_apart : (a b : Checked) → checked_said a ≡ checked_said b → a ≡ b
+pub checks_apart : (a b : Result ⊤ Refusal) → checked_said a ≡ checked_said b → a ≡ b
 unfolding checked_said
-checks_apart Checked.Accepted Checked.Accepted h = refl
-checks_apart Checked.Accepted (Checked.Refused r) h = absurd (not_none r (sym h))
-checks_apart (Checked.Refused r) Checked.Accepted h = absurd (not_none r h)
-checks_apart (Checked.Refused r) (Checked.Refused t) h = ap Checked.Refused (refusals_apart r t h)
+checks_apart (Ok _) (Ok _) h = refl
+checks_apart (Ok tt) (Err r) h = absurd (not_none r (sym h))
+checks_apart (Err r) (Ok tt) h = absurd (not_none r h)
+checks_apart (Err r) (Err t) h = ap Err (refusals_apart r t h)

@@ -1,6 +1,8 @@
 -- The page of promises. Each statement is about the written rules (crates/rules/specs) and nothing else, and is proved by a citation.
 -- A call inherits it by a contract that says: its answer is what the rule says.
 -- Assumes nothing.
+use Rattle.std.specs.Prelude.{⊤}
+use Rattle.std.proofs.Common.{Result, Option, Ok, Err, Some}
 use Prim.Native.Nat.{ℕ, ◌+◌, ◌*◌, ◌^◌, ◌≤◌, ◌<◌, suc}
 use mathlib.Core.Path.{◌≡◌, refl}
 use mathlib.Core.Bool.{Bool}
@@ -36,13 +38,7 @@ use Rattle.rules.specs.declared.wire_type.WireType.TheVariants.{String32, Yson32
 use Rattle.rules.specs.declared.settings.Settings.{Settings}
 use Rattle.rules.specs.declared.refusal.Refusal.{Refusal}
 use Rattle.rules.specs.declared.table_record.Located.TheVariants.{Block}
-use Rattle.rules.specs.declared.answer.Checked.{Checked}
-use Rattle.rules.specs.declared.answer.Checked.TheVariants.{Accepted}
 use Rattle.rules.specs.declared.answer.Extent.{Extent}
-use Rattle.rules.specs.declared.answer.Read.{Read}
-use Rattle.rules.specs.declared.answer.Stop.{Stop}
-use Rattle.rules.specs.declared.answer.Written.{Written}
-use Rattle.rules.specs.declared.answer.TextWritten.{TextWritten}
 use Rattle.rules.proofs.Rows.{rows_hold, limits_hold}
 use Rattle.rules.proofs.Limits.{string32_limit, yson32_limit, equal_limits, limits_equal}
 use Rattle.rules.proofs.Listing.{listing_holds}
@@ -84,8 +80,6 @@ use Rattle.rules.specs.Refusals.{Setting, NoSuchRow}
 use Rattle.rules.specs.Query.{query_rule}
 use Rattle.rules.specs.View.{kind_rule, tag_rule, child_count_rule, after_rule, field_rule}
 use Rattle.rules.specs.Preorder.{ValueNode, value_preorder, NodeIs, value_said, value_children, FieldIs, FirstChild}
-use Rattle.rules.specs.declared.host_answer.Queried.TheVariants as queried
-use Rattle.rules.specs.declared.host_answer.Viewed.TheVariants.{Number}
 use Rattle.value_laws.proofs.Query as query
 use Rattle.value_laws.proofs.View as view
 use Rattle.value_laws.proofs.Subtrees as subtrees
@@ -114,19 +108,19 @@ the_utf8_examples = ascii.examples
 pub refusal_by_numbers : (r r' : Refusal) → said r ≡ said r' → r ≡ r'
 refusal_by_numbers = refusals_apart
 
-pub read_by_numbers : (a b : Read) → read_said a ≡ read_said b → a ≡ b
+pub read_by_numbers : (a b : Result (Option Extent) Refusal) → read_said a ≡ read_said b → a ≡ b
 read_by_numbers = reads_apart
 
-pub stop_by_numbers : (a b : Stop) → stop_said a ≡ stop_said b → a ≡ b
+pub stop_by_numbers : (a b : Result ⊤ Refusal) → stop_said a ≡ stop_said b → a ≡ b
 stop_by_numbers = stops_apart
 
-pub written_by_numbers : (a b : Written) → written_said a ≡ written_said b → a ≡ b
+pub written_by_numbers : (a b : Result Extent Refusal) → written_said a ≡ written_said b → a ≡ b
 written_by_numbers = writings_apart
 
-pub text_by_numbers : (a b : TextWritten) → text_said a ≡ text_said b → a ≡ b
+pub text_by_numbers : (a b : Result ℕ Refusal) → text_said a ≡ text_said b → a ≡ b
 text_by_numbers = texts_apart
 
-pub check_by_numbers : (a b : Checked) → checked_said a ≡ checked_said b → a ≡ b
+pub check_by_numbers : (a b : Result ⊤ Refusal) → checked_said a ≡ checked_said b → a ≡ b
 check_by_numbers = checks_apart
 
 -- ---- schemas and formats
@@ -158,12 +152,12 @@ pub format_check : (f : Format) → ((checked_said (format_rule f)).number ≡ 0
 format_check f = check_number _ (format_accepts f)
 
 -- each table of an accepted format has a valid schema, at most 64 deep, that stands in a good block
-pub every_table : (f : Format) → format_rules f ≡ Accepted → (t : ℕ) → t < tables f → TableSchema f t
+pub every_table : (f : Format) → format_rules f ≡ Ok tt → (t : ℕ) → t < tables f → TableSchema f t
 every_table = table_schema_lem
 
 -- and that block passes the encoder's check
-pub every_table_encodes : (f : Format) → format_rule f ≡ Accepted → (t first n : ℕ) → table_schema f t ≡ Block first n →
-    encoder_rule f.table f.names first n ≡ Accepted
+pub every_table_encodes : (f : Format) → format_rule f ≡ Ok tt → (t first n : ℕ) → table_schema f t ≡ Block first n →
+    encoder_rule f.table f.names first n ≡ Ok tt
 every_table_encodes = table_encodes
 
 -- ---- names
@@ -211,17 +205,17 @@ pub reading_is_the_grammar : (f : Format) (inp : List ℕ) (lim : Limits) (at : 
 reading_is_the_grammar = row_agrees
 
 -- it refuses a row just for the reason that is there: up to a position the bytes begin a row within the limits, and what comes next fails
-pub refused_for_its_reason : (f : Format) (inp : List ℕ) (lim : Limits) (at : ℕ) → format_rules f ≡ Accepted → Bytes inp → at ≤ length inp → (r : Refusal) →
+pub refused_for_its_reason : (f : Format) (inp : List ℕ) (lim : Limits) (at : ℕ) → format_rules f ≡ Ok tt → Bytes inp → at ≤ length inp → (r : Refusal) →
     (row_at f inp lim at ≡ Refused r) ↔ RowReason f inp lim at r
 refused_for_its_reason = row_reasons
 
 -- there is no second reason
-pub no_second_reason : (f : Format) (inp : List ℕ) (lim : Limits) (at : ℕ) → format_rules f ≡ Accepted → at ≤ length inp → (r r' : Refusal) →
+pub no_second_reason : (f : Format) (inp : List ℕ) (lim : Limits) (at : ℕ) → format_rules f ≡ Ok tt → at ≤ length inp → (r r' : Refusal) →
     RowReason f inp lim at r → RowReason f inp lim at r' → r ≡ r'
 no_second_reason = one_reason
 
 -- and each row is accepted or has a reason, never both
-pub accepted_or_refused : (f : Format) (inp : List ℕ) (lim : Limits) (at : ℕ) → format_rules f ≡ Accepted → Bytes inp → at ≤ length inp → RowJudged f inp lim at
+pub accepted_or_refused : (f : Format) (inp : List ℕ) (lim : Limits) (at : ℕ) → format_rules f ≡ Ok tt → Bytes inp → at ≤ length inp → RowJudged f inp lim at
 accepted_or_refused = row_judged
 
 -- string32 and yson32 have a limit each,
@@ -292,29 +286,29 @@ unfolding index_record le
 an_index_record = refl
 
 -- an accepted build leaves the records of the very rows that the run accepts, in order, and no other byte changes; a refused one leaves the slice
-pub index_holds_the_rows : (f : Format) (s : Settings) (inp slice : List ℕ) → Bytes inp → (build_rule f s inp slice).answer.stop ≡ Stop.End →
+pub index_holds_the_rows : (f : Format) (s : Settings) (inp slice : List ℕ) → Bytes inp → (build_rule f s inp slice).answer.stop ≡ Ok tt →
     HoldsRows f s inp slice (build_rule f s inp slice)
 index_holds_the_rows = holds.build_holds
 
-pub refused_build_leaves : (f : Format) (s : Settings) (inp slice : List ℕ) (r : Refusal) → (build_rule f s inp slice).answer.stop ≡ Stop.Refused r →
+pub refused_build_leaves : (f : Format) (s : Settings) (inp slice : List ℕ) (r : Refusal) → (build_rule f s inp slice).answer.stop ≡ Err r →
     (build_rule f s inp slice).index ≡ slice
 refused_build_leaves = holds.build_leaves
 
 -- check accepts the stream's index and nothing else: what build writes, and only that
 pub check_accepts_the_index : (f : Format) (s : Settings) (inp index : List ℕ) → length index ≤ 4294967295 →
-    ((check_index_rule f s inp index).stop ≡ Stop.End) ↔ IndexOf f s inp index
+    ((check_index_rule f s inp index).stop ≡ Ok tt) ↔ IndexOf f s inp index
 check_accepts_the_index = holds.check_exactly
 
-pub check_accepts_what_build_writes : (f : Format) (s : Settings) (inp slice : List ℕ) → Bytes inp → (build_rule f s inp slice).answer.stop ≡ Stop.End →
-    (check_index_rule f s inp (take (index_record_start (row_count (run_rule f s inp).rows)) (build_rule f s inp slice).index)).stop ≡ Stop.End
+pub check_accepts_what_build_writes : (f : Format) (s : Settings) (inp slice : List ℕ) → Bytes inp → (build_rule f s inp slice).answer.stop ≡ Ok tt →
+    (check_index_rule f s inp (take (index_record_start (row_count (run_rule f s inp).rows)) (build_rule f s inp slice).index)).stop ≡ Ok tt
 check_accepts_what_build_writes = holds.build_then_check
 
-pub build_writes_what_check_accepts : (f : Format) (s : Settings) (inp index slice : List ℕ) → Bytes inp → (check_index_rule f s inp index).stop ≡ Stop.End → length index ≤ room slice →
-    ((build_rule f s inp slice).answer.stop ≡ Stop.End) × (take (length index) (build_rule f s inp slice).index ≡ index)
+pub build_writes_what_check_accepts : (f : Format) (s : Settings) (inp index slice : List ℕ) → Bytes inp → (check_index_rule f s inp index).stop ≡ Ok tt → length index ≤ room slice →
+    ((build_rule f s inp slice).answer.stop ≡ Ok tt) × (take (length index) (build_rule f s inp slice).index ≡ index)
 build_writes_what_check_accepts = holds.check_then_build
 
 -- where the run is refused, so are build, check and extend, with all that the run answers, and nothing is written
-module _ (f : Format) (s : Settings) (inp : List ℕ) (r : Refusal) (refused : (run_rule f s inp).stop ≡ Stop.Refused r) where
+module _ (f : Format) (s : Settings) (inp : List ℕ) (r : Refusal) (refused : (run_rule f s inp).stop ≡ Err r) where
   pub build_refused_as_the_run : (slice : List ℕ) → build_rule f s inp slice ≡ record { answer = ran_of (run_rule f s inp); index = slice }
   build_refused_as_the_run = holds.build_refused_so f s inp r refused
 
@@ -325,7 +319,7 @@ module _ (f : Format) (s : Settings) (inp : List ℕ) (r : Refusal) (refused : (
   extend_refused_as_the_run = holds.extend_refused_so f s inp r refused
 
 -- the rows of a stream's index come first in the run over every longer stream that begins with it, however that run ends
-pub index_begins_a_longer_one : (f : Format) (s : Settings) (inp more : List ℕ) → Bytes (inp ++ more) → length (inp ++ more) ≤ 4294967295 → (run_rule f s inp).stop ≡ Stop.End →
+pub index_begins_a_longer_one : (f : Format) (s : Settings) (inp more : List ℕ) → Bytes (inp ++ more) → length (inp ++ more) ≤ 4294967295 → (run_rule f s inp).stop ≡ Ok tt →
     take (row_count (run_rule f s inp).rows) (run_rule f s (inp ++ more)).rows ≡ (run_rule f s inp).rows
 index_begins_a_longer_one = extends.rows_begin
 
@@ -336,11 +330,11 @@ extending_is_building = extends.extend_builds
 
 -- With an index that check accepts, row n is what decode answers and leaves where the run's row n begins, for every n below the count; from there
 -- on there is no such row (32).
-module _ (f : Format) (s : Settings) (inp index : List ℕ) (bs : Bytes inp) (good : (check_index_rule f s inp index).stop ≡ Stop.End) (n : ℕ) (rs ps : List ℕ) where
+module _ (f : Format) (s : Settings) (inp index : List ℕ) (bs : Bytes inp) (good : (check_index_rule f s inp index).stop ≡ Ok tt) (n : ℕ) (rs ps : List ℕ) where
   pub row_by_number : n < row_count (run_rule f s inp).rows → indexed_row_rule f s inp index n rs ps ≡ decode_rule f s inp (byte_count (take n (run_rule f s inp).rows)) rs ps
   row_by_number = numbered.numbered f s inp index bs good n rs ps
 
-  pub no_row_by_number : row_count (run_rule f s inp).rows ≤ n → indexed_row_rule f s inp index n rs ps ≡ untouched (Read.Refused NoSuchRow) rs ps
+  pub no_row_by_number : row_count (run_rule f s inp).rows ≤ n → indexed_row_rule f s inp index n rs ps ≡ untouched (Err NoSuchRow) rs ps
   no_row_by_number = numbered.none_numbered f s inp index bs good n rs ps
 
 -- ---- value tables: records and payload are the table of one value at most, and the rule finds it
@@ -366,11 +360,11 @@ module _ (f : Format) (s : Settings) (first n : ℕ) (recs pay out : List ℕ) (
 
   -- those bytes, as they stand in the output, anywhere in a stream of a checked format whose table 0 has that schema,
   module _ (e : Extent) (yes : written_said (encode_from f s first n recs pay out at).answer ≡ row_said e)
-      (f' : Format) (checked : format_rule f' ≡ Accepted) (below : 0 < tables f') (same : schema_of f' 0 ≡ schema_of f 0)
+      (f' : Format) (checked : format_rule f' ≡ Ok tt) (below : 0 < tables f') (same : schema_of f' 0 ≡ schema_of f 0)
       (s' : Settings) (inp : List ℕ) (position : ℕ)
       (ask : SkipAsked s s' v (part (encode_from f s first n recs pay out at).output at e.bytes) inp position) where
     -- are skipped as that row,
-    pub skips_the_row : skip_rule f' s' inp position ≡ Read.Row e
+    pub skips_the_row : skip_rule f' s' inp position ≡ Ok (Some e)
     skips_the_row = skips_back f s first n recs pay out at asked v is e yes f' checked below same s' inp position ask
 
     -- and decode, where there is room, to that value bit for bit, and no further byte is taken.
@@ -403,7 +397,7 @@ module _ (f : Format) (s : Settings) (inp : List ℕ) (at : ℕ) (rs ps : List �
     (records : recs ≡ take (value_record_start e.records) (decode_rule f s inp at rs ps).records) (payload : pay ≡ take e.payload (decode_rule f s inp at rs ps).payload)
     (asked : EncodeAsked f s first n recs pay out position) (fits : position + e.bytes ≤ room out) where
   -- encode answers that row, with its very counts,
-  pub encodes_again : (encode_from f s first n recs pay out position).answer ≡ Written.Row e
+  pub encodes_again : (encode_from f s first n recs pay out position).answer ≡ Ok e
   encodes_again = again.encodes_again f s inp at rs ps bs e read zero first n recs pay out position records payload asked fits
 
   -- leaves the very bytes of the row that stood in the stream, exactly where every boolean byte of it is 0 or 1,
@@ -425,36 +419,36 @@ skip_is_decode = decode_tested
 
 module _ (v : Value) (table store : List ℕ) (is : TableOf v table store) (short : length table ≤ 4294967295) (small : length store ≤ 4294967295) where
   -- The query answers what the node is, for each number below the number of nodes; from there on it answers 1.
-  pub query_of_node : (i : ℕ) → i < records_of v → (n : ValueNode) × (NodeIs (value_preorder v) i n × (query_rule table i ≡ queried.Value (value_said n.value n.before)))
+  pub query_of_node : (i : ℕ) → i < records_of v → (n : ValueNode) × (NodeIs (value_preorder v) i n × (query_rule table i ≡ Ok (value_said n.value n.before)))
   query_of_node = query.query_answers v table store is short small
 
-  pub query_of_none : (i : ℕ) → records_of v ≤ i → query_rule table i ≡ queried.Refused Setting
+  pub query_of_none : (i : ℕ) → records_of v ≤ i → query_rule table i ≡ Err Setting
   query_of_none = query.query_past v table store is short small
 
   module _ (i : ℕ) (n : ValueNode) (at : NodeIs (value_preorder v) i n) where
     -- So do the getters of the row view,
-    pub view_kind : kind_rule table i ≡ Number (value_kind n.value)
+    pub view_kind : kind_rule table i ≡ Ok (value_kind n.value)
     view_kind = query.kind_says v table store is short small i n at
 
-    pub view_tag : tag_rule table i ≡ Number n.tag
+    pub view_tag : tag_rule table i ≡ Ok n.tag
     view_tag = query.tag_says v table store is short small i n at
 
-    pub view_child_count : child_count_rule table i ≡ Number (value_children n.value)
+    pub view_child_count : child_count_rule table i ≡ Ok (value_children n.value)
     view_child_count = query.children_say v table store is short small i n at
 
     -- and its steps: behind the node's tree, and to field k, which is node k of the tuple.
-    pub view_after : after_rule table i ≡ Number (i + records_of n.value)
+    pub view_after : after_rule table i ≡ Ok (i + records_of n.value)
     view_after = view.after_says v table store is short small i n at
 
     pub view_field : (vs : Values) → n.value ≡ tuple vs → (k : ℕ) (u : Value) → FieldIs vs k u →
-        (m : ℕ) × ((c : ValueNode) × ((field_rule table i k ≡ Number m) × (NodeIs (value_preorder v) m c × (c.value ≡ u))))
+        (m : ℕ) × ((c : ValueNode) × ((field_rule table i k ≡ Ok m) × (NodeIs (value_preorder v) m c × (c.value ≡ u))))
     view_field vs t k = view.field_is v table store is short small i n at vs t k
 
     -- The first child is the next record, and field k + 1 is behind field k.
     pub view_first_child : (u : Value) → FirstChild n.value u → (c : ValueNode) × (NodeIs (value_preorder v) (i + 1) c × (c.value ≡ u))
     view_first_child u = subtrees.first_child v i n u at
 
-    pub view_next_field : (vs : Values) → n.value ≡ tuple vs → (k m : ℕ) → suc k < values vs → field_rule table i k ≡ Number m → field_rule table i (suc k) ≡ after_rule table m
+    pub view_next_field : (vs : Values) → n.value ≡ tuple vs → (k m : ℕ) → suc k < values vs → field_rule table i k ≡ Ok m → field_rule table i (suc k) ≡ after_rule table m
     view_next_field = view.next_field v table store is short small i n at
 
 -- ---- integers as text, in a base from 2 on, and of whatever width in bytes

@@ -1,5 +1,7 @@
 -- Demand 3 on the rules of the whole calls: what is encoded, exactly when, what is refused in which order, and that a row reads back.
 -- Assumes nothing.
+use Rattle.std.specs.Prelude.{⊤}
+use Rattle.std.proofs.Common.{Result, Ok, Err, Some}
 use Prim.Native.Nat.{ℕ, ◌+◌, ◌-◌, ◌≤◌, ◌<◌}
 use mathlib.Core.Path.{◌≡◌, refl, sym, ap, ◌∙◌}
 use mathlib.Core.Bool.{Bool, true, false}
@@ -26,10 +28,7 @@ use Rattle.rules.specs.Writing.{Wrote, Put, write_row, Encoded, unwritten, place
 use Rattle.rules.specs.RoundTrip.{EncodeAsked, Encodable, encoded_into, EncodeRefuses, by-setting, by_schema, by-table, by_row, by_room, SkipAsked, HasRoom, decoded_as}
 use Rattle.rules.specs.declared.settings.Settings.{Settings}
 use Rattle.rules.specs.declared.refusal.Refusal.{Refusal}
-use Rattle.rules.specs.declared.answer.Checked.{Checked}
 use Rattle.rules.specs.declared.answer.Extent.{Extent}
-use Rattle.rules.specs.declared.answer.Read.{Read}
-use Rattle.rules.specs.declared.answer.Written.{Written}
 use Rattle.rules.proofs.Tests.{and_both}
 use Rattle.rules.proofs.Checks.{pick_accepted}
 use Rattle.rules.proofs.Answers.{refusal_number_lem, one_row}
@@ -55,7 +54,7 @@ module _ (s : Settings) (table names : List ℕ) (first n : ℕ) (recs pay out :
 
   -- a row that was written
   abbrev wrote : Value → List ℕ → Encoded
-  wrote v b = record { answer = Written.Row (record { table = 0; bytes = length b; records = records_of v; payload = payload_of v }); output = over out at b }
+  wrote v b = record { answer = Ok (record { table = 0; bytes = length b; records = records_of v; payload = payload_of v }); output = over out at b }
 
   -- how an encode ends: refused, with the output as it was; or with a row
   data Ends : Encoded → Type 0 where
@@ -70,7 +69,7 @@ module _ (s : Settings) (table names : List ℕ) (first n : ℕ) (recs pay out :
   unfolding encode_rule said line_of
   ends = settings (encode_ok s table names recs pay out at) refl
     where
-      row : encode_ok s table names recs pay out at ≡ true → encoder_rules table names first n ≡ Checked.Accepted → (v : Value) → TableOf v recs pay →
+      row : encode_ok s table names recs pay out at ≡ true → encoder_rules table names first n ≡ Ok tt → (v : Value) → TableOf v recs pay →
           (w : Wrote) → write_row (block table first n) (limits s) v ≡ w → Ends (placed v out at w)
       row ok a v is (Put b) e = unfold placed in fits (leb (at + length b) (room out)) refl
         where
@@ -79,13 +78,13 @@ module _ (s : Settings) (table names : List ℕ) (first n : ℕ) (recs pay out :
           fits false q = unfold pick in refuses (by_room ok a is e (leb-false _ _ q))
       row ok a v is (Wrote.Refused r) e = unfold placed in refuses (by_row ok a is e)
 
-      value : encode_ok s table names recs pay out at ≡ true → encoder_rules table names first n ≡ Checked.Accepted → (p : Parsed Value) → table_value recs pay ≡ p → Ends (encode_value (block table first n) (limits s) p out at)
+      value : encode_ok s table names recs pay out at ≡ true → encoder_rules table names first n ≡ Ok tt → (p : Parsed Value) → table_value recs pay ≡ p → Ends (encode_value (block table first n) (limits s) p out at)
       value ok a (Whole v q) e = unfold encode_value in row ok a v (is_table recs pay v q e) (write_row (block table first n) (limits s) v) refl
       value ok a Broken e = unfold encode_value in refuses (by-table ok a ((no_table recs pay (records_short ok)).0 e))
 
-      schema : encode_ok s table names recs pay out at ≡ true → (c : Checked) → encoder_rules table names first n ≡ c → Ends (when_accepted (unwritten out) c (encode_value (block table first n) (limits s) (table_value recs pay) out at))
-      schema ok Checked.Accepted e = unfold when_accepted in value ok e (table_value recs pay) refl
-      schema ok (Checked.Refused r) e = unfold when_accepted in refuses (by_schema ok e)
+      schema : encode_ok s table names recs pay out at ≡ true → (c : Result ⊤ Refusal) → encoder_rules table names first n ≡ c → Ends (when_accepted (unwritten out) c (encode_value (block table first n) (limits s) (table_value recs pay) out at))
+      schema ok (Ok tt) e = unfold when_accepted in value ok e (table_value recs pay) refl
+      schema ok (Err r) e = unfold when_accepted in refuses (by_schema ok e)
 
       settings : (b : Bool) → encode_ok s table names recs pay out at ≡ b → Ends (pick b (when_accepted (unwritten out) (encoder_rules table names first n) (encode_value (block table first n) (limits s) (table_value recs pay) out at)) (unwritten out Setting))
       settings true e = unfold pick in schema e (encoder_rules table names first n) refl
@@ -121,7 +120,7 @@ module _ (f : Format) (s : Settings) (first n : ℕ) (recs pay out : List ℕ) (
   here : Stood f 0 first n
   here = stood f ok.format 0 first n ok.block
 
-  rules : encoder_rules f.table f.names first n ≡ Checked.Accepted
+  rules : encoder_rules f.table f.names first n ≡ Ok tt
   unfolding encoder_rule
   rules = (pick_accepted _ _ _ (table_encodes f ok.format 0 first n ok.block)).1
 
@@ -219,7 +218,7 @@ module _ (f : Format) (s : Settings) (first n : ℕ) (recs pay out : List ℕ) (
   extent_is = unfold written_said in let z = ap (λ (d : Encoded). written_said d.answer) is_so in one_row _ e (sym z ∙ yes)
 
   -- the row that was put out, anywhere in a stream of a checked format whose table 0 has that schema
-  module _ (f' : Format) (checked : format_rule f' ≡ Checked.Accepted) (below : 0 < tables f') (same : schema_of f' 0 ≡ schema_of f 0) (s' : Settings) (inp : List ℕ) (position : ℕ)
+  module _ (f' : Format) (checked : format_rule f' ≡ Ok tt) (below : 0 < tables f') (same : schema_of f' 0 ≡ schema_of f 0) (s' : Settings) (inp : List ℕ) (position : ℕ)
       (r : SkipAsked s s' v (part (encode_from f s first n recs pay out at).output at e.bytes) inp position) where
     abbrev b : List ℕ
     b = encoded_row sch v
@@ -261,8 +260,8 @@ module _ (f : Format) (s : Settings) (first n : ℕ) (recs pay out : List ℕ) (
         rw (x, y, z) extent_is
 
     -- is skipped whole
-    pub skips_back : skip_rule f' s' inp position ≡ Read.Row e
-    skips_back = skip_accepts f' s' inp asked position there ∙ ap Read.Row extent_there
+    pub skips_back : skip_rule f' s' inp position ≡ Ok (Some e)
+    skips_back = skip_accepts f' s' inp asked position there ∙ ap (λ x. Ok (Some x)) extent_there
 
     -- and decodes to the very records and payload, and no further byte is taken
     pub reads_back : (rs ps : List ℕ) → HasRoom e rs ps → decode_rule f' s' inp position rs ps ≡ decoded_as e recs pay rs ps

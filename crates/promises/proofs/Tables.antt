@@ -1,5 +1,7 @@
 -- What decode fills is the table of a conforming value, and a checked format's tables pass the encoder's check.
 -- Assumes nothing.
+use Rattle.rules.specs.declared.refusal.Refusal.{Refusal}
+use Rattle.std.proofs.Common.{Result, Option, Ok, Err, Some, None}
 use Prim.Native.Nat.{ℕ, ◌+◌, ◌-◌, ◌≤◌, ◌<◌}
 use mathlib.Core.Path.{◌≡◌, refl, sym, ap, ◌∙◌}
 use mathlib.Core.Bool.{true}
@@ -22,11 +24,7 @@ use Rattle.rules.specs.Good.{GoodTable}
 use Rattle.rules.specs.declared.settings.Settings.{Settings}
 use Rattle.rules.specs.declared.table_record.Located.TheVariants.{Block}
 use Rattle.rules.specs.declared.answer.Door.{Door}
-use Rattle.rules.specs.declared.answer.Door.TheVariants as door-is
-use Rattle.rules.specs.declared.answer.Checked.TheVariants.{Accepted}
 use Rattle.rules.specs.declared.answer.Extent.{Extent}
-use Rattle.rules.specs.declared.answer.Read.{Read}
-use Rattle.rules.specs.declared.answer.Read.TheVariants.{Row, End}
 use Rattle.rules.proofs.Checks.{pick_accepted}
 use Rattle.rules.proofs.Answers.{read_row}
 use Rattle.rules.proofs.Over.{over-is}
@@ -43,13 +41,13 @@ use Rattle.value_laws.proofs.Conform.{conforms_depth}
 -- What a table of a checked format has, where its block is known.
 pub record Stood (f : Format) (t first n : ℕ) : Type 0 where
   pub sizes : sizes_ok f ≡ true
-  pub rules : format_rules f ≡ Accepted
+  pub rules : format_rules f ≡ Ok tt
   pub below : t < tables f
   pub good : GoodTable f.table f.names first n
   pub denotes : Denotes (block f.table first n) f.names 0 (schema_of f t)
   pub valid : Valid (schema_of f t)
 
-module _ (f : Format) (ok : format_rule f ≡ Accepted) (t first n : ℕ) (e : table_schema f t ≡ Block first n) where
+module _ (f : Format) (ok : format_rule f ≡ Ok tt) (t first n : ℕ) (e : table_schema f t ≡ Block first n) where
   pub stood : Stood f t first n
   unfolding format_rule
   stood =
@@ -74,7 +72,7 @@ module _ (f : Format) (ok : format_rule f ≡ Accepted) (t first n : ℕ) (e : t
       }
 
   -- each table's block passes the encoder's check
-  pub table_encodes : encoder_rule f.table f.names first n ≡ Accepted
+  pub table_encodes : encoder_rule f.table f.names first n ≡ Ok tt
   table_encodes = (encoder_accepts f.table f.names first n).1 stood.good
 
 -- ---- what decode leaves
@@ -98,7 +96,7 @@ pub record Held (f : Format) (inp : List ℕ) (lim : Limits) (at : ℕ) (rs ps :
 
 module _ (f : Format) (inp : List ℕ) (lim : Limits) (at : ℕ) where
   -- a row of an accepted format that stands somewhere is one of a value that has a table
-  decoded_table : {t : ℕ} {v : Value} {q : Pos} → format_rules f ≡ Accepted → Accepts f inp lim at t v q → TableOf v (flat v 0 0) (payload_bytes v)
+  decoded_table : {t : ℕ} {v : Value} {q : Pos} → format_rules f ≡ Ok tt → Accepts f inp lim at t v q → TableOf v (flat v 0 0) (payload_bytes v)
   decoded_table {t} {v} ok a =
       let c = accepts_conforms f inp lim at a in
       let d : tall v ≤ deep (schema_of f t) = conforms_depth c.0 in
@@ -114,8 +112,8 @@ module _ (f : Format) (inp : List ℕ) (lim : Limits) (at : ℕ) where
       record { bytes = a.bytes; is = a.is; stands = a.stands; within = a.within; afford = a.afford; ends = rw z }
 
   module _ (rs ps : List ℕ) where
-    row_held : {t : ℕ} {v : Value} {q : Pos} → format_rules f ≡ Accepted → Accepts f inp lim at t v q → records_of v ≤ record_room rs → payload_of v ≤ room ps →
-        Held f inp lim at rs ps (extent at t q) (record { answer = Row (extent at t q); records = over rs 0 (flat v 0 0); payload = over ps 0 (payload_bytes v) })
+    row_held : {t : ℕ} {v : Value} {q : Pos} → format_rules f ≡ Ok tt → Accepts f inp lim at t v q → records_of v ≤ record_room rs → payload_of v ≤ room ps →
+        Held f inp lim at rs ps (extent at t q) (record { answer = Ok (Some (extent at t q)); records = over rs 0 (flat v 0 0); payload = over ps 0 (payload_bytes v) })
     unfolding extent room
     row_held {t} {v} {q} ok a m n =
         let c = counted f inp lim at rs ps a in
@@ -140,7 +138,7 @@ module _ (f : Format) (s : Settings) (inp : List ℕ) (at : ℕ) (rs ps : List �
   unfolding NoRow
   decoded_held e h = by (decode_leaves f s inp at rs ps bs) (read_row _ e h)
     where
-      by : {d : Decoded} → Leaves f inp (limits s) at rs ps d → d.answer ≡ Row e → Held f inp (limits s) at rs ps e d
+      by : {d : Decoded} → Leaves f inp (limits s) at rs ps d → d.answer ≡ Ok (Some e) → Held f inp (limits s) at rs ps e d
       by (row_written {t} {v} {q} ok a m n) h = let z : extent at t q ≡ e = cc in rw (← z) (row_held f inp (limits s) at rs ps ok a m n)
       by (unchanged {a} n) h = absurd (rw h at n)
 
@@ -153,14 +151,14 @@ module _ (f : Format) (s : Settings) (inp : List ℕ) (at : ℕ) (rs ps : List �
   abbrev Still : Decoded → Type 0
   Still d = NoRow d.answer → d ≡ untouched d.answer rs ps
 
-  as_before : (a : Read) → Still (untouched a rs ps)
+  as_before : (a : Result (Option Extent) Refusal) → Still (untouched a rs ps)
   as_before a h = refl
 
-  with_still : (v : Value) (a : Read) → Still (fill_with v rs ps a)
+  with_still : (v : Value) (a : Result (Option Extent) Refusal) → Still (fill_with v rs ps a)
   unfolding fill_with NoRow
-  with_still v (Row e) = λ h. absurd h
-  with_still v End = as_before _
-  with_still v (Read.Refused r) = as_before _
+  with_still v (Ok (Some e)) = λ h. absurd h
+  with_still v (Ok None) = as_before _
+  with_still v (Err r) = as_before _
 
   filled_still : (a : Answer (ℕ × Value)) → Still (filled at a rs ps)
   unfolding filled
@@ -171,7 +169,7 @@ module _ (f : Format) (s : Settings) (inp : List ℕ) (at : ℕ) (rs ps : List �
   unfolding decode_rule
   decoded_none = by (door f s inp at)
     where
-      by : (d : Door) → Still (through d (λ r. untouched (Read.Refused r) rs ps) (untouched End rs ps) (filled at (row_at f inp (limits s) at) rs ps))
-      by door-is.Open = unfold through in filled_still (row_at f inp (limits s) at)
-      by door-is.End = unfold through in as_before _
-      by (door-is.Refused r) = unfold through in as_before _
+      by : (d : Result Door Refusal) → Still (through d (λ r. untouched (Err r) rs ps) (untouched (Ok None) rs ps) (filled at (row_at f inp (limits s) at) rs ps))
+      by (Ok Door.Open) = unfold through in filled_still (row_at f inp (limits s) at)
+      by (Ok Door.End) = unfold through in as_before _
+      by (Err r) = unfold through in as_before _

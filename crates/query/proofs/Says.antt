@@ -1,5 +1,7 @@
 -- What a record says, by the tests that the code makes.
 -- Assumes nothing.
+use Rattle.rules.specs.declared.refusal.Refusal.{Refusal}
+use Rattle.std.proofs.Common.{Result, Ok, Err}
 use Prim.Native.Nat.{ℕ, ◌^◌, ◌≤◌, ◌<◌}
 use mathlib.Core.Path.{◌≡◌}
 use mathlib.Core.Bool.{true}
@@ -14,8 +16,6 @@ use Rattle.rules.specs.Choice.{pick}
 use Rattle.rules.specs.Wire.{fixed, form}
 use Rattle.rules.specs.Query.{scalar_alone, record_alone, record_there, record_good, record_seen, signed}
 use Rattle.rules.specs.declared.table_record.ValueRecord.{ValueRecord}
-use Rattle.rules.specs.declared.host_answer.Seen.{Seen}
-use Rattle.rules.specs.declared.host_answer.Seen.TheVariants.{Record, Refused}
 use Rattle.rules.proofs.Tests.{and_both, either}
 use Rattle.rules.proofs.Signed.{signed_is}
 
@@ -29,15 +29,15 @@ signed_fits w x h l =
 
 -- ---- what a record that was seen is known for
 
-unfoldable Known : List ℕ → ℕ → Seen → Type 0
-Known table i (Record r) = (record_there table i ≡ true) × (record_alone r ≡ true)
-Known table i (Refused r) = Unit
+unfoldable Known : List ℕ → ℕ → Result ValueRecord Refusal → Type 0
+Known table i (Ok r) = (record_there table i ≡ true) × (record_alone r ≡ true)
+Known table i (Err r) = Unit
 
 known : (table : List ℕ) (i : ℕ) → Known table i (record_seen table i)
 unfolding Known record_good record_seen
 known table i = either (Known table i) _ (λ t. either (Known table i) _ (λ g. (t, (and_both _ _ g).1)) (λ g. tt)) (λ t. tt)
 
-module _ (table : List ℕ) (i : ℕ) (s : Seen) (r : ValueRecord) (e : s ≡ record_seen table i) (b : s ≡ Record r) where
+module _ (table : List ℕ) (i : ℕ) (s : Result ValueRecord Refusal) (r : ValueRecord) (e : s ≡ record_seen table i) (b : s ≡ Ok r) where
   -- it is right by itself
   pub seen_alone : record_alone r ≡ true
   unfolding Known

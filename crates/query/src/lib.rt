@@ -8,29 +8,29 @@ ghost use Rattle.rules.specs.Query as rule;
 ghost use Rattle.rules.specs.Query.{scalar_alone, record_alone, record_seen, double_said, scalar_said, record_said, query_rule};
 
 use record::value_record::{records_in, value_record_at, whole_records};
-use rules::{LONGEST, Queried, Refusal, Scalar, Seen, ValueRecord};
+use rules::{LONGEST, Refusal, Scalar, ValueRecord};
 use value::record_alone;
 use wire::codes::code_width;
 
 // Record i by itself: 1 where it is not there, then 18.
-pub fn record_seen(records: &[u8], i: usize) -> Seen
+pub fn record_seen(records: &[u8], i: usize) -> Result<ValueRecord, Refusal>
     ensures { result ≡ record_seen records.now i }
 {
     if LONGEST < records.len() {
-        return Seen::Refused(Refusal::SETTING);
+        return Err(Refusal::SETTING);
     }
     let bytes = records.len() as u64;
     if records_in(bytes) <= i as u64 {
-        return Seen::Refused(Refusal::SETTING);
+        return Err(Refusal::SETTING);
     }
     if !whole_records(bytes) {
-        return Seen::Refused(Refusal::BAD_VALUE_TABLE);
+        return Err(Refusal::BAD_VALUE_TABLE);
     }
     let r = value_record_at(records, i);
     if !record_alone(r) {
-        return Seen::Refused(Refusal::BAD_VALUE_TABLE);
+        return Err(Refusal::BAD_VALUE_TABLE);
     }
-    Seen::Record(r)
+    Ok(r)
 }
 
 // ---- numbers
@@ -121,12 +121,9 @@ fn record_said(r: ValueRecord) -> Scalar
 // ---- the query
 
 // The value of record i.
-pub fn value_of(records: &[u8], i: usize) -> Queried
+pub fn value_of(records: &[u8], i: usize) -> Result<Scalar, Refusal>
     ensures { result ≡ query_rule records.now i }
 {
-    let s = record_seen(records, i);
-    match s {
-        Seen::Record(r) => Queried::Value(record_said(r)),
-        Seen::Refused(r) => Queried::Refused(r),
-    }
+    let r = record_seen(records, i)?;
+    Ok(record_said(r))
 }

@@ -4,5 +4,6 @@ pub mod Steps
 pub mod Turn
 pub mod Onward
 pub mod Nodes
+pub mod Loop
 pub mod Root
 pub mod Leads

@@ -1,5 +1,6 @@
 -- A node, one level at a time.
 -- Assumes nothing.
+use Rattle.std.proofs.Common.{Result, Ok, Err}
 use Prim.Native.Nat.{ℕ, suc, ◌+◌, ◌-◌, ◌≤◌, ◌<◌}
 use mathlib.Core.Path.{◌≡◌, refl, ◌∙◌}
 use mathlib.Core.Bool.{Bool, true, false}
@@ -23,11 +24,7 @@ use Rattle.leaves.specs.Leaf.{standing, ◌>>=◌, bytes_past, stored, having, s
 use Rattle.read.specs.Skim.{counted, Skimmer, skim_form, skim_node, skim}
 use Rattle.read.specs.Ready.{SoundNodes, Coded}
 use Rattle.leaves.specs.declared.budget.RowBudget.{RowBudget}
-use Rattle.leaves.specs.declared.budget.Charged.{Charged}
-use Rattle.leaves.specs.declared.budget.Charged.TheVariants.{Left}
-use Rattle.leaves.specs.declared.budget.Charged.TheVariants as charged-is
 use Rattle.leaves.specs.declared.leaf.SkipPos.{SkipPos}
-use Rattle.leaves.specs.declared.leaf.Skipped.TheVariants.{At, Refused}
 use Rattle.leaves.proofs.Codes.{form_sized}
 use Rattle.read.proofs.Turn.{steps, steps_all}
 
@@ -50,13 +47,13 @@ unstored : (inp : List ℕ) (w context : ℕ) (p : SkipPos) → bytes_past inp w
 unfolding skim_bytes bytes_past stored pick ◌>>=◌
 unstored inp w context p = go (leb w (length inp - p.at))
   where
-    go : (b : Bool) → pick b (At (standing (p.at + w) p.budget p.records p.payload)) (Refused (Truncated context p.at))
-        ≡ pick b (At (standing (p.at + w) p.budget p.records p.payload)) (Refused (Truncated context p.at)) >>= (λ q. At (stored 0 q))
+    go : (b : Bool) → pick b (Ok (standing (p.at + w) p.budget p.records p.payload)) (Err (Truncated context p.at))
+        ≡ pick b (Ok (standing (p.at + w) p.budget p.records p.payload)) (Err (Truncated context p.at)) >>= (λ q. (Ok (stored 0 q)))
     go true = rw (add-zero p.payload)
     go false = refl
 
 -- no bytes more are none
-none_past : (inp : List ℕ) (context : ℕ) (p : SkipPos) → At p ≡ bytes_past inp 0 context p
+none_past : (inp : List ℕ) (context : ℕ) (p : SkipPos) → Ok p ≡ bytes_past inp 0 context p
 unfolding bytes_past pick
 none_past inp context p = rw (le-leb 0 (length inp - p.at) (omega arith), add-zero p.at)
 
@@ -88,11 +85,11 @@ module _ (inp : List ℕ) (rec : Skimmer) (code first count : ℕ) (p : SkipPos)
 -- ---- a node
 
 module _ (sch inp : List ℕ) (charge d i : ℕ) (p : SkipPos) where
-  pub skim_none : d ≡ 0 → skim sch inp charge d i p ≡ Refused TooDeep
+  pub skim_none : d ≡ 0 → skim sch inp charge d i p ≡ Err TooDeep
   unfolding skim
   skim_none e = rw e
 
-  module _ (h : d ≡ 0 → ⊥) (c : Charged) (is : c ≡ spent p.budget charge p.at) where
+  module _ (h : d ≡ 0 → ⊥) (c : Result RowBudget Refusal) (is : c ≡ spent p.budget charge p.at) where
     step : skim sch inp charge d i p ≡ having p c >>= (λ q. skim_node sch inp (skim sch inp charge (d - 1)) i (counted q))
     unfolding skim skim_charge
     step = rw is (at_suc (d - 1) (omega arith))
@@ -101,11 +98,11 @@ module _ (sch inp : List ℕ) (charge d i : ℕ) (p : SkipPos) where
         at_suc e q = rw q
 
     -- one that cannot be paid, and one that can
-    pub skim_dear : (r : Refusal) → c ≡ charged-is.Refused r → skim sch inp charge d i p ≡ Refused r
+    pub skim_dear : (r : Refusal) → c ≡ Err r → skim sch inp charge d i p ≡ Err r
     unfolding having ◌>>=◌
     skim_dear r e = step ∙ rw e
 
-    pub skim_paid : (b : RowBudget) → c ≡ Left b → skim sch inp charge d i p ≡ skim_node sch inp (skim sch inp charge (d - 1)) i (standing p.at b (p.records + 1) p.payload)
+    pub skim_paid : (b : RowBudget) → c ≡ Ok b → skim sch inp charge d i p ≡ skim_node sch inp (skim sch inp charge (d - 1)) i (standing p.at b (p.records + 1) p.payload)
     unfolding having ◌>>=◌ counted
     skim_paid b e = step ∙ rw e
 

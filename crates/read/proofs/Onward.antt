@@ -1,5 +1,6 @@
 -- An accepted walk goes on, stays in the input, and keeps the bounds of its counts.
 -- Assumes nothing.
+use Rattle.std.proofs.Common.{Result, Ok, Err}
 use Prim.Native.Nat.{ℕ, zero, suc, ◌+◌, ◌-◌, ◌≤◌, ◌<◌}
 use mathlib.Core.Path.{◌≡◌, refl, sym, subst, ◌∙◌}
 use mathlib.Core.Bool.{Bool, true, false}
@@ -18,13 +19,7 @@ use Rattle.leaves.specs.Fields.{read_number_at}
 use Rattle.leaves.specs.Leaf.{standing, ◌>>=◌, reading, bytes_past, having, skim_charge, stored, skim_bytes, skim_blob}
 use Rattle.read.specs.Skim.{counted, Skimmer, skim_child, skim_variant, skim_pairs, skim_fields, skim_form, skim_node, skim}
 use Rattle.read.specs.Ready.{Ready}
-use Rattle.leaves.specs.declared.budget.Charged.TheVariants.{Left}
-use Rattle.leaves.specs.declared.budget.Charged.TheVariants as charged-is
-use Rattle.leaves.specs.declared.fields.ReadNumber.TheVariants.{Is}
-use Rattle.leaves.specs.declared.fields.ReadNumber.TheVariants as number_is
 use Rattle.leaves.specs.declared.leaf.SkipPos.{SkipPos}
-use Rattle.leaves.specs.declared.leaf.Skipped.{Skipped}
-use Rattle.leaves.specs.declared.leaf.Skipped.TheVariants.{At, Refused}
 
 -- from p to q: not back, records paid for, payload bytes passed
 record Far (p q : SkipPos) : Type 0 where
@@ -32,40 +27,40 @@ record Far (p q : SkipPos) : Type 0 where
   paid : q.records + q.budget.remaining ≤ p.records + p.budget.remaining
   bytes : q.payload + p.at ≤ p.payload + q.at
 
-data Onward (inp : List ℕ) (p : SkipPos) : Skipped → Type 0 where
-  at : {q : SkipPos} → Far p q → q.at ≤ length inp → Onward inp p (At q)
-  off : {r : Refusal} → Onward inp p (Refused r)
+data Onward (inp : List ℕ) (p : SkipPos) : Result SkipPos Refusal → Type 0 where
+  at : {q : SkipPos} → Far p q → q.at ≤ length inp → Onward inp p (Ok q)
+  off : {r : Refusal} → Onward inp p (Err r)
 
 -- a step that goes on wherever it starts
-abbrev Goes : List ℕ → (SkipPos → Skipped) → Type 0
+abbrev Goes : List ℕ → (SkipPos → Result SkipPos Refusal) → Type 0
 Goes inp f = (p : SkipPos) → p.at ≤ length inp → Onward inp p (f p)
 
 module _ (inp : List ℕ) where
-  later : {p q : SkipPos} {s : Skipped} → Far p q → Onward inp q s → Onward inp p s
+  later : {p q : SkipPos} {s : Result SkipPos Refusal} → Far p q → Onward inp q s → Onward inp p s
   later f (at {q = r} g h) = at {q = r} (record { on = omega arith; paid = omega arith; bytes = omega arith }) h
   later f off = off
 
-  stays : Goes inp At
+  stays : Goes inp Ok
   stays p h = at {q = p} (record { on = omega arith; paid = omega arith; bytes = omega arith }) h
 
-  either : {p : SkipPos} {x y : Skipped} (b : Bool) → Onward inp p x → Onward inp p y → Onward inp p (pick b x y)
+  either : {p : SkipPos} {x y : Result SkipPos Refusal} (b : Bool) → Onward inp p x → Onward inp p y → Onward inp p (pick b x y)
   unfolding pick
   either true ox oy = ox
   either false ox oy = oy
 
-  then : {p : SkipPos} {s : Skipped} {k : SkipPos → Skipped} → Onward inp p s → Goes inp k → Onward inp p (s >>= k)
+  then : {p : SkipPos} {s : Result SkipPos Refusal} {k : SkipPos → Result SkipPos Refusal} → Onward inp p s → Goes inp k → Onward inp p (s >>= k)
   unfolding ◌>>=◌
   then (at {q = q} f h) g = later f (g q h)
   then off g = off
 
-  reading_goes : (w context : ℕ) (p : SkipPos) (k : ℕ → SkipPos → Skipped) → ((n : ℕ) → Goes inp (k n)) → p.at ≤ length inp → Onward inp p (reading (read_number_at inp w context p.at) p k)
+  reading_goes : (w context : ℕ) (p : SkipPos) (k : ℕ → SkipPos → Result SkipPos Refusal) → ((n : ℕ) → Goes inp (k n)) → p.at ≤ length inp → Onward inp p (reading (read_number_at inp w context p.at) p k)
   unfolding reading read_number_at pick
   reading_goes w context p k g h = go (leb w (length inp - p.at)) refl
     where
       next : SkipPos
       next = standing (p.at + w) p.budget p.records p.payload
 
-      go : (b : Bool) → leb w (length inp - p.at) ≡ b → Onward inp p (reading (pick b (Is (le_at inp p.at w) (p.at + w)) (number_is.Refused (Truncated context p.at))) p k)
+      go : (b : Bool) → leb w (length inp - p.at) ≡ b → Onward inp p (reading (pick b (Ok ((le_at inp p.at w), (p.at + w))) (Err (Truncated context p.at))) p k)
       go true e =
           let l = leb-true w (length inp - p.at) e in
           later {q = next} (record { on = omega arith; paid = omega arith; bytes = omega arith }) (g (le_at inp p.at w) next (omega (arith, l)))
@@ -75,7 +70,7 @@ module _ (inp : List ℕ) where
   unfolding bytes_past pick
   bytes_past_goes n context p h = go (leb n (length inp - p.at)) refl
     where
-      go : (b : Bool) → leb n (length inp - p.at) ≡ b → Onward inp p (pick b (At (standing (p.at + n) p.budget p.records p.payload)) (Refused (Truncated context p.at)))
+      go : (b : Bool) → leb n (length inp - p.at) ≡ b → Onward inp p (pick b (Ok (standing (p.at + n) p.budget p.records p.payload)) (Err (Truncated context p.at)))
       go true e = at {q = standing (p.at + n) p.budget p.records p.payload} (record { on = omega arith; paid = omega arith; bytes = omega arith }) (omega (arith, leb-true n (length inp - p.at) e))
       go false e = off
 
@@ -84,7 +79,7 @@ module _ (inp : List ℕ) where
   unfolding skim_bytes bytes_past stored pick ◌>>=◌
   bytes_goes n context p h = go (leb n (length inp - p.at)) refl
     where
-      go : (b : Bool) → leb n (length inp - p.at) ≡ b → Onward inp p (pick b (At (standing (p.at + n) p.budget p.records p.payload)) (Refused (Truncated context p.at)) >>= (λ q. At (stored n q)))
+      go : (b : Bool) → leb n (length inp - p.at) ≡ b → Onward inp p (pick b (Ok (standing (p.at + n) p.budget p.records p.payload)) (Err (Truncated context p.at)) >>= (λ q. (Ok (stored n q))))
       go true e = at {q = standing (p.at + n) p.budget p.records (p.payload + n)} (record { on = omega arith; paid = omega arith; bytes = omega arith }) (omega (arith, leb-true n (length inp - p.at) e))
       go false e = off
 
@@ -92,19 +87,19 @@ module _ (inp : List ℕ) where
   unfolding skim_charge having spent pick
   charged_goes cost place p h = go (leb cost p.budget.remaining) refl
     where
-      go : (b : Bool) → leb cost p.budget.remaining ≡ b → Onward inp p (having p (pick b (Left (leaving p.budget (p.budget.remaining - cost))) (charged-is.Refused (RowTooLarge p.budget.limit place))))
+      go : (b : Bool) → leb cost p.budget.remaining ≡ b → Onward inp p (having p (pick b (Ok (leaving p.budget (p.budget.remaining - cost))) (Err (RowTooLarge p.budget.limit place))))
       go true e = at {q = standing p.at (leaving p.budget (p.budget.remaining - cost)) p.records p.payload} (record { on = omega arith; paid = omega arith; bytes = omega arith }) h
       go false e = off
 
   -- a node's charge pays for its record
-  counted_goes : (cost place : ℕ) → 0 < cost → (k : SkipPos → Skipped) → Goes inp k → Goes inp (λ p. skim_charge cost place p >>= (λ q. k (counted q)))
+  counted_goes : (cost place : ℕ) → 0 < cost → (k : SkipPos → Result SkipPos Refusal) → Goes inp k → Goes inp (λ p. skim_charge cost place p >>= (λ q. k (counted q)))
   unfolding skim_charge having spent counted pick ◌>>=◌
   counted_goes cost place c k g p h = go (leb cost p.budget.remaining) refl
     where
       next : SkipPos
       next = standing p.at (leaving p.budget (p.budget.remaining - cost)) (p.records + 1) p.payload
 
-      go : (b : Bool) → leb cost p.budget.remaining ≡ b → Onward inp p (having p (pick b (Left (leaving p.budget (p.budget.remaining - cost))) (charged-is.Refused (RowTooLarge p.budget.limit place))) >>= (λ q. k (counted q)))
+      go : (b : Bool) → leb cost p.budget.remaining ≡ b → Onward inp p (having p (pick b (Ok (leaving p.budget (p.budget.remaining - cost))) (Err (RowTooLarge p.budget.limit place))) >>= (λ q. k (counted q)))
       go true e =
           let l = leb-true cost p.budget.remaining e in
           later {q = next} (record { on = omega arith; paid = omega (arith, l); bytes = omega arith }) (g next h)
@@ -147,9 +142,9 @@ module _ (inp : List ℕ) where
   skim_goes sch charge c zero i p h = off
   skim_goes sch charge c (suc depth) i p h = counted_goes charge p.at c _ (value_goes (skim sch inp charge depth) (skim_goes sch charge c depth) _ _ _ _) p h
 
-at_ready : {inp : List ℕ} {p q : SkipPos} (charge : ℕ) → Ready inp charge p → Onward inp p (At q) → (p.at ≤ q.at) × Ready inp charge q
+at_ready : {inp : List ℕ} {p q : SkipPos} (charge : ℕ) → Ready inp charge p → Onward inp p (Ok q) → (p.at ≤ q.at) × Ready inp charge q
 at_ready charge r (at f h) = (f.on, record { stands = record { within = h; short = r.stands.short; passed = omega arith }; costs = r.costs; total = omega arith })
 
 -- where an accepted child leaves off, the walk may stand
-pub skim_at : (sch inp : List ℕ) (charge depth i : ℕ) (p q : SkipPos) (s : Skipped) → s ≡ skim sch inp charge depth i p → s ≡ At q → Ready inp charge p → (p.at ≤ q.at) × Ready inp charge q
-skim_at sch inp charge depth i p q s is e r = at_ready charge r (subst (λ (x : Skipped). Onward inp p x) (sym is ∙ e) (skim_goes inp sch charge r.costs depth i p r.stands.within))
+pub skim_at : (sch inp : List ℕ) (charge depth i : ℕ) (p q : SkipPos) (s : Result SkipPos Refusal) → s ≡ skim sch inp charge depth i p → s ≡ Ok q → Ready inp charge p → (p.at ≤ q.at) × Ready inp charge q
+skim_at sch inp charge depth i p q s is e r = at_ready charge r (subst (λ (x : Result SkipPos Refusal). Onward inp p x) (sym is ∙ e) (skim_goes inp sch charge r.costs depth i p r.stands.within))

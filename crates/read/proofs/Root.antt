@@ -1,5 +1,6 @@
 -- A row's value, from the root of its block: charged, and entered by its children.
 -- Assumes nothing.
+use Rattle.std.proofs.Common.{Result, Ok, Err}
 use Prim.Native.Nat.{ℕ}
 use mathlib.Core.Path.{◌≡◌, sym, ◌∙◌}
 use mathlib.Core.List.{List}
@@ -15,10 +16,6 @@ use Rattle.leaves.specs.Leaf.{standing}
 use Rattle.read.specs.Skim.{skim_pos, skimmed, skim_node, skim}
 use Rattle.read.specs.Ready.{Ready, Rooted}
 use Rattle.leaves.specs.declared.budget.RowBudget.{RowBudget}
-use Rattle.leaves.specs.declared.budget.Charged.{Charged}
-use Rattle.leaves.specs.declared.budget.Charged.TheVariants.{Left}
-use Rattle.leaves.specs.declared.budget.Charged.TheVariants as charged-is
-use Rattle.leaves.specs.declared.leaf.Skipped.TheVariants.{Refused}
 use Rattle.read.proofs.Same.{skim_same}
 use Rattle.read.proofs.Steps.{ready_paid}
 use Rattle.read.proofs.Nodes.{skim_dear, skim_paid}
@@ -42,12 +39,12 @@ module _ (sch inp : List ℕ) (s : Settings) (at : ℕ) (b : RowBudget) (e : b �
         total = rw e (omega (arith, leb-true s.max_row_bytes 4294967295 x.1));
       }
 
-  module _ (c : Charged) (is : c ≡ spent b s.node_charge at) where
-    pub root_dear : (r : Refusal) → c ≡ charged-is.Refused r → Refused r ≡ skimmed (limits s) (walk sch inp (limits s) 64 0 (start (limits s) at))
+  module _ (c : Result RowBudget Refusal) (is : c ≡ spent b s.node_charge at) where
+    pub root_dear : (r : Refusal) → c ≡ Err r → Err r ≡ skimmed (limits s) (walk sch inp (limits s) 64 0 (start (limits s) at))
     root_dear r f = sym (skim_dear sch inp s.node_charge 64 0 (standing at b 0 0) (λ z. omega arith) c is r f) ∙ same
 
-    pub root_paid : (a : RowBudget) → c ≡ Left a → skim_node sch inp (skim sch inp s.node_charge 63) 0 (standing at a 1 0) ≡ skimmed (limits s) (walk sch inp (limits s) 64 0 (start (limits s) at))
+    pub root_paid : (a : RowBudget) → c ≡ Ok a → skim_node sch inp (skim sch inp s.node_charge 63) 0 (standing at a 1 0) ≡ skimmed (limits s) (walk sch inp (limits s) 64 0 (start (limits s) at))
     root_paid a f = sym (skim_paid sch inp s.node_charge 64 0 (standing at b 0 0) (λ z. omega arith) c is a f) ∙ same
 
-    pub root_ready : (a : RowBudget) → c ≡ Left a → Rooted sch inp s at → Ready inp s.node_charge (standing at a 1 0)
+    pub root_ready : (a : RowBudget) → c ≡ Ok a → Rooted sch inp s at → Ready inp s.node_charge (standing at a 1 0)
     root_ready a f k = ready_paid inp s.node_charge (standing at b 0 0) c a (ready k) is f

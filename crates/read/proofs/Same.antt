@@ -1,5 +1,7 @@
 -- The walk that skip makes is the rules' walk, its value forgotten.
 -- Assumes nothing.
+use Rattle.rules.specs.declared.refusal.Refusal.{Refusal}
+use Rattle.std.proofs.Common.{Result, Ok, Err}
 use Prim.Native.Nat.{ℕ, zero, suc, ◌+◌, ◌-◌}
 use mathlib.Core.Path.{◌≡◌, refl, ◌∙◌}
 use mathlib.Core.Bool.{Bool, true, false}
@@ -19,19 +21,13 @@ use Rattle.leaves.specs.Budget.{spent, longest}
 use Rattle.leaves.specs.Fields.{read_number_at}
 use Rattle.leaves.specs.Leaf.{◌>>=◌, reading, bytes_past, having, skim_charge, stored, skim_bytes, skim_blob}
 use Rattle.read.specs.Skim.{skim_pos, skimmed, counted, Skimmer, skim_child, skim_variant, skim_pairs, skim_fields, skim_form, skim_node, skim}
-use Rattle.leaves.specs.declared.budget.Charged.TheVariants.{Left}
-use Rattle.leaves.specs.declared.budget.Charged.TheVariants as charged-is
-use Rattle.leaves.specs.declared.fields.ReadNumber.TheVariants.{Is}
-use Rattle.leaves.specs.declared.fields.ReadNumber.TheVariants as number_is
 use Rattle.leaves.specs.declared.leaf.SkipPos.{SkipPos}
-use Rattle.leaves.specs.declared.leaf.Skipped.{Skipped}
-use Rattle.leaves.specs.declared.leaf.Skipped.TheVariants.{At, Refused}
 
 module _ (lim : rule.Limits) where
   -- ---- steps
 
   -- one whose value is forgotten
-  drops : {A B : Type 0} (x : rule.Answer A) (k : A × rule.Pos → rule.Answer B) (g : SkipPos → Skipped) → ((z : A × rule.Pos) → skimmed lim (k z) ≡ g (skim_pos lim z.1)) →
+  drops : {A B : Type 0} (x : rule.Answer A) (k : A × rule.Pos → rule.Answer B) (g : SkipPos → Result SkipPos Refusal) → ((z : A × rule.Pos) → skimmed lim (k z) ≡ g (skim_pos lim z.1)) →
       skimmed lim (rule.◌>>=◌ x k) ≡ skimmed lim x >>= g
   unfolding rule.◌>>=◌ skimmed ◌>>=◌
   drops (rule.Got a q) k g e = e (a, q)
@@ -43,21 +39,21 @@ module _ (lim : rule.Limits) where
   wraps (rule.Got a q) f = refl
   wraps (rule.Refused r) f = refl
 
-  picks : {A : Type 0} (b : Bool) (x y : rule.Answer A) (u v : Skipped) → skimmed lim x ≡ u → skimmed lim y ≡ v → skimmed lim (pick b x y) ≡ pick b u v
+  picks : {A : Type 0} (b : Bool) (x y : rule.Answer A) (u v : Result SkipPos Refusal) → skimmed lim x ≡ u → skimmed lim y ≡ v → skimmed lim (pick b x y) ≡ pick b u v
   unfolding pick
   picks true x y u v e h = e
   picks false x y u v e h = h
 
   module _ (inp : List ℕ) where
     -- a number that the rest of the walk uses
-    number_same : {A : Type 0} (w context : ℕ) (p : rule.Pos) (k : ℕ × rule.Pos → rule.Answer A) (g : ℕ → SkipPos → Skipped) → ((z : ℕ × rule.Pos) → skimmed lim (k z) ≡ g z.0 (skim_pos lim z.1)) →
+    number_same : {A : Type 0} (w context : ℕ) (p : rule.Pos) (k : ℕ × rule.Pos → rule.Answer A) (g : ℕ → SkipPos → Result SkipPos Refusal) → ((z : ℕ × rule.Pos) → skimmed lim (k z) ≡ g z.0 (skim_pos lim z.1)) →
         skimmed lim (rule.◌>>=◌ (rule.number_of inp w context p) k) ≡ reading (read_number_at inp w context p.at) (skim_pos lim p) g
     unfolding rule.◌>>=◌ rule.number_of skimmed skim_pos read_number_at reading pick
     number_same w context p k g e = go (leb w (length inp - p.at))
       where
         go : (b : Bool) →
             skimmed lim (rule.◌>>=◌ (pick b (rule.Got (le_at inp p.at w) (rule.onward w p)) (rule.Refused (Truncated context p.at))) k)
-            ≡ reading (pick b (Is (le_at inp p.at w) (p.at + w)) (number_is.Refused (Truncated context p.at))) (skim_pos lim p) g
+            ≡ reading (pick b (Ok ((le_at inp p.at w), (p.at + w))) (Err (Truncated context p.at))) (skim_pos lim p) g
         go true = e (le_at inp p.at w, rule.onward w p)
         go false = refl
 
@@ -73,12 +69,12 @@ module _ (lim : rule.Limits) where
       where
         go : (b : Bool) →
             skimmed lim (pick b (rule.Got (part inp p.at n) (record { at = p.at + n; left = p.left; records = p.records; payload = p.payload + n })) (rule.Refused (Truncated context p.at)))
-            ≡ pick b (At (skim_pos lim (rule.onward n p))) (Refused (Truncated context p.at)) >>= (λ q. At (stored n q))
+            ≡ pick b (Ok (skim_pos lim (rule.onward n p))) (Err (Truncated context p.at)) >>= (λ q. (Ok (stored n q)))
         go true = refl
         go false = refl
 
   -- a charge, for r records
-  charged_same : {A : Type 0} (cost r place : ℕ) (p : rule.Pos) (k : Unit × rule.Pos → rule.Answer A) (g : SkipPos → Skipped) →
+  charged_same : {A : Type 0} (cost r place : ℕ) (p : rule.Pos) (k : Unit × rule.Pos → rule.Answer A) (g : SkipPos → Result SkipPos Refusal) →
       ((q : rule.Pos) → skimmed lim (k (tt, record { at = q.at; left = q.left; records = q.records + r; payload = q.payload })) ≡ g (skim_pos lim q)) →
       skimmed lim (rule.◌>>=◌ (rule.charged lim cost r place p) k) ≡ skim_charge cost place (skim_pos lim p) >>= g
   unfolding rule.◌>>=◌ rule.charged skimmed skim_pos skim_charge having spent ◌>>=◌ pick
@@ -89,7 +85,7 @@ module _ (lim : rule.Limits) where
 
       go : (b : Bool) →
           skimmed lim (rule.◌>>=◌ (pick b (rule.Got tt (record { at = p.at; left = p.left - cost; records = p.records + r; payload = p.payload })) (rule.Refused (RowTooLarge lim.row place))) k)
-          ≡ having (skim_pos lim p) (pick b (Left (skim_pos lim less).budget) (charged-is.Refused (RowTooLarge lim.row place))) >>= g
+          ≡ having (skim_pos lim p) (pick b (Ok (skim_pos lim less).budget) (Err (RowTooLarge lim.row place))) >>= g
       go true = e less
       go false = refl
 

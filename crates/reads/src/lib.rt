@@ -8,49 +8,47 @@ ghost use Rattle.reads.specs.Outcomes.{outcome_of, table_read};
 
 use rules::Ran;
 
-// How the run over a file comes out: with an answer, with a row at a position that does not end in the window, or with a failed read.
+// Why a run over a file has no answer: a row at a position does not end in the window, or a read failed.
 #[derive(Clone, Copy)]
-pub enum Outcome {
-    Told(Ran),
+pub enum RunFailure {
     NoRoom(u64),
     Unreadable,
 }
 
 // From the run so far, where the window took no more bytes or the last read delivered none. One more read, of one byte, answers `last`.
-pub fn outcome_of_last_read(last: isize, ran: Ran, full: bool) -> Outcome
+pub fn outcome_of_last_read(last: isize, ran: Ran, full: bool) -> Result<Ran, RunFailure>
     ensures { result ≡ outcome_of last ran full }
 {
     if last == 0 {
-        return Outcome::Told(ran);
+        return Ok(ran);
     }
     if last != 1 {
-        return Outcome::Unreadable;
+        return Err(RunFailure::Unreadable);
     }
     if full {
-        Outcome::NoRoom(ran.bytes)
+        Err(RunFailure::NoRoom(ran.bytes))
     } else {
-        Outcome::Unreadable
+        Err(RunFailure::Unreadable)
     }
 }
 
-// What came of the reading of a table.
+// Why a table was not read whole.
 #[derive(Clone, Copy)]
-pub enum TableRead {
-    Whole,
+pub enum TableFailure {
     TooLong,
     Unreadable,
 }
 
 // The table's bytes end at `end`, in a space of which the stream needs some bytes too. One more read answers `last`.
-pub fn table_read(end: usize, space: usize, last: isize) -> TableRead
+pub fn table_read(end: usize, space: usize, last: isize) -> Result<(), TableFailure>
     ensures { result ≡ table_read end space last }
 {
     if end == space {
-        return TableRead::TooLong;
+        return Err(TableFailure::TooLong);
     }
     if last == 0 {
-        TableRead::Whole
+        Ok(())
     } else {
-        TableRead::Unreadable
+        Err(TableFailure::Unreadable)
     }
 }

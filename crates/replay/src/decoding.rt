@@ -3,24 +3,19 @@ use cases::answer_lines::{end_line, shown, write_bytes, write_report};
 use cases::lent_room;
 use cases::reports::read;
 use decode::next_row;
-use rules::Settings;
+use rules::{Format, Settings};
 
 // Decodes the row at a position and writes its line.
 fn write_into(
     out: &impl Print,
     settings: Settings,
-    table: &[u8],
-    names: &[u8],
-    references: &[u8],
-    registry: &[u8],
+    format: &Format,
     input: &[u8],
     position: u64,
     records: &mut [u8],
     payload: &mut [u8],
 ) {
-    let row = next_row(
-        settings, table, names, references, registry, input, position, records, payload,
-    );
+    let row = next_row(settings, format, input, position, records, payload);
     write_report(out, read(row));
     write_bytes(out, records);
     write_bytes(out, payload);
@@ -31,10 +26,7 @@ fn write_into(
 pub fn decode_row(
     out: &impl Print,
     settings: Settings,
-    table: &[u8],
-    names: &[u8],
-    references: &[u8],
-    registry: &[u8],
+    format: &Format,
     input: &[u8],
     position: u64,
     sizes: u64,
@@ -46,10 +38,7 @@ pub fn decode_row(
     write_into(
         out,
         settings,
-        table,
-        names,
-        references,
-        registry,
+        format,
         input,
         position,
         &mut records[0..n],

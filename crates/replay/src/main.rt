@@ -13,7 +13,7 @@ use cases::answer_lines::{end_line, write_ran, write_report};
 use cases::next_case;
 use decoding::decode_row;
 use ops::answer;
-use rules::Settings;
+use rules::{Format, Settings};
 use run::run;
 use std::io::Read;
 
@@ -21,32 +21,19 @@ fn answer_case(
     out: &impl Print,
     op: u64,
     settings: Settings,
-    records: &[u8],
-    names: &[u8],
-    references: &[u8],
-    registry: &[u8],
+    format: &Format,
     input: &[u8],
     a: u64,
     b: u64,
 ) {
     match op {
         8 => {
-            write_ran(
-                out,
-                run(settings, records, names, references, registry, input),
-            );
+            write_ran(out, run(settings, format, input));
             end_line(out);
         }
-        9 => decode_row(
-            out, settings, records, names, references, registry, input, a, b,
-        ),
+        9 => decode_row(out, settings, format, input, a, b),
         _ => {
-            write_report(
-                out,
-                answer(
-                    op, settings, records, names, references, registry, input, a, b,
-                ),
-            );
+            write_report(out, answer(op, settings, format, input, a, b));
             end_line(out);
         }
     }
@@ -72,10 +59,12 @@ fn answer_next(
         out,
         c.op,
         settings,
-        &space[0..x],
-        &space[x..y],
-        &space[y..z],
-        &space[z..w],
+        &Format {
+            table: &space[0..x],
+            names: &space[x..y],
+            references: &space[y..z],
+            registry: &space[z..w],
+        },
         &input[0..n],
         c.a,
         c.b,

@@ -1,7 +1,7 @@
 // What each op answers, in numbers.
 use cases::reports::{accepted, checked, nothing, read};
 use row::skip_row;
-use rules::{Checked, Known, Located, Refusal, Report, Settings, Why, Width};
+use rules::{Format, Located, Refusal, Report, Settings, Why};
 use schema::format::table_schema;
 use schema::{check_encoder_schema, check_format, check_schema};
 use wire::{code_of, fixed_width, from_code, parse};
@@ -9,8 +9,8 @@ use wire::{code_of, fixed_width, from_code, parse};
 fn parsed(name: &[u8]) -> Report {
     let k = parse(name);
     match k {
-        Known::Wire(t) => accepted(code_of(t) as u64, 0),
-        Known::Unknown => nothing(),
+        Some(t) => accepted(code_of(t) as u64, 0),
+        None => nothing(),
     }
 }
 
@@ -19,22 +19,22 @@ fn width(code: u64) -> Report {
         return nothing();
     }
     let k = from_code(code as u8);
-    let Known::Wire(t) = k else {
+    let Some(t) = k else {
         return nothing();
     };
     let w = fixed_width(t);
     match w {
-        Width::Fixed(n) => accepted(n, 0),
-        Width::Variable => nothing(),
+        Some(n) => accepted(n, 0),
+        None => nothing(),
     }
 }
 
-fn located(records: &[u8], names: &[u8], references: &[u8], registry: &[u8], t: u64) -> Report {
-    let format = check_format(records, names, references, registry);
-    let Checked::Accepted = format else {
-        return checked(format);
+fn located(format: &Format, t: u64) -> Report {
+    let judged = check_format(format);
+    let Ok(()) = judged else {
+        return checked(judged);
     };
-    let at = table_schema(names, references, registry, t);
+    let at = table_schema(format, t);
     match at {
         Located::Block(first, count) => accepted(first, count),
         Located::NoTable => Refusal {
@@ -53,22 +53,19 @@ fn located(records: &[u8], names: &[u8], references: &[u8], registry: &[u8], t: 
 pub fn answer(
     op: u64,
     settings: Settings,
-    records: &[u8],
-    names: &[u8],
-    references: &[u8],
-    registry: &[u8],
+    format: &Format,
     input: &[u8],
     a: u64,
     b: u64,
 ) -> Report {
     match op {
-        1 => parsed(names),
+        1 => parsed(format.names),
         2 => width(a),
-        3 => checked(check_schema(records, names, a, b)),
-        4 => checked(check_encoder_schema(records, names, a, b)),
-        5 => checked(check_format(records, names, references, registry)),
-        6 => located(records, names, references, registry, a),
-        7 => read(skip_row(settings, records, names, references, registry, input, a)),
+        3 => checked(check_schema(format.table, format.names, a, b)),
+        4 => checked(check_encoder_schema(format.table, format.names, a, b)),
+        5 => checked(check_format(format)),
+        6 => located(format, a),
+        7 => read(skip_row(settings, format, input, a)),
         _ => nothing(),
     }
 }

@@ -3,25 +3,20 @@ use cases::answer_lines::{end_line, shown, write_bytes, write_report};
 use cases::lent_room;
 use cases::reports::read;
 use indexed_row::decode_indexed;
-use rules::Settings;
+use rules::{Format, Settings};
 
 // Decodes the row of a number and writes its line.
 fn write_into(
     out: &impl Print,
     settings: Settings,
-    table: &[u8],
-    names: &[u8],
-    references: &[u8],
-    registry: &[u8],
+    format: &Format,
     input: &[u8],
     index: &[u8],
     row: u64,
     records: &mut [u8],
     payload: &mut [u8],
 ) {
-    let found = decode_indexed(
-        settings, table, names, references, registry, input, index, row, records, payload,
-    );
+    let found = decode_indexed(settings, format, input, index, row, records, payload);
     write_report(out, read(found));
     write_bytes(out, records);
     write_bytes(out, payload);
@@ -32,10 +27,7 @@ fn write_into(
 pub fn decode_row(
     out: &impl Print,
     settings: Settings,
-    table: &[u8],
-    names: &[u8],
-    references: &[u8],
-    registry: &[u8],
+    format: &Format,
     input: &[u8],
     index: &[u8],
     row: u64,
@@ -48,10 +40,7 @@ pub fn decode_row(
     write_into(
         out,
         settings,
-        table,
-        names,
-        references,
-        registry,
+        format,
         input,
         index,
         row,

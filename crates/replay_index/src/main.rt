@@ -16,24 +16,12 @@ use cases::next_case;
 use cases::reports::nothing;
 use decoding::decode_row;
 use index::{build_index, check_index, extend_index};
-use rules::Settings;
+use rules::{Format, Settings};
 use std::io::Read;
 
 // Builds an index and writes its line.
-fn build(
-    out: &impl Print,
-    settings: Settings,
-    table: &[u8],
-    names: &[u8],
-    references: &[u8],
-    registry: &[u8],
-    input: &[u8],
-    index: &mut [u8],
-) {
-    write_ran(
-        out,
-        build_index(settings, table, names, references, registry, input, index),
-    );
+fn build(out: &impl Print, settings: Settings, format: &Format, input: &[u8], index: &mut [u8]) {
+    write_ran(out, build_index(settings, format, input, index));
     write_bytes(out, index);
     end_line(out);
 }
@@ -42,20 +30,12 @@ fn build(
 fn extend(
     out: &impl Print,
     settings: Settings,
-    table: &[u8],
-    names: &[u8],
-    references: &[u8],
-    registry: &[u8],
+    format: &Format,
     input: &[u8],
     old: u64,
     index: &mut [u8],
 ) {
-    write_ran(
-        out,
-        extend_index(
-            settings, table, names, references, registry, input, old, index,
-        ),
-    );
+    write_ran(out, extend_index(settings, format, input, old, index));
     write_bytes(out, index);
     end_line(out);
 }
@@ -64,32 +44,20 @@ fn answer_index(
     out: &impl Print,
     op: u64,
     settings: Settings,
-    table: &[u8],
-    names: &[u8],
-    references: &[u8],
-    registry: &[u8],
+    format: &Format,
     input: &[u8],
     index: &mut [u8],
     a: u64,
     sizes: u64,
 ) {
     match op {
-        12 => build(
-            out, settings, table, names, references, registry, input, index,
-        ),
+        12 => build(out, settings, format, input, index),
         13 => {
-            write_ran(
-                out,
-                check_index(settings, table, names, references, registry, input, index),
-            );
+            write_ran(out, check_index(settings, format, input, index));
             end_line(out);
         }
-        14 => extend(
-            out, settings, table, names, references, registry, input, a, index,
-        ),
-        15 => decode_row(
-            out, settings, table, names, references, registry, input, index, a, sizes,
-        ),
+        14 => extend(out, settings, format, input, a, index),
+        15 => decode_row(out, settings, format, input, index, a, sizes),
         _ => {
             write_report(out, nothing());
             end_line(out);
@@ -124,10 +92,12 @@ fn answer_case(
         out,
         op,
         settings,
-        table,
-        names,
-        references,
-        &strings[0..end],
+        &Format {
+            table,
+            names,
+            references,
+            registry: &strings[0..end],
+        },
         &strings[end..strings.len()],
         index,
         a,

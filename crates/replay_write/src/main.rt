@@ -9,14 +9,14 @@ use cases::answer_lines::{end_line, write_bytes, write_report};
 use cases::next_case;
 use cases::reports::{accepted_row, checked, nothing};
 use encode::encode;
-use rules::{Report, Settings, Written};
+use rules::{Extent, Refusal, Report, Settings};
 use std::io::Read;
 use value::check_value_table;
 
-fn written(w: Written) -> Report {
+fn written(w: Result<Extent, Refusal>) -> Report {
     match w {
-        Written::Row(row) => accepted_row(row),
-        Written::Refused(why) => why.in_numbers(),
+        Ok(row) => accepted_row(row),
+        Err(why) => why.in_numbers(),
     }
 }
 

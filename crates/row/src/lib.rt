@@ -3,42 +3,29 @@
 
 ghost use Rattle.std.specs.Prelude.{◌≡◌};
 ghost use Rattle.rules.specs.Reading.{skip_rule};
-ghost use Rattle.schema.specs.Slices.{slices};
 
 pub mod door;
 pub mod steps;
 
 use door::door;
-use rules::{Door, Read, Settings};
+use rules::{Door, Extent, Format, Refusal, Settings};
 use steps::row_at;
 
 // The row at a position of the stream: what it takes, the end of the stream, or why it is refused.
 pub fn skip_row(
     settings: Settings,
-    table: &[u8],
-    names: &[u8],
-    references: &[u8],
-    registry: &[u8],
+    format: &Format,
     input: &[u8],
     position: u64,
-) -> Read
-    ensures { result ≡ skip_rule (slices table.now names.now references.now registry.now)
-        settings input.now position }
+) -> Result<Option<Extent>, Refusal>
+    ensures { result ≡ skip_rule format.now settings input.now position }
 {
-    let entry = door(
-        settings, table, names, references, registry, input, position,
-    );
+    let entry = door(settings, format, input, position)?;
     match entry {
-        Door::Open => row_at(
-            table,
-            names,
-            references,
-            registry,
-            input,
-            position as usize,
-            settings,
-        ),
-        Door::End => Read::End,
-        Door::Refused(why) => Read::Refused(why),
+        Door::Open => {
+            let row = row_at(format, input, position as usize, settings)?;
+            Ok(Some(row))
+        }
+        Door::End => Ok(None),
     }
 }

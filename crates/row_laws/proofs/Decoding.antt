@@ -1,5 +1,8 @@
 -- Decode's answer is skip's, tested for room; it leaves its slices alone unless it accepts, and leaves the table of a conforming value.
 -- Assumes nothing.
+use Rattle.rules.specs.declared.answer.Extent.{Extent}
+use Rattle.rules.specs.declared.refusal.Refusal.{Refusal}
+use Rattle.std.proofs.Common.{Result, Option, Ok, Err, Some, None}
 use Prim.Native.Nat.{ℕ, ◌+◌, ◌≤◌}
 use mathlib.Core.Path.{◌≡◌, refl, ap, ◌∙◌}
 use mathlib.Core.Bool.{Bool, true, false}
@@ -19,11 +22,7 @@ use Rattle.rules.specs.Walk.{Limits, Pos, Answer, Got, after}
 use Rattle.rules.specs.Reading.{limits, start, row_at, schema_of, Accepts, through, door, extent, skipped, skip_rule, Decoded, room, record_room, room_for, room_test, untouched, fill_with, filled, decode_rule, NoRow}
 use Rattle.rules.specs.declared.settings.Settings.{Settings}
 use Rattle.rules.specs.Refusals.{NoNodeRoom, NoPayloadRoom}
-use Rattle.rules.specs.declared.answer.Checked.{Checked}
 use Rattle.rules.specs.declared.answer.Door.{Door}
-use Rattle.rules.specs.declared.answer.Door.TheVariants as door-is
-use Rattle.rules.specs.declared.answer.Read.{Read}
-use Rattle.rules.specs.declared.answer.Read.TheVariants.{Row, End, Refused}
 use Rattle.rules.proofs.Stands.{length-le, stands_in}
 use Rattle.row_laws.proofs.Conform.{row_conforms, row_fits}
 use Rattle.row_laws.proofs.TableRows.{row_agrees, row_accepts}
@@ -32,11 +31,11 @@ use Rattle.row_laws.proofs.Door.{MayAsk, door_asked, behind_open}
 -- ---- skip and decode
 
 module _ (at : ℕ) (rs ps : List ℕ) where
-  answered : (v : Value) (a : Read) → (fill_with v rs ps a).answer ≡ a
+  answered : (v : Value) (a : Result (Option Extent) Refusal) → (fill_with v rs ps a).answer ≡ a
   unfolding fill_with
-  answered v (Row e) = refl
-  answered v End = refl
-  answered v (Refused r) = refl
+  answered v (Ok (Some e)) = refl
+  answered v (Ok None) = refl
+  answered v (Err r) = refl
 
   filled_tested : (a : Answer (ℕ × Value)) → (filled at a rs ps).answer ≡ room_test at rs ps (skipped at a)
   unfolding filled skipped
@@ -48,23 +47,23 @@ module _ (at : ℕ) (rs ps : List ℕ) where
   unfolding skip_rule decode_rule
   decode_tested f s inp = by (door f s inp at)
     where
-      by : (d : Door) → (through d (λ r. untouched (Refused r) rs ps) (untouched End rs ps) (filled at (row_at f inp (limits s) at) rs ps)).answer ≡ room_test at rs ps (through d Refused End (skipped at (row_at f inp (limits s) at)))
-      by door-is.Open = unfold through in filled_tested (row_at f inp (limits s) at)
-      by door-is.End = unfold through room_test in refl
-      by (door-is.Refused r) = unfold through room_test in refl
+      by : (d : Result Door Refusal) → (through d (λ r. untouched (Err r) rs ps) (untouched (Ok None) rs ps) (filled at (row_at f inp (limits s) at) rs ps)).answer ≡ room_test at rs ps (through d Err (Ok None) (skipped at (row_at f inp (limits s) at)))
+      by (Ok Door.Open) = unfold through in filled_tested (row_at f inp (limits s) at)
+      by (Ok Door.End) = unfold through room_test in refl
+      by (Err r) = unfold through room_test in refl
 
 -- ---- what decode leaves in its two slices
 
 -- a row of v of table t, that starts at a position and leaves off at q, written into two slices
 abbrev pub decoded_row : ℕ → List ℕ → List ℕ → ℕ → Value → Pos → Decoded
-decoded_row at rs ps t v q = record { answer = Row (extent at t q); records = over rs 0 (flat v 0 0); payload = over ps 0 (payload_bytes v) }
+decoded_row at rs ps t v q = record { answer = Ok (Some (extent at t q)); records = over rs 0 (flat v 0 0); payload = over ps 0 (payload_bytes v) }
 
 -- the table of the row that stands there, from the start of each slice; or nothing
 pub data Leaves (f : Format) (inp : List ℕ) (lim : Limits) (at : ℕ) (rs ps : List ℕ) : Decoded → Type 0 where
   row_written : {t : ℕ} {v : Value} {q : Pos} →
-      format_rules f ≡ Checked.Accepted → Accepts f inp lim at t v q → records_of v ≤ record_room rs → payload_of v ≤ room ps →
+      format_rules f ≡ Ok tt → Accepts f inp lim at t v q → records_of v ≤ record_room rs → payload_of v ≤ room ps →
       Leaves f inp lim at rs ps (decoded_row at rs ps t v q)
-  unchanged : {a : Read} →
+  unchanged : {a : Result (Option Extent) Refusal} →
       NoRow a →
       Leaves f inp lim at rs ps (untouched a rs ps)
 
@@ -77,19 +76,19 @@ module _ (f : Format) (inp : List ℕ) (lim : Limits) (at : ℕ) (rs ps : List �
       none : (n : ℕ) → 0 + n ≡ n
       none n = omega arith
 
-  filled_leaves : format_rules f ≡ Checked.Accepted → Bytes inp → at ≤ length inp → (a : Answer (ℕ × Value)) → row_at f inp lim at ≡ a → Leaves f inp lim at rs ps (filled at a rs ps)
+  filled_leaves : format_rules f ≡ Ok tt → Bytes inp → at ≤ length inp → (a : Answer (ℕ × Value)) → row_at f inp lim at ≡ a → Leaves f inp lim at rs ps (filled at a rs ps)
   unfolding filled
   filled_leaves ok bs h (Got (t, v) q) e = unfold room_test room_for extent in nodes (leb q.records (record_room rs)) refl
     where
       is : Accepts f inp lim at t v q
       is = (row_agrees f inp lim at bs h t v q).0 e
 
-      payload : q.records ≤ record_room rs → (b : Bool) → leb q.payload (room ps) ≡ b → Leaves f inp lim at rs ps (fill_with v rs ps (pick b (Row (extent at t q)) (Refused (NoPayloadRoom q.payload at))))
+      payload : q.records ≤ record_room rs → (b : Bool) → leb q.payload (room ps) ≡ b → Leaves f inp lim at rs ps (fill_with v rs ps (pick b (Ok (Some (extent at t q))) (Err (NoPayloadRoom q.payload at))))
       payload l true e = unfold pick fill_with in row_written ok is (rw (counted is).0 at l) (rw (counted is).1 at (leb-true q.payload (room ps) e))
       payload l false e = unfold pick fill_with NoRow in unchanged tt
 
       nodes : (b : Bool) → leb q.records (record_room rs) ≡ b →
-          Leaves f inp lim at rs ps (fill_with v rs ps (pick b (pick (leb q.payload (room ps)) (Row (extent at t q)) (Refused (NoPayloadRoom q.payload at))) (Refused (NoNodeRoom q.records at))))
+          Leaves f inp lim at rs ps (fill_with v rs ps (pick b (pick (leb q.payload (room ps)) (Ok (Some (extent at t q))) (Err (NoPayloadRoom q.payload at))) (Err (NoNodeRoom q.records at))))
       nodes true e = unfold pick in payload (leb-true _ _ e) (leb q.payload (room ps)) refl
       nodes false e = unfold pick fill_with NoRow in unchanged tt
   filled_leaves ok bs h (Answer.Refused r) e = unfold NoRow in unchanged tt
@@ -99,12 +98,12 @@ pub decode_leaves : (f : Format) (s : Settings) (inp : List ℕ) (at : ℕ) (rs 
 unfolding decode_rule
 decode_leaves f s inp at rs ps bs = by (door f s inp at) refl
   where
-    by : (d : Door) → door f s inp at ≡ d → Leaves f inp (limits s) at rs ps (through d (λ r. untouched (Refused r) rs ps) (untouched End rs ps) (filled at (row_at f inp (limits s) at) rs ps))
-    by door-is.Open e =
+    by : (d : Result Door Refusal) → door f s inp at ≡ d → Leaves f inp (limits s) at rs ps (through d (λ r. untouched (Err r) rs ps) (untouched (Ok None) rs ps) (filled at (row_at f inp (limits s) at) rs ps))
+    by (Ok Door.Open) e =
         let o = behind_open f s inp at e in
         unfold through in filled_leaves f inp (limits s) at rs ps o.0.format bs (omega (arith, o.1)) (row_at f inp (limits s) at) refl
-    by door-is.End e = unfold through NoRow in unchanged tt
-    by (door-is.Refused r) e = unfold through NoRow in unchanged tt
+    by (Ok Door.End) e = unfold through NoRow in unchanged tt
+    by (Err r) e = unfold through NoRow in unchanged tt
 
 -- a row that stands somewhere is one of a conforming value that value records can hold
 pub accepts_conforms : (f : Format) (inp : List ℕ) (lim : Limits) (at : ℕ) {t : ℕ} {v : Value} {q : Pos} → Accepts f inp lim at t v q → Conforms (schema_of f t) v × Fits v
@@ -122,12 +121,12 @@ pub accepts_inside : (f : Format) (inp : List ℕ) (lim : Limits) (at : ℕ) {t 
 accepts_inside f inp lim at a = (row_long a.is, stands_in inp at a.bytes a.stands)
 
 module _ (f : Format) (s : Settings) (inp : List ℕ) (ok : MayAsk f s inp) (at : ℕ) {t : ℕ} {v : Value} {q : Pos} (a : Accepts f inp (limits s) at t v q) where
-  open_there : door f s inp at ≡ door-is.Open
+  open_there : door f s inp at ≡ Ok Door.Open
   unfolding pick
   open_there = let i = accepts_inside f inp (limits s) at a in door_asked f s inp ok at (omega (arith, i.1)) ∙ rw (ne_eqb at (length inp) (λ z. omega (arith, i.0, i.1)))
 
   -- skip accepts it
-  pub skip_accepts : skip_rule f s inp at ≡ Row (extent at t q)
+  pub skip_accepts : skip_rule f s inp at ≡ Ok (Some (extent at t q))
   unfolding skip_rule through skipped
   skip_accepts = rw (open_there, row_accepts f inp (limits s) at a)
 

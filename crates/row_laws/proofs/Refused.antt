@@ -1,5 +1,6 @@
 -- Where a reason is there, the walk refuses for it.
 -- Assumes nothing.
+use Rattle.std.proofs.Common.{Option, Some, None}
 use Prim.Native.Nat.{ℕ, zero, suc, ◌+◌, ◌-◌, ◌≤◌, ◌<◌}
 use mathlib.Core.Path.{◌≡◌, refl}
 use mathlib.Core.List.{List}
@@ -16,7 +17,6 @@ use Rattle.rules.specs.Grammar.{Row}
 use Rattle.rules.specs.Walk.{Limits, blob_limit, Pos, Got, Refused, ◌>>=◌, onward, number_of, bytes_of, charged, blob_of, Walker, child_of, pairs_of, fields_of, value_of, walk}
 use Rattle.rules.specs.Reasons.{Cut, Number, StandsWhole, NodeReason, dear_node, in_node, BodyReason, cut_scalar, cut_length, long_blob, dear_blob, cut_payload, of_variant, of_repeated, of_tuple, TagReason, cut_tag, stray_tag, in_child, PairsReason, this_pair, later_pair, FieldsReason, this_field, later_field}
 use Rattle.rules.specs.declared.table_record.Node.{Node}
-use Rattle.rules.specs.declared.wire_type.Width.TheVariants.{Fixed, Variable}
 use Rattle.rules.specs.declared.refusal.Refusal.{Refusal}
 use Rattle.rules.specs.Refusals.{Truncated, RowTooLarge}
 use Rattle.rules.proofs.Stands.{length-le, stands_in}
@@ -30,13 +30,13 @@ use Rattle.row_laws.proofs.Complete.{le_got, child_got, walk_got}
 abbrev paid : ℕ → ℕ → Pos → Pos
 paid cost r p = record { at = p.at; left = p.left - cost; records = p.records + r; payload = p.payload }
 
-one_width : {a b : ℕ} → Fixed a ≡ Fixed b → a ≡ b
+one_width : {a b : ℕ} → ◌≡◌ {A = Option ℕ} (Some a) (Some b) → a ≡ b
 one_width e = cc
 
-varies : {w : ℕ} → Variable ≡ Fixed w → ⊥
+varies : {w : ℕ} → ◌≡◌ {A = Option ℕ} None (Some w) → ⊥
 varies {w = w} e = omega (arith, differ e)
   where
-    differ : Variable ≡ Fixed w → ◌≡◌ {A = ℕ} 0 1
+    differ : ◌≡◌ {A = Option ℕ} None (Some w) → ◌≡◌ {A = ℕ} 0 1
     differ e = cc
 
 module _ (inp : List ℕ) (lim : Limits) where
@@ -127,7 +127,7 @@ module _ (inp : List ℕ) (lim : Limits) where
         let l : length inp - (beyond k p).at < fuel = omega (arith, tag_wide t w b, k.ends, number_ends num) in
         rw (number_there w t (14 + w) p num, ne_eqb t (end_tag w) (λ q. omega arith), child_got inp lim tree rec got n t p.at o k.is s, pairs_refused n w fuel (beyond k (onward w p)) spent' r a l (in_end inp lim s) (omega (arith, k.afford)) x)
 
-    scalar_refused : (n : Node) (f : Form) (w : ℕ) (p : Pos) → fixed_form f ≡ Fixed w → p.at ≤ length inp → Cut inp p.at w → value_of inp lim rec n f p ≡ Refused (Truncated n.code p.at)
+    scalar_refused : (n : Node) (f : Form) (w : ℕ) (p : Pos) → fixed_form f ≡ Some w → p.at ≤ length inp → Cut inp p.at w → value_of inp lim rec n f p ≡ Refused (Truncated n.code p.at)
     unfolding value_of fixed_form ◌>>=◌
     scalar_refused n empty w p e h c = absurd (omega (arith, one_width e))
     scalar_refused n truth w p e h c = rw (number_cut 1 n.code p h (rw (one_width e) c))

@@ -1,5 +1,6 @@
 -- Why a row is refused, under a format that is accepted: just for the reason that is there, and there is no second one.
 -- Assumes nothing.
+use Rattle.std.proofs.Common.{Ok}
 use Prim.Native.Nat.{ℕ, ◌+◌, ◌≤◌}
 use mathlib.Core.Path.{◌≡◌, refl, sym, ◌∙◌}
 use mathlib.Core.Bool.{Bool, true, false}
@@ -20,7 +21,6 @@ use Rattle.rules.specs.Reading.{start, root_from, row_at, schema_in, schema_of}
 use Rattle.rules.specs.Reasons.{Number, RowReason, cut-table-tag, missing_table, in_root, RowJudged, is_accepted, is_refused}
 use Rattle.rules.specs.declared.table_record.Located.TheVariants.{NoTable}
 use Rattle.rules.specs.declared.refusal.Refusal.{Refusal}
-use Rattle.rules.specs.declared.answer.Checked.TheVariants.{Accepted}
 use Rattle.rules.proofs.Stands.{length-le}
 use Rattle.block_laws.proofs.Tables.{table_schema_lem}
 use Rattle.row_laws.proofs.Span.{in_end}
@@ -37,7 +37,7 @@ not_both {a = a} {q = q} {r = r} e = omega (arith, differ e)
     differ : Got a q ≡ Refused r → ◌≡◌ {A = ℕ} 0 1
     differ e = cc
 
-module _ (f : Format) (inp : List ℕ) (lim : Limits) (at : ℕ) (ok : format_rules f ≡ Accepted) where
+module _ (f : Format) (inp : List ℕ) (lim : Limits) (at : ℕ) (ok : format_rules f ≡ Ok tt) where
   -- the schema of a table that is there
   root_tree : {t : ℕ} (s : TableSchema f t) → schema_of f t ≡ tree_at (block f.table s.first s.count) f.names 64 0
   unfolding schema_of schema_in

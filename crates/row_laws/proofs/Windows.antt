@@ -1,5 +1,8 @@
 -- A stream that is read in windows: the run over its first bytes, and what more bytes make of it.
 -- Assumes nothing.
+use Rattle.rules.specs.declared.answer.Extent.{Extent}
+use Rattle.std.specs.Prelude.{⊤}
+use Rattle.std.proofs.Common.{Result, Option, Ok, Err, Some, None}
 use Prim.Native.Nat.{ℕ, zero, suc, ◌+◌, ◌-◌, ◌≤◌, ◌<◌}
 use mathlib.Core.Path.{◌≡◌, refl, sym, ap, ◌∙◌}
 use mathlib.Core.Bool.{Bool, true, false}
@@ -21,13 +24,8 @@ use Rattle.rules.specs.Reading.{settings_ok, limits, when_accepted, door, throug
 use Rattle.rules.specs.Windows.{moved, PlaceInside, moved_answer, WasCut, moved_stop, moved_row, goes_on, continued, added, run_after}
 use Rattle.rules.specs.declared.settings.Settings.{Settings}
 use Rattle.rules.specs.declared.refusal.Refusal.{Refusal}
-use Rattle.rules.specs.declared.answer.Checked.{Checked}
 use Rattle.rules.specs.declared.answer.Door.{Door}
-use Rattle.rules.specs.declared.answer.Door.TheVariants as door-is
-use Rattle.rules.specs.declared.answer.Read.{Read}
-use Rattle.rules.specs.declared.answer.Read.TheVariants.{Row, End, Refused}
 use Rattle.rules.specs.declared.answer.RowSpan.{RowSpan}
-use Rattle.rules.specs.declared.answer.Stop.{Stop}
 use Rattle.rules.specs.declared.answer.Ran.{Ran}
 use Rattle.rules.proofs.Tests.{and_false}
 use Rattle.block_laws.proofs.FormatReasons.{format_stays}
@@ -38,10 +36,10 @@ use Rattle.row_laws.proofs.Parts.{moved_none, row_stays, row_moves, row_inside}
 -- ---- skip
 
 -- bytes to come can't change the answer
-unfoldable Settled : Read → Type 0
-Settled (Row e) = Unit
-Settled End = ⊥
-Settled (Refused r) = refusal_number r ≡ 12 → ⊥
+unfoldable Settled : Result (Option Extent) Refusal → Type 0
+Settled (Ok (Some e)) = Unit
+Settled (Ok None) = ⊥
+Settled (Err r) = refusal_number r ≡ 12 → ⊥
 
 skip_stays : (f : Format) (inp more : List ℕ) (lim : Limits) (at : ℕ) → at ≤ length inp → Settled (skip_from f inp lim at) → skip_from f (inp ++ more) lim at ≡ skip_from f inp lim at
 unfolding skip_from skipped pick Settled WasCut
@@ -51,15 +49,15 @@ skip_stays f inp more lim at h s = by (eqb at (length inp)) refl s
     uncut (Got (t, v) q) s = λ w. w
     uncut (Answer.Refused r) s = s
 
-    by : (b : Bool) → eqb at (length inp) ≡ b → Settled (pick b End (skipped at (row_at f inp lim at))) → skip_from f (inp ++ more) lim at ≡ pick b End (skipped at (row_at f inp lim at))
+    by : (b : Bool) → eqb at (length inp) ≡ b → Settled (pick b (Ok None) (skipped at (row_at f inp lim at))) → skip_from f (inp ++ more) lim at ≡ pick b (Ok None) (skipped at (row_at f inp lim at))
     by true e s = absurd s
     by false e s =
         rw (ne_eqb at (length (inp ++ more)) (λ z. eqb-false at (length inp) e (omega (arith, length-append inp more))), row_stays f inp more lim at h (uncut (row_at f inp lim at) s))
 
-unfoldable moved_read : ℕ → Read → Read
-moved_read n (Row e) = Row e
-moved_read n End = End
-moved_read n (Refused r) = Refused (moved n r)
+unfoldable moved_read : ℕ → Result (Option Extent) Refusal → Result (Option Extent) Refusal
+moved_read n (Ok (Some e)) = Ok (Some e)
+moved_read n (Ok None) = Ok None
+moved_read n (Err r) = Err (moved n r)
 
 skip_moves : (f : Format) (inp : List ℕ) (lim : Limits) (n at : ℕ) → n ≤ length inp → at ≤ length (drop n inp) → skip_from f inp lim (at + n) ≡ moved_read n (skip_from f (drop n inp) lim at)
 unfolding skip_from skipped pick moved_read
@@ -69,7 +67,7 @@ skip_moves f inp lim n at h l = by (eqb at (length (drop n inp))) refl
     row (Got (t, v) q) = unfold moved_answer extent in let e : (q.at + n) - (at + n) ≡ q.at - at = omega arith in rw e
     row (Answer.Refused r) = unfold moved_answer in refl
 
-    by : (b : Bool) → eqb at (length (drop n inp)) ≡ b → skip_from f inp lim (at + n) ≡ moved_read n (pick b End (skipped at (row_at f (drop n inp) lim at)))
+    by : (b : Bool) → eqb at (length (drop n inp)) ≡ b → skip_from f inp lim (at + n) ≡ moved_read n (pick b (Ok None) (skipped at (row_at f (drop n inp) lim at)))
     by true e = rw (eq-eqb (at + n) (length inp) (omega (arith, length-drop n inp, eqb-true at (length (drop n inp)) e)))
     by false e =
         rw (ne_eqb (at + n) (length inp) (λ z. eqb-false at (length (drop n inp)) e (omega (arith, length-drop n inp))), row_moves f inp lim n at h l) (row (row_at f (drop n inp) lim at))
@@ -78,7 +76,7 @@ skip_moves f inp lim n at h l = by (eqb at (length (drop n inp))) refl
 
 module _ (f : Format) (lim : Limits) where
   -- the run is what skip iterates to
-  run_is : (inp : List ℕ) → Bytes inp → (enough at : ℕ) {rows : List RowSpan} {stop : Stop} → at ≤ length inp → length inp - at < enough → Iterates f inp lim at rows stop → run_from f inp lim enough at ≡ record { rows = rows; stop = stop }
+  run_is : (inp : List ℕ) → Bytes inp → (enough at : ℕ) {rows : List RowSpan} {stop : Result ⊤ Refusal} → at ≤ length inp → length inp - at < enough → Iterates f inp lim at rows stop → run_from f inp lim enough at ≡ record { rows = rows; stop = stop }
   unfolding run_from go_on
   run_is inp bs zero at h l i = absurd (omega arith)
   run_is inp bs (suc enough) at h l (ended e) = rw e
@@ -88,7 +86,7 @@ module _ (f : Format) (lim : Limits) where
       rw (e, run_is inp bs enough (at + x.bytes) g.1 (omega (arith, g)) i)
 
   -- each row has at least two bytes, and all lie in the input
-  rows_inside : (inp : List ℕ) → Bytes inp → {at : ℕ} {rows : List RowSpan} {stop : Stop} → at ≤ length inp → Iterates f inp lim at rows stop → (row_count rows ≤ byte_count rows) × (at + byte_count rows ≤ length inp)
+  rows_inside : (inp : List ℕ) → Bytes inp → {at : ℕ} {rows : List RowSpan} {stop : Result ⊤ Refusal} → at ≤ length inp → Iterates f inp lim at rows stop → (row_count rows ≤ byte_count rows) × (at + byte_count rows ≤ length inp)
   unfolding row_count byte_count
   rows_inside inp bs h (ended e) = (omega arith, omega arith)
   rows_inside inp bs h (refused e) = (omega arith, omega arith)
@@ -99,7 +97,7 @@ module _ (f : Format) (lim : Limits) where
 
   module _ (inp more : List ℕ) (bs : Bytes inp) where
     -- rows that are accepted stay so where more bytes come after, and the run goes on from their end
-    goes_on_lem : {at : ℕ} {rows rest : List RowSpan} {stop last : Stop} → at ≤ length inp → goes_on stop ≡ true → Iterates f inp lim at rows stop → Iterates f (inp ++ more) lim (at + byte_count rows) rest last → Iterates f (inp ++ more) lim at (rows ++ rest) last
+    goes_on_lem : {at : ℕ} {rows rest : List RowSpan} {stop last : Result ⊤ Refusal} → at ≤ length inp → goes_on stop ≡ true → Iterates f inp lim at rows stop → Iterates f (inp ++ more) lim (at + byte_count rows) rest last → Iterates f (inp ++ more) lim at (rows ++ rest) last
     unfolding byte_count Settled
     goes_on_lem {at = at} h g (ended e) i = rw (add-zero at) at i
     goes_on_lem {at = at} h g (refused e) i = rw (add-zero at) at i
@@ -109,14 +107,14 @@ module _ (f : Format) (lim : Limits) where
         accepted (skip_stays f inp more lim at h (rw e tt) ∙ e) (goes_on_lem b.1 g i (rw z at j))
 
     -- a run that is refused by another number than 12 stays as it is
-    stays : {at : ℕ} {rows : List RowSpan} {stop : Stop} → at ≤ length inp → goes_on stop ≡ false → Iterates f inp lim at rows stop → Iterates f (inp ++ more) lim at rows stop
+    stays : {at : ℕ} {rows : List RowSpan} {stop : Result ⊤ Refusal} → at ≤ length inp → goes_on stop ≡ false → Iterates f inp lim at rows stop → Iterates f (inp ++ more) lim at rows stop
     unfolding goes_on Settled
     stays h g (ended e) = let z : ◌≡◌ {A = ℕ} 0 1 = cc in absurd (omega arith)
     stays {at = at} h g (refused e) = refused (skip_stays f inp more lim at h (rw e (eqb-false _ _ g)) ∙ e)
     stays {at = at} h g (accepted {e = x} e i) = accepted (skip_stays f inp more lim at h (rw e tt) ∙ e) (stays (skip_goes f inp lim bs at x h e).1 g i)
 
   -- the rows of a stream without its first n bytes are those of the stream from there on
-  moves : (inp : List ℕ) (n : ℕ) → Bytes (drop n inp) → n ≤ length inp → {at : ℕ} {rows : List RowSpan} {stop : Stop} → at ≤ length (drop n inp) → Iterates f (drop n inp) lim at rows stop → Iterates f inp lim (at + n) (map (moved_row n) rows) (moved_stop n stop)
+  moves : (inp : List ℕ) (n : ℕ) → Bytes (drop n inp) → n ≤ length inp → {at : ℕ} {rows : List RowSpan} {stop : Result ⊤ Refusal} → at ≤ length (drop n inp) → Iterates f (drop n inp) lim at rows stop → Iterates f inp lim (at + n) (map (moved_row n) rows) (moved_stop n stop)
   unfolding moved_read moved_stop
   moves inp n bs m {at = at} h (ended e) = ended (skip_moves f inp lim n at m h ∙ rw e)
   moves inp n bs m {at = at} h (refused {r = r} e) = refused {r = moved n r} (skip_moves f inp lim n at m h ∙ rw e)
@@ -162,7 +160,7 @@ module _ (f : Format) (lim : Limits) (inp more : List ℕ) (bs : Bytes (inp ++ m
 -- ---- the calls
 
 -- a format that is refused, or a setting, and else the run
-abbrev begun : Bool → Checked → Run → Run
+abbrev begun : Bool → Result ⊤ Refusal → Run → Run
 begun b c r = pick b (when_accepted refused_run c r) (refused_run Setting)
 
 module _ (f : Format) (s : Settings) where
@@ -178,11 +176,11 @@ module _ (f : Format) (s : Settings) where
       rw (le-leb (length inp) 4294967295 h, le-leb 0 (length inp) (omega arith), and_short (settings_ok s and sizes_ok f), and_short (settings_ok s and sizes_ok f))
       (by (settings_ok s and sizes_ok f) (format_rules f) (eqb 0 (length inp)) refl)
     where
-      by : (b : Bool) (c : Checked) (last : Bool) → eqb 0 (length inp) ≡ last →
-          through (pick b (when_accepted door-is.Refused c (pick last door-is.End door-is.Open)) (door-is.Refused Setting)) refused_run ended_run (run_over f (limits s) inp) ≡ begun b c (run_over f (limits s) inp)
-      by true Checked.Accepted true e = unfold pick when_accepted through ended_run run_from go_on skip_from in rw e
-      by true Checked.Accepted false e = unfold pick when_accepted through in refl
-      by true (Checked.Refused r) last e = unfold pick when_accepted through in refl
+      by : (b : Bool) (c : Result ⊤ Refusal) (last : Bool) → eqb 0 (length inp) ≡ last →
+          through (pick b (when_accepted Err c (pick last (Ok Door.End) (Ok Door.Open))) (Err Setting)) refused_run ended_run (run_over f (limits s) inp) ≡ begun b c (run_over f (limits s) inp)
+      by true (Ok tt) true e = unfold pick when_accepted through ended_run run_from go_on skip_from in rw e
+      by true (Ok tt) false e = unfold pick when_accepted through in refl
+      by true (Err r) last e = unfold pick when_accepted through in refl
       by false c last e = unfold pick through in refl
 
   module _ (inp more : List ℕ) (bs : Bytes (inp ++ more)) (short : length (inp ++ more) ≤ 4294967295) where
@@ -200,9 +198,9 @@ module _ (f : Format) (s : Settings) where
         twice : (r : Refusal) → refused_run r ≡ continued (refused_run r) (refused_run r)
         twice r = unfold refused_run continued moved_stop byte_count in rw (moved_none r)
 
-        by : (b : Bool) (c : Checked) → goes_on (begun b c (run_over f (limits s) inp)).stop ≡ true → begun b c (run_over f (limits s) (inp ++ more)) ≡ continued (begun b c (run_over f (limits s) inp)) (begun b c (run_over f (limits s) (drop (byte_count (begun b c (run_over f (limits s) inp)).rows) (inp ++ more))))
-        by true Checked.Accepted g = run_continued f (limits s) inp more bs g
-        by true (Checked.Refused r) g = twice r
+        by : (b : Bool) (c : Result ⊤ Refusal) → goes_on (begun b c (run_over f (limits s) inp)).stop ≡ true → begun b c (run_over f (limits s) (inp ++ more)) ≡ continued (begun b c (run_over f (limits s) inp)) (begun b c (run_over f (limits s) (drop (byte_count (begun b c (run_over f (limits s) inp)).rows) (inp ++ more))))
+        by true (Ok tt) g = run_continued f (limits s) inp more bs g
+        by true (Err r) g = twice r
         by false c g = twice Setting
 
     -- and where it was refused by another number, that is the run over all
@@ -210,9 +208,9 @@ module _ (f : Format) (s : Settings) where
     unfolding pick when_accepted
     refused_in_windows g = rw (first, run_begun (inp ++ more) short) (by (settings_ok s and sizes_ok f) (format_rules f) (rw first at g))
       where
-        by : (b : Bool) (c : Checked) → goes_on (begun b c (run_over f (limits s) inp)).stop ≡ false → begun b c (run_over f (limits s) (inp ++ more)) ≡ begun b c (run_over f (limits s) inp)
-        by true Checked.Accepted g = run_stays f (limits s) inp more bs g
-        by true (Checked.Refused r) g = refl
+        by : (b : Bool) (c : Result ⊤ Refusal) → goes_on (begun b c (run_over f (limits s) inp)).stop ≡ false → begun b c (run_over f (limits s) (inp ++ more)) ≡ begun b c (run_over f (limits s) inp)
+        by true (Ok tt) g = run_stays f (limits s) inp more bs g
+        by true (Err r) g = refl
         by false c g = refl
 
 -- ---- in counts
@@ -239,22 +237,22 @@ module _ (f : Format) (s : Settings) (inp more : List ℕ) (bs : Bytes (inp ++ m
 pub record RanInside (n : ℕ) (r : Ran) : Type 0 where
   pub few : r.rows ≤ r.bytes
   pub within : r.bytes ≤ n
-  pub placed : (why : Refusal) → r.stop ≡ Stop.Refused why → PlaceInside n why
+  pub placed : (why : Refusal) → r.stop ≡ Err why → PlaceInside n why
 
 module _ (f : Format) (s : Settings) (inp : List ℕ) (bs : Bytes inp) where
-  skip_inside : {at : ℕ} → at ≤ length inp → (why : Refusal) → skip_from f inp (limits s) at ≡ Refused why → PlaceInside (length inp) why
+  skip_inside : {at : ℕ} → at ≤ length inp → (why : Refusal) → skip_from f inp (limits s) at ≡ Err why → PlaceInside (length inp) why
   unfolding skip_from skipped pick
   skip_inside {at = at} h why e = by (eqb at (length inp)) e
     where
-      got : (a : Answer (ℕ × Value)) → row_at f inp (limits s) at ≡ a → skipped at a ≡ Refused why → PlaceInside (length inp) why
+      got : (a : Answer (ℕ × Value)) → row_at f inp (limits s) at ≡ a → skipped at a ≡ Err why → PlaceInside (length inp) why
       got (Got (t, v) q) k e = let z : ◌≡◌ {A = ℕ} 0 1 = cc in absurd (omega arith)
       got (Answer.Refused r) k e = let z : r ≡ why = cc in row_inside f inp (limits s) at h why (rw z at k)
 
-      by : (b : Bool) → pick b End (skipped at (row_at f inp (limits s) at)) ≡ Refused why → PlaceInside (length inp) why
+      by : (b : Bool) → pick b (Ok None) (skipped at (row_at f inp (limits s) at)) ≡ Err why → PlaceInside (length inp) why
       by true e = let z : ◌≡◌ {A = ℕ} 0 1 = cc in absurd (omega arith)
       by false e = got (row_at f inp (limits s) at) refl e
 
-  stop_inside : {at : ℕ} {rows : List RowSpan} {stop : Stop} → at ≤ length inp → Iterates f inp (limits s) at rows stop → (why : Refusal) → stop ≡ Stop.Refused why → PlaceInside (length inp) why
+  stop_inside : {at : ℕ} {rows : List RowSpan} {stop : Result ⊤ Refusal} → at ≤ length inp → Iterates f inp (limits s) at rows stop → (why : Refusal) → stop ≡ Err why → PlaceInside (length inp) why
   stop_inside h (ended e) why k = let z : ◌≡◌ {A = ℕ} 0 1 = cc in absurd (omega arith)
   stop_inside h (refused {r = r} e) why k = let z : r ≡ why = cc in skip_inside h why (rw z at e)
   stop_inside {at = at} h (accepted {e = x} e i) why k = stop_inside (skip_goes f inp (limits s) bs at x h e).1 i why k
@@ -264,17 +262,17 @@ module _ (f : Format) (s : Settings) (inp : List ℕ) (bs : Bytes inp) where
   unfolding run_rule ran_of row_count byte_count through ended_run refused_run
   ran_inside = by (door f s inp 0) refl
     where
-      none : (why : Refusal) → (why ≡ Setting) ⊎ (format_rule f ≡ Checked.Refused why) → PlaceInside (length inp) why
+      none : (why : Refusal) → (why ≡ Setting) ⊎ (format_rule f ≡ Err why) → PlaceInside (length inp) why
       none why (inl e) = unfold line_of in rw e (λ l. omega arith)
       none why (inr e) = λ l. let w : false ≡ true = sym (format_stays f why e) ∙ l in let n : ◌≡◌ {A = ℕ} 0 1 = cc in absurd (omega arith)
 
-      by : (d : Door) → door f s inp 0 ≡ d → RanInside (length inp) (ran_of (through d refused_run ended_run (run_over f (limits s) inp)))
-      by door-is.Open e =
+      by : (d : Result Door Refusal) → door f s inp 0 ≡ d → RanInside (length inp) (ran_of (through d refused_run ended_run (run_over f (limits s) inp)))
+      by (Ok Door.Open) e =
           let i = run_iterates f inp (limits s) bs (suc (length inp)) 0 (omega arith) (omega arith) in
           let r = rows_inside f (limits s) inp bs (omega arith) i in
           record { few = r.0; within = omega (arith, r.1); placed = stop_inside (omega arith) i }
-      by door-is.End e = record { few = omega arith; within = omega arith; placed = λ why k. let z : ◌≡◌ {A = ℕ} 0 1 = cc in absurd (omega arith) }
-      by (door-is.Refused r) e = record { few = omega arith; within = omega arith; placed = λ why k. let z : r ≡ why = cc in rw (← z) (none r (refused_at_door f s inp 0 r e)) }
+      by (Ok Door.End) e = record { few = omega arith; within = omega arith; placed = λ why k. let z : ◌≡◌ {A = ℕ} 0 1 = cc in absurd (omega arith) }
+      by (Err r) e = record { few = omega arith; within = omega arith; placed = λ why k. let z : r ≡ why = cc in rw (← z) (none r (refused_at_door f s inp 0 r e)) }
 
 -- ---- the run after some rows
 
@@ -296,6 +294,6 @@ module _ (f : Format) (s : Settings) (inp more : List ℕ) (bs : Bytes (inp ++ m
       whole : so_far.bytes + length left ≡ length (inp ++ more)
       whole = omega (arith, inside.within, length-append inp more, length-drop so_far.bytes (inp ++ more))
 
-      by : (b : Bool) → leb (length (inp ++ more)) 4294967295 ≡ b → pick b (added (record { rows = so_far.rows; bytes = so_far.bytes; stop = Stop.End }) (ran_of (run_rule f s left))) (ran_of (refused_run Setting)) ≡ ran_of (run_rule f s (inp ++ more))
+      by : (b : Bool) → leb (length (inp ++ more)) 4294967295 ≡ b → pick b (added (record { rows = so_far.rows; bytes = so_far.bytes; stop = Ok tt }) (ran_of (run_rule f s left))) (ran_of (refused_run Setting)) ≡ ran_of (run_rule f s (inp ++ more))
       by true e = unfold added in sym (ran_in_windows f s inp more bs (leb-true _ _ e) g)
       by false e = unfold run_rule door through in rw (e, and_false (settings_ok s and sizes_ok f))

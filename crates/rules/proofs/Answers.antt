@@ -1,5 +1,7 @@
 -- Where the number is 0, nothing is refused; and a row is known by what is said of it.
 -- Assumes nothing.
+use Rattle.std.specs.Prelude.{⊤}
+use Rattle.std.proofs.Common.{Result, Option, Ok, Err, Some, None}
 use Prim.Native.Nat.{ℕ}
 use mathlib.Core.Path.{◌≡◌, refl, ap}
 use mathlib.Core.Logic.{◌↔◌}
@@ -9,10 +11,7 @@ use Rattle.rules.specs.Answers.{Said, said, none_said, row_said, read_said, chec
 use Rattle.rules.specs.declared.refusal.Refusal.{Refusal}
 use Rattle.rules.specs.declared.refusal.Why.{Why}
 use Rattle.rules.specs.declared.refusal.Why.TheVariants as why
-use Rattle.rules.specs.declared.answer.Checked.{Checked}
-use Rattle.rules.specs.declared.answer.Checked.TheVariants.{Accepted, Refused}
 use Rattle.rules.specs.declared.answer.Extent.{Extent}
-use Rattle.rules.specs.declared.answer.Read.{Read}
 
 -- no refusal has the number 0
 line_number : (w : Why) → (line_of w).number ≡ 0 → ⊥
@@ -48,13 +47,13 @@ unfolding said
 refusal_number_lem r e = line_number r.why e
 
 -- a check says 0 just if it accepts
-pub check_number : {P : Type 0} (c : Checked) → (c ≡ Accepted) ↔ P → ((checked_said c).number ≡ 0) ↔ P
+pub check_number : {P : Type 0} (c : Result ⊤ Refusal) → (c ≡ Ok tt) ↔ P → ((checked_said c).number ≡ 0) ↔ P
 unfolding checked_said none_said
 check_number c i = (λ h. i.0 (by c h), λ p. rw (i.1 p))
   where
-    by : (c : Checked) → (checked_said c).number ≡ 0 → c ≡ Accepted
-    by Accepted e = refl
-    by (Refused r) e = absurd (refusal_number_lem r e)
+    by : (c : Result ⊤ Refusal) → (checked_said c).number ≡ 0 → c ≡ Ok tt
+    by (Ok tt) e = refl
+    by (Err r) e = absurd (refusal_number_lem r e)
 
 -- two rows that say the same are one
 pub one_row : (x y : Extent) → row_said x ≡ row_said y → x ≡ y
@@ -69,8 +68,8 @@ one_row x y e =
     w
 
 -- reading that says a row answers it
-pub read_row : (a : Read) (e : Extent) → read_said a ≡ row_said e → a ≡ Read.Row e
+pub read_row : (a : Result (Option Extent) Refusal) (e : Extent) → read_said a ≡ row_said e → a ≡ Ok (Some e)
 unfolding read_said none_said row_said
-read_row (Read.Row x) e h = ap Read.Row (one_row x e h)
-read_row Read.End e h = let g = ap (λ (z : Said). z.carries) h in let z : ◌≡◌ {A = ℕ} 0 1 = cc in absurd (omega arith)
-read_row (Read.Refused r) e h = absurd (refusal_number_lem r (ap (λ (z : Said). z.number) h))
+read_row (Ok (Some x)) e h = ap (λ x. Ok (Some x)) (one_row x e h)
+read_row (Ok None) e h = let g = ap (λ (z : Said). z.carries) h in let z : ◌≡◌ {A = ℕ} 0 1 = cc in absurd (omega arith)
+read_row (Err r) e h = absurd (refusal_number_lem r (ap (λ (z : Said). z.number) h))

@@ -1,5 +1,6 @@
 -- Wire codes past the last one, and what holds of every code's form.
 -- Assumes nothing.
+use Rattle.std.proofs.Common.{None}
 use Prim.Native.Nat.{ℕ, zero, suc, ◌≤◌}
 use mathlib.Core.Path.{◌≡◌, refl}
 use mathlib.Core.Bool.{Bool, true, false}
@@ -11,10 +12,9 @@ use lib.ListN.{length}
 use Rattle.rules.specs.Choice.{all}
 use Rattle.rules.specs.Wire.{Form, unknown, form, written_if, type_of, type_in, wire_types}
 use Rattle.rules.specs.declared.wire_type.WireType.{WireType}
-use Rattle.rules.specs.declared.wire_type.Known.TheVariants.{Unknown}
 use Rattle.rules.proofs.Tests.{all_each}
 
-pub no_type : (ts : List WireType) (code : ℕ) → length ts ≤ code → type_in ts code ≡ Unknown
+pub no_type : (ts : List WireType) (code : ℕ) → length ts ≤ code → type_in ts code ≡ None
 unfolding type_in
 no_type [] code h = refl
 no_type (t ∷ ts) zero h = absurd (omega arith)

@@ -1,20 +1,14 @@
 -- What each answer says in document 01's numbers. A refusal says its number, its place and what it carries; where nothing is refused the
 -- number is 0, and what is returned stands where a refusal's values stand.
 -- Assumes nothing: these are definitions.
-use Rattle.std.specs.Prelude.{ℕ, List, [], ◌∷◌, map, ℤ, pos}
+use Rattle.std.specs.Prelude.{ℕ, List, [], ◌∷◌, map, ℤ, pos, Result, Option, Ok, Err, Some, None, ⊤}
 use Rattle.std.specs.Float.{binary64}
 use Rattle.std.specs.Float.Ieee.{to_bits}
 use Rattle.rules.specs.Refusals.{line_of, refusal_number}
 use Rattle.rules.specs.ValueTable.{bit}
 use Rattle.rules.specs.declared.refusal.Refusal.{Refusal}
-use Rattle.rules.specs.declared.answer.Checked.{Checked}
 use Rattle.rules.specs.declared.answer.Extent.{Extent}
-use Rattle.rules.specs.declared.answer.Read.{Read}
-use Rattle.rules.specs.declared.answer.Stop.{Stop}
-use Rattle.rules.specs.declared.answer.Written.{Written}
-use Rattle.rules.specs.declared.answer.TextWritten.{TextWritten}
 use Rattle.rules.specs.declared.host_answer.Scalar.{Scalar}
-use Rattle.rules.specs.declared.host_answer.Queried.{Queried}
 
 -- number, place, and then what is carried or returned
 pub record Said : Type 0 where
@@ -35,30 +29,30 @@ unfoldable pub row_said : Extent → Said
 row_said e = record { number = 0; place = 0; carries = e.table ∷ e.bytes ∷ e.records ∷ e.payload ∷ [] }
 
 -- reading: a row, the end of the stream, or a refusal
-unfoldable pub read_said : Read → Said
-read_said (Read.Row e) = row_said e
-read_said Read.End = none_said
-read_said (Read.Refused r) = said r
+unfoldable pub read_said : Result (Option Extent) Refusal → Said
+read_said (Ok (Some e)) = row_said e
+read_said (Ok None) = none_said
+read_said (Err r) = said r
 
 -- a run stops at the end, or at the first refusal
-unfoldable pub stop_said : Stop → Said
-stop_said Stop.End = none_said
-stop_said (Stop.Refused r) = said r
+unfoldable pub stop_said : Result ⊤ Refusal → Said
+stop_said (Ok tt) = none_said
+stop_said (Err r) = said r
 
 -- encoding: a row, or a refusal
-unfoldable pub written_said : Written → Said
-written_said (Written.Row e) = row_said e
-written_said (Written.Refused r) = said r
+unfoldable pub written_said : Result Extent Refusal → Said
+written_said (Ok e) = row_said e
+written_said (Err r) = said r
 
 -- a text: its bytes, or a refusal
-unfoldable pub text_said : TextWritten → Said
-text_said (TextWritten.Text n) = record { number = 0; place = 0; carries = n ∷ [] }
-text_said (TextWritten.Refused r) = said r
+unfoldable pub text_said : Result ℕ Refusal → Said
+text_said (Ok n) = record { number = 0; place = 0; carries = n ∷ [] }
+text_said (Err r) = said r
 
 -- a check: accepted, or a refusal
-unfoldable pub checked_said : Checked → Said
-checked_said Checked.Accepted = none_said
-checked_said (Checked.Refused r) = said r
+unfoldable pub checked_said : Result ⊤ Refusal → Said
+checked_said (Ok tt) = none_said
+checked_said (Err r) = said r
 
 -- ---- what a host is told of one record: its values are numbers of either sign
 
@@ -85,6 +79,6 @@ scalar_values (Scalar.Payload start length) = pos start ∷ pos length ∷ []
 scalar_values (Scalar.Children count) = pos count ∷ []
 
 -- the value query
-unfoldable pub queried_said : Queried → HostSaid
-queried_said (Queried.Value x) = host_said (scalar_values x)
-queried_said (Queried.Refused r) = host_refused r
+unfoldable pub queried_said : Result Scalar Refusal → HostSaid
+queried_said (Ok x) = host_said (scalar_values x)
+queried_said (Err r) = host_refused r

@@ -1,9 +1,8 @@
 -- Bytes in a list and numbers in bytes, over any width. A list of numbers is a slice's contents.
 -- Assumes nothing: these are definitions.
+use Rattle.std.specs.declared.cmp.Ordering.{Ordering}
 use Rattle.std.specs.Prelude.{ℕ, zero, suc, ◌+◌, ◌*◌, ◌/◌, ◌%◌, ◌≤◌, ◌<◌, ◌≡◌, Bool, true, false, List, [], ◌∷◌, length, get_or, set, ltb, eqb}
 use Rattle.rules.specs.Choice.{pick}
-use Rattle.rules.specs.declared.answer.Order.{Order}
-use Rattle.rules.specs.declared.answer.Order.TheVariants.{Less, Equal, Greater}
 
 -- the most bytes that a slice may have which is read, and that count of one which is written
 abbrev pub longest_slice : ℕ
@@ -39,18 +38,18 @@ over s at [] = s
 over s at (x ∷ xs) = over (set s at x) (at + 1) xs
 
 -- two byte strings by their unsigned bytes, a proper prefix first
-unfoldable pub order : List ℕ → List ℕ → Order
-order [] [] = Equal
-order [] (y ∷ ys) = Less
-order (x ∷ xs) [] = Greater
-order (x ∷ xs) (y ∷ ys) = pick (eqb x y) (order xs ys) (pick (ltb x y) Less Greater)
+unfoldable pub order : List ℕ → List ℕ → Ordering
+order [] [] = Ordering.Equal
+order [] (y ∷ ys) = Ordering.Less
+order (x ∷ xs) [] = Ordering.Greater
+order (x ∷ xs) (y ∷ ys) = pick (eqb x y) (order xs ys) (pick (ltb x y) Ordering.Less Ordering.Greater)
 
-unfoldable pub is_less : Order → Bool
-is_less Less = true
-is_less Equal = false
-is_less Greater = false
+unfoldable pub is_less : Ordering → Bool
+is_less Ordering.Less = true
+is_less Ordering.Equal = false
+is_less Ordering.Greater = false
 
-unfoldable pub is_equal : Order → Bool
-is_equal Less = false
-is_equal Equal = true
-is_equal Greater = false
+unfoldable pub is_equal : Ordering → Bool
+is_equal Ordering.Less = false
+is_equal Ordering.Equal = true
+is_equal Ordering.Greater = false

@@ -1,6 +1,7 @@
 -- A format: record table, name store, table references and registry. Its forms, its depths, its names, and the order of its refusals.
 -- Assumes nothing: these are definitions.
-use Rattle.std.specs.Prelude.{ℕ, zero, suc, ◌+◌, ◌*◌, ◌/◌, ◌%◌, ◌≤◌, Bool, true, List, length, get_or, ltb, leb, eqb}
+use Rattle.rules.specs.declared.refusal.Refusal.{Refusal}
+use Rattle.std.specs.Prelude.{ℕ, zero, suc, ◌+◌, ◌*◌, ◌/◌, ◌%◌, ◌≤◌, Bool, true, List, length, get_or, ltb, leb, eqb, Result, Ok, Err, ⊤}
 use Rattle.rules.specs.Choice.{pick, ◌and◌, all}
 use Rattle.rules.specs.Bytes.{le_at, part, order, is_less, is_equal, longest_slice}
 use Rattle.rules.specs.Refusals.{◌then◌, in_order, Setting, BadSchemaTable, TooDeep, NameNotUtf8, EmptyTableSchemas, UnknownRegistryReference}
@@ -12,8 +13,6 @@ use Rattle.rules.specs.declared.table_record.Entry.{Entry}
 use Rattle.rules.specs.declared.table_record.Located.{Located}
 use Rattle.rules.specs.declared.table_record.Located.TheVariants.{Block, NoTable, NoEntry}
 use Rattle.rules.specs.declared.answer.Purpose.{Purpose}
-use Rattle.rules.specs.declared.answer.Checked.{Checked}
-use Rattle.rules.specs.declared.answer.Checked.TheVariants.{Accepted, Refused}
 
 -- the four slices
 pub record Format : Type 0 where
@@ -41,7 +40,7 @@ unfoldable pub block_utf8 : List ℕ → List ℕ → ℕ → ℕ → Bool
 block_utf8 table names first n = names_utf8 (block table first n) names
 
 -- the rules 4 and 5
-unfoldable pub block_rule : List ℕ → ℕ → ℕ → Checked
+unfoldable pub block_rule : List ℕ → ℕ → ℕ → Result ⊤ Refusal
 block_rule table first n = schema_rule (block table first n) first 64 0
 
 -- ---- references and entries
@@ -174,59 +173,59 @@ module _ (f : Format) where
   format_utf8 = all entry_utf8 (entry_count f.registry) and all reference_utf8 tables
 
   -- ---- the Rust's order: no tables; registry schemas in name order; then each table in turn: reference or inline schema, root, names
-  unfoldable pub entry_rule : ℕ → Checked
+  unfoldable pub entry_rule : ℕ → Result ⊤ Refusal
   entry_rule j = block_rule f.table (entry_at f.registry j).first (entry_at f.registry j).count
 
-  unfoldable pub root_of : ℕ → Located → Checked
+  unfoldable pub root_of : ℕ → Located → Result ⊤ Refusal
   root_of t (Block first n) = table_rule Purpose.Format (block f.table first n) first
-  root_of t NoTable = Refused (UnknownRegistryReference t)
-  root_of t NoEntry = Refused (UnknownRegistryReference t)
+  root_of t NoTable = Err (UnknownRegistryReference t)
+  root_of t NoEntry = Err (UnknownRegistryReference t)
 
   -- an inline schema is checked here, a registry's was checked before
-  unfoldable pub inline_rule : Reference → Checked
-  inline_rule r = pick (eqb r.kind 0) (block_rule f.table r.start r.len) Accepted
+  unfoldable pub inline_rule : Reference → Result ⊤ Refusal
+  inline_rule r = pick (eqb r.kind 0) (block_rule f.table r.start r.len) (Ok tt)
 
-  unfoldable pub reference_rule : ℕ → Checked
+  unfoldable pub reference_rule : ℕ → Result ⊤ Refusal
   reference_rule t = let r = reference_at f.references t in inline_rule r then root_of t (resolved f.names f.registry r)
 
-  unfoldable pub rules_order : Checked
+  unfoldable pub rules_order : Result ⊤ Refusal
   rules_order =
-      pick (eqb tables 0) (Refused EmptyTableSchemas)
+      pick (eqb tables 0) (Err EmptyTableSchemas)
       (in_order entry_rule 0 (entry_count f.registry) then in_order reference_rule 0 tables)
 
   unfoldable pub sizes_ok : Bool
   sizes_ok = short_ok f.table and short_ok f.names and short_ok f.references and short_ok f.registry
 
   -- what the check of a format answers, its sizes left aside
-  unfoldable pub format_rules : Checked
+  unfoldable pub format_rules : Result ⊤ Refusal
   format_rules =
-      pick forms_ok (pick depths_ok (pick format_utf8 rules_order (Refused NameNotUtf8)) (Refused TooDeep))
-      (Refused BadSchemaTable)
+      pick forms_ok (pick depths_ok (pick format_utf8 rules_order (Err NameNotUtf8)) (Err TooDeep))
+      (Err BadSchemaTable)
 
   -- what the check of a format answers
-  unfoldable pub format_rule : Checked
-  format_rule = pick sizes_ok format_rules (Refused Setting)
+  unfoldable pub format_rule : Result ⊤ Refusal
+  format_rule = pick sizes_ok format_rules (Err Setting)
 
 -- ---- one block by itself, given by numbers: form, depth, names, and what the rules say of it
-unfoldable pub one_block : List ℕ → List ℕ → ℕ → ℕ → Checked → Checked
+unfoldable pub one_block : List ℕ → List ℕ → ℕ → ℕ → Result ⊤ Refusal → Result ⊤ Refusal
 one_block table names first n rules =
     pick (whole_nodes table and block_form_ok table (length names) first n)
-    (pick (block_depth_ok table first n) (pick (block_utf8 table names first n) rules (Refused NameNotUtf8)) (Refused TooDeep))
-    (Refused BadSchemaTable)
+    (pick (block_depth_ok table first n) (pick (block_utf8 table names first n) rules (Err NameNotUtf8)) (Err TooDeep))
+    (Err BadSchemaTable)
 
 -- what the check of one name answers
-unfoldable pub name_answer : List ℕ → Checked
-name_answer name = pick (short_ok name) (pick (is_utf8 name) Accepted (Refused NameNotUtf8)) (Refused Setting)
+unfoldable pub name_answer : List ℕ → Result ⊤ Refusal
+name_answer name = pick (short_ok name) (pick (is_utf8 name) (Ok tt) (Err NameNotUtf8)) (Err Setting)
 
 -- what the check of a schema alone answers
-unfoldable pub schema_answer : List ℕ → List ℕ → ℕ → ℕ → Checked
+unfoldable pub schema_answer : List ℕ → List ℕ → ℕ → ℕ → Result ⊤ Refusal
 schema_answer table names first n =
-    pick (short_ok table and short_ok names) (one_block table names first n (block_rule table first n)) (Refused Setting)
+    pick (short_ok table and short_ok names) (one_block table names first n (block_rule table first n)) (Err Setting)
 
 -- the encoder checks schema, root, names
-unfoldable pub encoder_rules : List ℕ → List ℕ → ℕ → ℕ → Checked
+unfoldable pub encoder_rules : List ℕ → List ℕ → ℕ → ℕ → Result ⊤ Refusal
 encoder_rules table names first n =
     one_block table names first n (block_rule table first n then table_rule Purpose.Encoder (block table first n) first)
 
-unfoldable pub encoder_rule : List ℕ → List ℕ → ℕ → ℕ → Checked
-encoder_rule table names first n = pick (short_ok table and short_ok names) (encoder_rules table names first n) (Refused Setting)
+unfoldable pub encoder_rule : List ℕ → List ℕ → ℕ → ℕ → Result ⊤ Refusal
+encoder_rule table names first n = pick (short_ok table and short_ok names) (encoder_rules table names first n) (Err Setting)

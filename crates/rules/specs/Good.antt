@@ -1,5 +1,6 @@
 -- What the checks of schemas and formats accept, as facts: good blocks, good schemas, good formats, and the schema that each table then has.
 -- Assumes nothing: these are definitions.
+use Rattle.std.specs.declared.cmp.Ordering.{Ordering}
 use Rattle.std.specs.Prelude.{ℕ, ◌+◌, ◌%◌, ◌≤◌, ◌<◌, ◌≡◌, List, ◌⊎◌, length}
 use Rattle.rules.specs.Bytes.{part, order, longest_slice}
 use Rattle.rules.specs.Utf8.{Utf8}
@@ -7,7 +8,6 @@ use Rattle.rules.specs.Schema.{Schema, deep, Valid, TableRoot}
 use Rattle.rules.specs.Block.{node_size, records, block, Formed, NamesUtf8, block_tree, Denotes, Closed}
 use Rattle.rules.specs.Format.{reference_size, entry_size, entry_count, Format, reference_at, entry_at, entry_name, tables, table_schema}
 use Rattle.rules.specs.Reading.{schema_of}
-use Rattle.rules.specs.declared.answer.Order.TheVariants.{Less}
 use Rattle.rules.specs.declared.table_record.Reference.{Reference}
 use Rattle.rules.specs.declared.table_record.Located.TheVariants.{Block}
 
@@ -38,7 +38,7 @@ pub record GoodTable (table names : List ℕ) (first n : ℕ) : Type 0 where
 
 -- Strictly ascending by bytes: each of n names is less than the one after it.
 abbrev pub Ascending : (ℕ → List ℕ) → ℕ → Type 0
-Ascending name n = (j : ℕ) → j + 1 < n → order (name j) (name (j + 1)) ≡ Less
+Ascending name n = (j : ℕ) → j + 1 < n → order (name j) (name (j + 1)) ≡ Ordering.Less
 
 module _ (f : Format) where
   -- The schema that n records from record `first` on denote, with the names of the format's store.

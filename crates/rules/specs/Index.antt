@@ -1,7 +1,8 @@
 -- The index of a stream: a record for each row that the run accepts, in order, and nothing else; and what is answered by the calls that build
 -- one, check one, extend one after rows were appended, and decode a row by its number.
 -- Assumes nothing: these are definitions.
-use Rattle.std.specs.Prelude.{ℕ, zero, suc, ◌+◌, ◌*◌, ◌/◌, ◌≤◌, ◌≡◌, Bool, true, List, [], ◌∷◌, ◌++◌, length, take, drop, leb, ltb, eqb}
+use Rattle.rules.specs.declared.answer.Extent.{Extent}
+use Rattle.std.specs.Prelude.{ℕ, zero, suc, ◌+◌, ◌*◌, ◌/◌, ◌≤◌, ◌≡◌, Bool, true, List, [], ◌∷◌, ◌++◌, length, take, drop, leb, ltb, eqb, Result, Option, Ok, Err, Some, None, ⊤}
 use Rattle.rules.specs.Choice.{pick, ◌and◌}
 use Rattle.rules.specs.Bytes.{le, le_at, part, over, order, is_equal}
 use Rattle.rules.specs.Format.{Format, short_ok}
@@ -11,9 +12,6 @@ use Rattle.rules.specs.Reading.{limits, door, through, row_at, skipped, Run, row
 use Rattle.rules.specs.declared.settings.Settings.{Settings}
 use Rattle.rules.specs.declared.refusal.Refusal.{Refusal}
 use Rattle.rules.specs.declared.answer.RowSpan.{RowSpan}
-use Rattle.rules.specs.declared.answer.Read.{Read}
-use Rattle.rules.specs.declared.answer.Read.TheVariants.{Row, End}
-use Rattle.rules.specs.declared.answer.Stop.{Stop}
 use Rattle.rules.specs.declared.answer.Ran.{Ran}
 
 -- ---- a record: its size, its bytes, and how one is found and read. Nothing else knows the size or where a field lies
@@ -62,19 +60,19 @@ is_index_of rows bytes = is_equal (order bytes (index_of rows))
 
 -- The index of a stream: its run is not refused, and these are the records of the rows that it accepts.
 pub record IndexOf (f : Format) (s : Settings) (inp index : List ℕ) : Type 0 where
-  pub ended : (run_rule f s inp).stop ≡ Stop.End
+  pub ended : (run_rule f s inp).stop ≡ Ok tt
   pub is : index ≡ index_of (run_rule f s inp).rows
 
 -- ---- after the run: its own refusal goes before all that an index may be refused for, and then nothing is written
 
 -- where the run ends, and where it is refused
-unfoldable pub where_ended : {A : Type 0} → Stop → A → A → A
-where_ended Stop.End ended refused = ended
-where_ended (Stop.Refused r) ended refused = refused
+unfoldable pub where_ended : {A : Type 0} → Result ⊤ Refusal → A → A → A
+where_ended (Ok tt) ended refused = ended
+where_ended (Err r) ended refused = refused
 
 -- the run's counts, and a refusal that comes after it
 unfoldable pub refused_after : Run → Refusal → Ran
-refused_after run r = record { rows = (ran_of run).rows; bytes = (ran_of run).bytes; stop = Stop.Refused r }
+refused_after run r = record { rows = (ran_of run).rows; bytes = (ran_of run).bytes; stop = Err r }
 
 -- an answer, and the index slice afterwards
 pub record Indexed : Type 0 where
@@ -116,17 +114,17 @@ extend_rule f s inp old index =
 -- ---- row n, by record n alone
 
 -- a row that was judged is that of a record: of its table and its length. What is no row is not another one
-unfoldable pub is_that_row : RowSpan → Read → Bool
-is_that_row row (Row e) = eqb e.table row.table and eqb e.bytes row.size
-is_that_row row End = true
-is_that_row row (Read.Refused r) = true
+unfoldable pub is_that_row : RowSpan → Result (Option Extent) Refusal → Bool
+is_that_row row (Ok (Some e)) = eqb e.table row.table and eqb e.bytes row.size
+is_that_row row (Ok None) = true
+is_that_row row (Err r) = true
 
 module _ (f : Format) (inp : List ℕ) (lim : Limits) (rs ps : List ℕ) where
   -- the row at a record's offset: decode's answer there, its own refusal or the room's among them; but 31 before room where the row is another
   unfoldable pub row_of_record : RowSpan → Decoded
   row_of_record row =
       let found = row_at f inp lim row.offset in
-      pick (is_that_row row (skipped row.offset found)) (filled row.offset found rs ps) (untouched (Read.Refused IndexMismatch) rs ps)
+      pick (is_that_row row (skipped row.offset found)) (filled row.offset found rs ps) (untouched (Err IndexMismatch) rs ps)
 
   -- record n is not there (32); its offset is not below the stream's length (31); else its row
   unfoldable pub row_of_index : List ℕ → ℕ → Decoded
@@ -134,16 +132,16 @@ module _ (f : Format) (inp : List ℕ) (lim : Limits) (rs ps : List ℕ) where
       pick (ltb n (index_records_in (length index)))
       (pick (ltb (indexed_at index n).offset (length inp))
       (row_of_record (indexed_at index n))
-      (untouched (Read.Refused IndexMismatch) rs ps))
-      (untouched (Read.Refused NoSuchRow) rs ps)
+      (untouched (Err IndexMismatch) rs ps))
+      (untouched (Err NoSuchRow) rs ps)
 
 -- settings and slices (1); the format; then row n. At the end of the stream, too, there is a record or none.
 unfoldable pub indexed_row_rule : Format → Settings → List ℕ → List ℕ → ℕ → List ℕ → List ℕ → Decoded
 indexed_row_rule f s inp index n rs ps =
     let found = row_of_index f inp (limits s) rs ps index n in
     pick (short_ok index)
-    (through (door f s inp 0) (λ r. untouched (Read.Refused r) rs ps) found found)
-    (untouched (Read.Refused Setting) rs ps)
+    (through (door f s inp 0) (λ r. untouched (Err r) rs ps) found found)
+    (untouched (Err Setting) rs ps)
 
 -- What an accepted build leaves of a slice: the records of the stream's rows from its start, and all other bytes as they were. Read back they
 -- are the very rows that the run accepts, in order.

@@ -1,6 +1,6 @@
 -- The lines that a run is told in.
 -- Assumes nothing: these are definitions.
-use Rattle.std.specs.Prelude.{ℕ, zero, suc, ◌-◌, List, [], ◌∷◌, ◌++◌, Bool, true, false, get_or, ltb, eqb}
+use Rattle.std.specs.Prelude.{ℕ, zero, suc, ◌-◌, List, [], ◌∷◌, ◌++◌, Bool, true, false, get_or, ltb, eqb, Result, Ok, Err, ⊤}
 use Prim.Native.String.{String}
 use Rattle.rules.specs.Choice.{pick}
 use Rattle.rules.specs.Wire.{wire_types}
@@ -12,8 +12,6 @@ use Rattle.rules.specs.declared.refusal.Label.{Label}
 use Rattle.rules.specs.declared.refusal.Label.TheVariants as label
 use Rattle.rules.specs.declared.refusal.Labels.{Labels}
 use Rattle.rules.specs.declared.refusal.Refusal.{Refusal}
-use Rattle.rules.specs.declared.answer.Stop.{Stop}
-use Rattle.rules.specs.declared.answer.Stop.TheVariants.{End, Refused}
 use Rattle.rules.specs.declared.answer.Ran.{Ran}
 
 -- a number in decimal
@@ -122,9 +120,9 @@ refused_line r rows bytes =
     ++ (ascii " " ++ (ascii (line_of r.why).name ++ (carried (labels_of (line_of r.why)) (report_of r).a (report_of r).b (report_of r).c ++ stopped_at r.place rows bytes)))
 
 -- the line of a run
-unfoldable pub run_line_of : ℕ → ℕ → Stop → List ℕ
-run_line_of rows bytes End = end_line rows bytes
-run_line_of rows bytes (Refused r) = refused_line r rows bytes
+unfoldable pub run_line_of : ℕ → ℕ → Result ⊤ Refusal → List ℕ
+run_line_of rows bytes (Ok tt) = end_line rows bytes
+run_line_of rows bytes (Err r) = refused_line r rows bytes
 
 unfoldable pub run_line : Ran → List ℕ
 run_line ran = run_line_of ran.rows ran.bytes ran.stop

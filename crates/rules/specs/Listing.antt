@@ -1,6 +1,7 @@
 -- The listing of a delivery of one inline table: a line for each value record of its rows, and a last line.
 -- Assumes nothing: these are definitions.
-use Rattle.std.specs.Prelude.{ℕ, zero, suc, ◌+◌, ◌-◌, ◌/◌, ◌%◌, List, [], ◌∷◌, ◌++◌, Bool, length, get_or, ltb, leb}
+use Rattle.rules.specs.declared.answer.Extent.{Extent}
+use Rattle.std.specs.Prelude.{ℕ, zero, suc, ◌+◌, ◌-◌, ◌/◌, ◌%◌, List, [], ◌∷◌, ◌++◌, Bool, length, get_or, ltb, leb, Result, Option, Ok, Err, Some, None}
 use Prim.Native.String.{String}
 use Rattle.rules.specs.Choice.{pick, ◌and◌}
 use Rattle.rules.specs.Wire.{form, width_of}
@@ -18,8 +19,6 @@ use Rattle.rules.specs.Walk.{Answer, Got, Refused}
 use Rattle.rules.specs.Reading.{defaults, limits, door, through, row_at, extent, room_for}
 use Rattle.rules.specs.Rows.{one_table, B}
 use Rattle.rules.specs.declared.refusal.Refusal.{Refusal}
-use Rattle.rules.specs.declared.answer.Read.{Read}
-use Rattle.rules.specs.declared.answer.Read.TheVariants.{Row, End}
 
 -- ---- numbers and bytes as text
 
@@ -112,10 +111,10 @@ pub data Piece : Type 0 where
   last_piece : List ℕ → Piece
 
 -- by what reading a row of v at a position answers, after n rows
-unfoldable pub piece_of : ℕ → ℕ → Value → Read → Piece
-piece_of n at v (Row e) = row_piece (row_lines n v) e.bytes
-piece_of n at v End = last_piece (end_line n at)
-piece_of n at v (Read.Refused r) = last_piece (refusal_line r)
+unfoldable pub piece_of : ℕ → ℕ → Value → Result (Option Extent) Refusal → Piece
+piece_of n at v (Ok (Some e)) = row_piece (row_lines n v) e.bytes
+piece_of n at v (Ok None) = last_piece (end_line n at)
+piece_of n at v (Err r) = last_piece (refusal_line r)
 
 -- a row has room for 4,096 records and 65,536 payload bytes
 unfoldable pub row_piece_of : ℕ → ℕ → Answer (ℕ × Value) → Piece

@@ -1,6 +1,6 @@
 -- The names of the wire types, and the wire type that a name names.
 -- Assumes nothing: these are definitions.
-use Rattle.std.specs.Prelude.{ℕ, List, [], ◌∷◌}
+use Rattle.std.specs.Prelude.{ℕ, List, [], ◌∷◌, Option, Some, None}
 use Prim.Native.Char.{code}
 use Prim.Native.String.{String, [] as none, ◌∷◌ as ◌then◌}
 use Rattle.rules.specs.Choice.{pick}
@@ -8,8 +8,6 @@ use Rattle.rules.specs.Bytes.{order, is_equal}
 use Rattle.rules.specs.Wire.{wire_types}
 use Rattle.rules.specs.declared.wire_type.WireType.{WireType}
 use Rattle.rules.specs.declared.wire_type.WireType.TheVariants.{Nothing, Boolean, Int8, Int16, Int32, Int64, Int128, Int256, Uint8, Uint16, Uint32, Uint64, Double, String32, Yson32, Variant8, Variant16, RepeatedVariant8, RepeatedVariant16, Tuple}
-use Rattle.rules.specs.declared.wire_type.Known.{Known}
-use Rattle.rules.specs.declared.wire_type.Known.TheVariants.{Wire, Unknown}
 
 unfoldable pub spelling : WireType → String
 spelling Nothing = "nothing"
@@ -42,10 +40,10 @@ unfoldable pub name_of : WireType → List ℕ
 name_of t = ascii (spelling t)
 
 -- the first of these wire types that has the name
-unfoldable pub parse_in : List WireType → List ℕ → Known
-parse_in [] name = Unknown
-parse_in (t ∷ ts) name = pick (is_equal (order name (name_of t))) (Wire t) (parse_in ts name)
+unfoldable pub parse_in : List WireType → List ℕ → Option WireType
+parse_in [] name = None
+parse_in (t ∷ ts) name = pick (is_equal (order name (name_of t))) (Some t) (parse_in ts name)
 
 -- the wire type of a name: its bytes exactly, nothing trimmed
-unfoldable pub parsed : List ℕ → Known
+unfoldable pub parsed : List ℕ → Option WireType
 parsed name = parse_in wire_types name

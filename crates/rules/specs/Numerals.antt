@@ -1,15 +1,14 @@
 -- Whole numbers as text, in any base up to 16, and the text of an integer of any width: a minus sign where it is negative, then its
 -- magnitude, the most significant digit first, without leading zeros.
 -- Assumes nothing: these are definitions.
-use Rattle.std.specs.Prelude.{ℕ, zero, suc, ◌+◌, ◌/◌, ◌%◌, Bool, true, false, List, [], ◌∷◌, ◌++◌, ℤ, pos, negsuc, length, replicate, ltb, leb}
+use Rattle.rules.specs.declared.refusal.Refusal.{Refusal}
+use Rattle.std.specs.Prelude.{ℕ, zero, suc, ◌+◌, ◌/◌, ◌%◌, Bool, true, false, List, [], ◌∷◌, ◌++◌, ℤ, pos, negsuc, length, replicate, ltb, leb, Result, Ok, Err}
 use Rattle.rules.specs.Choice.{pick, ◌and◌}
 use Rattle.rules.specs.Bytes.{le_at, over}
 use Rattle.rules.specs.Names.{ascii}
 use Rattle.rules.specs.Refusals.{Setting, NoOutputRoom}
 use Rattle.rules.specs.Query.{signed}
 use Rattle.rules.specs.Reading.{room}
-use Rattle.rules.specs.declared.answer.TextWritten.{TextWritten}
-use Rattle.rules.specs.declared.answer.TextWritten.TheVariants.{Text, Refused}
 
 -- ---- numbers
 
@@ -50,21 +49,21 @@ integer_text x = integer_in 16 (signed_bytes x)
 
 -- what a call that writes a text answers, and the slice afterwards
 pub record TextLeft : Type 0 where
-  pub answer : TextWritten
+  pub answer : Result ℕ Refusal
   pub text : List ℕ
 
 -- a text at the start of a slice that has room for it, else 21 with the text's bytes, at place 0
 unfoldable pub text_into : List ℕ → List ℕ → TextLeft
 text_into t s =
-    pick (leb (length t) (room s)) (record { answer = Text (length t); text = over s 0 t })
-    (record { answer = Refused (NoOutputRoom (length t) 0); text = s })
+    pick (leb (length t) (room s)) (record { answer = Ok (length t); text = over s 0 t })
+    (record { answer = Err (NoOutputRoom (length t) 0); text = s })
 
 -- an integer has 1 to 32 bytes (1)
 unfoldable pub integer_width_ok : List ℕ → Bool
 integer_width_ok x = ltb 0 (length x) and leb (length x) 32
 
 unfoldable pub integer_text_rule : List ℕ → List ℕ → TextLeft
-integer_text_rule x s = pick (integer_width_ok x) (text_into (integer_text x) s) (record { answer = Refused Setting; text = s })
+integer_text_rule x s = pick (integer_width_ok x) (text_into (integer_text x) s) (record { answer = Err Setting; text = s })
 
 -- ---- examples: -1, 0, 255, the lowest int128 and the highest, the highest int256
 

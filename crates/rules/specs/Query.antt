@@ -1,7 +1,8 @@
 -- The value query: what one record says. A record is looked at as far as it can be judged alone: its kind, byte 1, its length or count and
 -- its data as its kind demands; not its tag, where its payload starts, or the tree.
 -- Assumes nothing: these are definitions.
-use Rattle.std.specs.Prelude.{ℕ, ◌*◌, ◌^◌, Bool, true, false, List, length, ltb, leb, eqb, ℤ, pos, ◌-ℤ◌}
+use Rattle.rules.specs.declared.refusal.Refusal.{Refusal}
+use Rattle.std.specs.Prelude.{ℕ, ◌*◌, ◌^◌, Bool, true, false, List, length, ltb, leb, eqb, ℤ, pos, ◌-ℤ◌, Result, Ok, Err}
 use Rattle.std.specs.Float.{binary64}
 use Rattle.std.specs.Float.Ieee.{nan_bits, of_bits}
 use Rattle.rules.specs.Choice.{pick, ◌and◌}
@@ -12,10 +13,6 @@ use Rattle.rules.specs.ValueRecord.{value_records_in, whole_value_records, value
 use Rattle.rules.specs.declared.table_record.ValueRecord.{ValueRecord}
 use Rattle.rules.specs.declared.host_answer.Scalar.{Scalar}
 use Rattle.rules.specs.declared.host_answer.Scalar.TheVariants.{Nothing, Truth, Signed, Unsigned, Double, NotANumber, Payload, Children}
-use Rattle.rules.specs.declared.host_answer.Seen.{Seen}
-use Rattle.rules.specs.declared.host_answer.Seen.TheVariants as seen
-use Rattle.rules.specs.declared.host_answer.Queried.{Queried}
-use Rattle.rules.specs.declared.host_answer.Queried.TheVariants as queried
 
 -- ---- a record by itself
 
@@ -50,9 +47,9 @@ unfoldable pub record_good : List ℕ → ℕ → Bool
 record_good table i = whole_value_records (length table) and record_alone (value_record_at table i)
 
 -- record i: 1 where it is not there, then 18
-unfoldable pub record_seen : List ℕ → ℕ → Seen
+unfoldable pub record_seen : List ℕ → ℕ → Result ValueRecord Refusal
 record_seen table i =
-    pick (record_there table i) (pick (record_good table i) (seen.Record (value_record_at table i)) (seen.Refused BadValueTable)) (seen.Refused Setting)
+    pick (record_there table i) (pick (record_good table i) (Ok (value_record_at table i)) (Err BadValueTable)) (Err Setting)
 
 -- ---- what it says
 
@@ -86,10 +83,10 @@ record_said r = pick (ltb r.kind 15) (scalar_said r.kind (form r.kind) r.size r.
 
 -- ---- the query
 
-unfoldable pub queried_of : Seen → Queried
-queried_of (seen.Record r) = queried.Value (record_said r)
-queried_of (seen.Refused r) = queried.Refused r
+unfoldable pub queried_of : Result ValueRecord Refusal → Result Scalar Refusal
+queried_of (Ok r) = Ok (record_said r)
+queried_of (Err r) = Err r
 
 -- the value of record i
-unfoldable pub query_rule : List ℕ → ℕ → Queried
+unfoldable pub query_rule : List ℕ → ℕ → Result Scalar Refusal
 query_rule table i = queried_of (record_seen table i)

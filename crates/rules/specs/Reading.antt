@@ -1,6 +1,6 @@
 -- What reading answers: a row at a position, a run over a whole stream, and what decode leaves in its two slices.
 -- Assumes nothing: these are definitions.
-use Rattle.std.specs.Prelude.{ℕ, zero, suc, ◌+◌, ◌-◌, ◌≤◌, min, ◌≡◌, Bool, List, [], ◌∷◌, length, take, drop, leb, eqb}
+use Rattle.std.specs.Prelude.{ℕ, zero, suc, ◌+◌, ◌-◌, ◌≤◌, min, ◌≡◌, Bool, List, [], ◌∷◌, length, take, drop, leb, eqb, Result, Option, Ok, Err, Some, None, ⊤}
 use Rattle.rules.specs.Choice.{pick, ◌and◌}
 use Rattle.rules.specs.Bytes.{Stands, over, longest_slice}
 use Rattle.rules.specs.Schema.{Schema, no_schema}
@@ -16,14 +16,9 @@ use Rattle.rules.specs.declared.table_record.Located.{Located}
 use Rattle.rules.specs.declared.table_record.Located.TheVariants.{Block, NoTable, NoEntry}
 use Rattle.rules.specs.declared.refusal.Refusal.{Refusal}
 use Rattle.rules.specs.Refusals.{Setting, UnknownRegistryReference, MissingTableSchema, NoNodeRoom, NoPayloadRoom}
-use Rattle.rules.specs.declared.answer.Checked.{Checked}
 use Rattle.rules.specs.declared.answer.Door.{Door}
-use Rattle.rules.specs.declared.answer.Door.TheVariants.{Open}
 use Rattle.rules.specs.declared.answer.Extent.{Extent}
 use Rattle.rules.specs.declared.answer.RowSpan.{RowSpan}
-use Rattle.rules.specs.declared.answer.Read.{Read}
-use Rattle.rules.specs.declared.answer.Read.TheVariants.{Row, End}
-use Rattle.rules.specs.declared.answer.Stop.{Stop}
 use Rattle.rules.specs.declared.answer.Ran.{Ran}
 
 -- what each limit of the settings may be at most
@@ -46,26 +41,26 @@ defaults = record { node_charge = 48; max_string32_bytes = 134217728; max_yson32
 -- ---- the door: what is judged before a row is read
 
 -- what is answered once a format is checked
-unfoldable pub when_accepted : {A : Type 0} → (Refusal → A) → Checked → A → A
-when_accepted refuse Checked.Accepted a = a
-when_accepted refuse (Checked.Refused r) a = refuse r
+unfoldable pub when_accepted : {A : Type 0} → (Refusal → A) → Result ⊤ Refusal → A → A
+when_accepted refuse (Ok tt) a = a
+when_accepted refuse (Err r) a = refuse r
 
 -- settings and slices are inside the bounds
 abbrev pub bounds_ok : Settings → Format → List ℕ → Bool
 bounds_ok s f inp = settings_ok s and sizes_ok f and short_ok inp
 
 -- settings, slices and the position (1); the format; the end of the stream; else the row may be read
-unfoldable pub door : Format → Settings → List ℕ → ℕ → Door
+unfoldable pub door : Format → Settings → List ℕ → ℕ → Result Door Refusal
 door f s inp at =
     pick (bounds_ok s f inp and leb at (length inp))
-    (when_accepted Door.Refused (format_rules f) (pick (eqb at (length inp)) Door.End Open))
-    (Door.Refused Setting)
+    (when_accepted Err (format_rules f) (pick (eqb at (length inp)) (Ok Door.End) (Ok Door.Open)))
+    (Err Setting)
 
 -- what a call answers that goes through the door: that it is refused, that the stream ends, or what it finds
-unfoldable pub through : {A : Type 0} → Door → (Refusal → A) → A → A → A
-through Open refuse end found = found
-through Door.End refuse end found = end
-through (Door.Refused r) refuse end found = refuse r
+unfoldable pub through : {A : Type 0} → Result Door Refusal → (Refusal → A) → A → A → A
+through (Ok Door.Open) refuse end found = found
+through (Ok Door.End) refuse end found = end
+through (Err r) refuse end found = refuse r
 
 -- ---- a row
 
@@ -110,46 +105,46 @@ module _ (f : Format) where
 unfoldable pub extent : ℕ → ℕ → Pos → Extent
 extent at t q = record { table = t; bytes = q.at - at; records = q.records; payload = q.payload }
 
-unfoldable pub skipped : ℕ → Answer (ℕ × Value) → Read
-skipped at (Got (t, v) q) = Row (extent at t q)
-skipped at (Refused r) = Read.Refused r
+unfoldable pub skipped : ℕ → Answer (ℕ × Value) → Result (Option Extent) Refusal
+skipped at (Got (t, v) q) = Ok (Some (extent at t q))
+skipped at (Refused r) = Err r
 
 -- from a position that lies in the slice, of a format that is accepted: at the slice's end the reader says end of stream
-unfoldable pub skip_from : Format → List ℕ → Limits → ℕ → Read
-skip_from f inp lim at = pick (eqb at (length inp)) End (skipped at (row_at f inp lim at))
+unfoldable pub skip_from : Format → List ℕ → Limits → ℕ → Result (Option Extent) Refusal
+skip_from f inp lim at = pick (eqb at (length inp)) (Ok None) (skipped at (row_at f inp lim at))
 
 -- through the door, the row
-unfoldable pub skip_rule : Format → Settings → List ℕ → ℕ → Read
-skip_rule f s inp at = through (door f s inp at) Read.Refused End (skipped at (row_at f inp (limits s) at))
+unfoldable pub skip_rule : Format → Settings → List ℕ → ℕ → Result (Option Extent) Refusal
+skip_rule f s inp at = through (door f s inp at) Err (Ok None) (skipped at (row_at f inp (limits s) at))
 
 -- ---- the run: the rows that are accepted one after another from a position on, and why it stops
 pub record Run : Type 0 where
   pub rows : List RowSpan
-  pub stop : Stop
+  pub stop : Result ⊤ Refusal
 
 abbrev pub one_more : RowSpan → Run → Run
 one_more row rest = record { rows = row ∷ rest.rows; stop = rest.stop }
 
-unfoldable pub go_on : (ℕ → Run) → ℕ → Read → Run
-go_on rest at (Row e) = one_more (record { offset = at; size = e.bytes; table = e.table }) (rest (at + e.bytes))
-go_on rest at End = record { rows = []; stop = Stop.End }
-go_on rest at (Read.Refused r) = record { rows = []; stop = Stop.Refused r }
+unfoldable pub go_on : (ℕ → Run) → ℕ → Result (Option Extent) Refusal → Run
+go_on rest at (Ok (Some e)) = one_more (record { offset = at; size = e.bytes; table = e.table }) (rest (at + e.bytes))
+go_on rest at (Ok None) = record { rows = []; stop = Ok tt }
+go_on rest at (Err r) = record { rows = []; stop = Err r }
 
 -- each row has at least its tag's two bytes, so as many rows as there are bytes left, and one more, are enough
 unfoldable pub run_from : Format → List ℕ → Limits → ℕ → ℕ → Run
-run_from f inp lim zero at = record { rows = []; stop = Stop.End }
+run_from f inp lim zero at = record { rows = []; stop = Ok tt }
 run_from f inp lim (suc enough) at = go_on (run_from f inp lim enough) at (skip_from f inp lim at)
 
 -- From a position on, skip accepts just these rows one after another, and then stops so.
-pub data Iterated (f : Format) (s : Settings) (inp : List ℕ) : ℕ → List RowSpan → Stop → Type 0 where
+pub data Iterated (f : Format) (s : Settings) (inp : List ℕ) : ℕ → List RowSpan → Result ⊤ Refusal → Type 0 where
   at_end : {at : ℕ} →
-      skip_rule f s inp at ≡ End →
-      Iterated f s inp at [] Stop.End
+      skip_rule f s inp at ≡ Ok None →
+      Iterated f s inp at [] (Ok tt)
   at_refusal : {at : ℕ} {r : Refusal} →
-      skip_rule f s inp at ≡ Read.Refused r →
-      Iterated f s inp at [] (Stop.Refused r)
-  one_row : {at : ℕ} {e : Extent} {rows : List RowSpan} {stop : Stop} →
-      skip_rule f s inp at ≡ Row e → Iterated f s inp (at + e.bytes) rows stop →
+      skip_rule f s inp at ≡ Err r →
+      Iterated f s inp at [] (Err r)
+  one_row : {at : ℕ} {e : Extent} {rows : List RowSpan} {stop : Result ⊤ Refusal} →
+      skip_rule f s inp at ≡ Ok (Some e) → Iterated f s inp (at + e.bytes) rows stop →
       Iterated f s inp at (record { offset = at; size = e.bytes; table = e.table } ∷ rows) stop
 
 unfoldable pub row_count : List RowSpan → ℕ
@@ -164,10 +159,10 @@ ran_of r = record { rows = row_count r.rows; bytes = byte_count r.rows; stop = r
 
 -- no row
 unfoldable pub refused_run : Refusal → Run
-refused_run r = record { rows = []; stop = Stop.Refused r }
+refused_run r = record { rows = []; stop = Err r }
 
 unfoldable pub ended_run : Run
-ended_run = record { rows = []; stop = Stop.End }
+ended_run = record { rows = []; stop = Ok tt }
 
 -- through the door at the stream's start, all rows
 unfoldable pub run_rule : Format → Settings → List ℕ → Run
@@ -175,7 +170,7 @@ run_rule f s inp = through (door f s inp 0) refused_run ended_run (run_from f in
 
 -- ---- decode: the answer and the two slices afterwards
 pub record Decoded : Type 0 where
-  pub answer : Read
+  pub answer : Result (Option Extent) Refusal
   pub records : List ℕ
   pub payload : List ℕ
 
@@ -188,41 +183,41 @@ abbrev pub record_room : List ℕ → ℕ
 record_room s = value_records_in (room s)
 
 -- room for a row's records (19), then for its payload bytes (20), each with the whole row's need, where n and m bytes count
-unfoldable pub room_for : ℕ → ℕ → ℕ → Extent → Read
+unfoldable pub room_for : ℕ → ℕ → ℕ → Extent → Result (Option Extent) Refusal
 room_for at n m e =
     pick (leb e.records (value_records_in n))
-    (pick (leb e.payload m) (Row e) (Read.Refused (NoPayloadRoom e.payload at)))
-    (Read.Refused (NoNodeRoom e.records at))
+    (pick (leb e.payload m) (Ok (Some e)) (Err (NoPayloadRoom e.payload at)))
+    (Err (NoNodeRoom e.records at))
 
 -- the same for two slices; every other answer stays
-unfoldable pub room_test : ℕ → List ℕ → List ℕ → Read → Read
-room_test at rs ps (Row e) = room_for at (room rs) (room ps) e
-room_test at rs ps End = End
-room_test at rs ps (Read.Refused r) = Read.Refused r
+unfoldable pub room_test : ℕ → List ℕ → List ℕ → Result (Option Extent) Refusal → Result (Option Extent) Refusal
+room_test at rs ps (Ok (Some e)) = room_for at (room rs) (room ps) e
+room_test at rs ps (Ok None) = Ok None
+room_test at rs ps (Err r) = Err r
 
-abbrev pub untouched : Read → List ℕ → List ℕ → Decoded
+abbrev pub untouched : Result (Option Extent) Refusal → List ℕ → List ℕ → Decoded
 untouched answer rs ps = record { answer = answer; records = rs; payload = ps }
 
 -- a row that has room fills both slices from their starts with its value's table; no other answer does
-unfoldable pub fill_with : Value → List ℕ → List ℕ → Read → Decoded
-fill_with v rs ps (Row e) = record { answer = Row e; records = over rs 0 (flat v 0 0); payload = over ps 0 (payload_bytes v) }
-fill_with v rs ps End = untouched End rs ps
-fill_with v rs ps (Read.Refused r) = untouched (Read.Refused r) rs ps
+unfoldable pub fill_with : Value → List ℕ → List ℕ → Result (Option Extent) Refusal → Decoded
+fill_with v rs ps (Ok (Some e)) = record { answer = Ok (Some e); records = over rs 0 (flat v 0 0); payload = over ps 0 (payload_bytes v) }
+fill_with v rs ps (Ok None) = untouched (Ok None) rs ps
+fill_with v rs ps (Err r) = untouched (Err r) rs ps
 
 unfoldable pub filled : ℕ → Answer (ℕ × Value) → List ℕ → List ℕ → Decoded
-filled at (Got (t, v) q) rs ps = fill_with v rs ps (room_test at rs ps (Row (extent at t q)))
-filled at (Refused r) rs ps = untouched (Read.Refused r) rs ps
+filled at (Got (t, v) q) rs ps = fill_with v rs ps (room_test at rs ps (Ok (Some (extent at t q))))
+filled at (Refused r) rs ps = untouched (Err r) rs ps
 
 -- through the door, the row and its value's table
 unfoldable pub decode_rule : Format → Settings → List ℕ → ℕ → List ℕ → List ℕ → Decoded
 decode_rule f s inp at rs ps =
-    through (door f s inp at) (λ r. untouched (Read.Refused r) rs ps) (untouched End rs ps) (filled at (row_at f inp (limits s) at) rs ps)
+    through (door f s inp at) (λ r. untouched (Err r) rs ps) (untouched (Ok None) rs ps) (filled at (row_at f inp (limits s) at) rs ps)
 
 -- the answer is no row
-unfoldable pub NoRow : Read → Type 0
-NoRow (Row e) = ⊥
-NoRow End = Unit
-NoRow (Read.Refused r) = Unit
+unfoldable pub NoRow : Result (Option Extent) Refusal → Type 0
+NoRow (Ok (Some e)) = ⊥
+NoRow (Ok None) = Unit
+NoRow (Err r) = Unit
 
 -- What decode leaves of a row e: the first records and payload bytes of the two slices are the table of the value whose row stands there,
 -- which conforms to the schema of that table; the rest of both slices is as before.

@@ -1,7 +1,7 @@
 -- Why a row is refused: up to a position the bytes are the beginning of a row within the limits, and what comes next there fails.
 -- No reader is named here. `at` is a position of the input, `spent` what the row was charged for all that stands before it.
 -- Assumes nothing: these are definitions.
-use Rattle.std.specs.Prelude.{ℕ, ◌+◌, ◌^◌, ◌≤◌, ◌<◌, ◌≡◌, List, length}
+use Rattle.std.specs.Prelude.{ℕ, ◌+◌, ◌^◌, ◌≤◌, ◌<◌, ◌≡◌, List, length, Some}
 use Rattle.rules.specs.Bytes.{le, Stands}
 use Rattle.rules.specs.Wire.{Form, sized, variant_form, repeated_form, tuple_form, form, end_tag, fixed_form}
 use Rattle.rules.specs.Schema.{Name, Schema, node, Schemas, cons, count, child}
@@ -10,7 +10,6 @@ use Rattle.rules.specs.Value.{Value, Within, costs}
 use Rattle.rules.specs.Grammar.{Row}
 use Rattle.rules.specs.Walk.{Limits, blob_limit, Pos}
 use Rattle.rules.specs.Reading.{schema_of, Accepts}
-use Rattle.rules.specs.declared.wire_type.Width.TheVariants.{Fixed}
 use Rattle.rules.specs.declared.refusal.Refusal.{Refusal}
 use Rattle.rules.specs.Refusals.{MissingTableSchema, Truncated, RowTooLarge, BlobTooLarge, InvalidVariantTag}
 
@@ -51,7 +50,7 @@ module _ (inp : List ℕ) (lim : Limits) where
     pub data BodyReason : Form → ℕ → Schemas → ℕ → ℕ → Refusal → Type 0 where
       -- a fixed type: 12 at its bytes, and the context is its code (nothing has no bytes, and is never cut)
       cut_scalar : {f : Form} {k at spent : ℕ} {ss : Schemas} (w : ℕ) →
-          fixed_form f ≡ Fixed w → Cut inp at w →
+          fixed_form f ≡ Some w → Cut inp at w →
           BodyReason f k ss at spent (Truncated k at)
       -- a blob, in this order: its length, 12 with context 13; its type's limit (14); the charge for its length (13, at the length field);
       -- its payload, 12 with context 14

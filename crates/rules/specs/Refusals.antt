@@ -1,6 +1,6 @@
 -- The refusals: number, name, carried values and place of each; and checks one after another.
 -- Assumes nothing: these are definitions.
-use Rattle.std.specs.Prelude.{ℕ, zero, suc, ◌+◌, Bool, true, false, List, [], ◌∷◌, ◌++◌, get_or, take, replicate}
+use Rattle.std.specs.Prelude.{ℕ, zero, suc, ◌+◌, Bool, true, false, List, [], ◌∷◌, ◌++◌, get_or, take, replicate, Result, Ok, Err, ⊤}
 use Prim.Native.String.{String}
 use Rattle.rules.specs.Names.{ascii}
 use Rattle.rules.specs.declared.refusal.Report.{Report}
@@ -11,8 +11,6 @@ use Rattle.rules.specs.declared.refusal.Label.TheVariants as label
 use Rattle.rules.specs.declared.refusal.Labels.{Labels}
 use Rattle.rules.specs.declared.refusal.Why.{Why}
 use Rattle.rules.specs.declared.refusal.Why.TheVariants as why
-use Rattle.rules.specs.declared.answer.Checked.{Checked}
-use Rattle.rules.specs.declared.answer.Checked.TheVariants.{Accepted, Refused}
 
 -- A line of the documents' table of refusals: number, name, carried values and what each of them is, and whether the place is an offset in
 -- the stream that is read, so that it moves with the stream.
@@ -158,11 +156,11 @@ NameNotUtf8 = record { why = why.NameNotUtf8; place = 0 }
 
 -- the first refusal of two checks
 infixl 20 ◌then◌
-unfoldable pub ◌then◌ : Checked → Checked → Checked
-Accepted then b = b
-Refused r then b = Refused r
+unfoldable pub ◌then◌ : Result ⊤ Refusal → Result ⊤ Refusal → Result ⊤ Refusal
+(Ok tt) then b = b
+(Err r) then b = Err r
 
 -- the first refusal of the checks of n things from i on, in order
-unfoldable pub in_order : (ℕ → Checked) → ℕ → ℕ → Checked
-in_order check i zero = Accepted
+unfoldable pub in_order : (ℕ → Result ⊤ Refusal) → ℕ → ℕ → Result ⊤ Refusal
+in_order check i zero = Ok tt
 in_order check i (suc n) = check i then in_order check (i + 1) n

@@ -1,6 +1,6 @@
 -- Demand 3 in document 01's words: what is asked where a value is encoded and read back, what is answered then, and what is refused in which order.
 -- Assumes nothing: these are definitions.
-use Rattle.std.specs.Prelude.{ℕ, ◌+◌, ◌≤◌, ◌<◌, ◌≡◌, true, false, List, [], ◌∷◌, length}
+use Rattle.std.specs.Prelude.{ℕ, ◌+◌, ◌≤◌, ◌<◌, ◌≡◌, true, false, List, [], ◌∷◌, length, Ok, Err, Some}
 use Rattle.rules.specs.Bytes.{Stands, over, longest_slice}
 use Rattle.rules.specs.Answers.{Said, said}
 use Rattle.rules.specs.Wire.{Form}
@@ -16,17 +16,14 @@ use Rattle.rules.specs.Writing.{Wrote, Put, write_row, Encoded, encode_ok}
 use Rattle.rules.specs.declared.settings.Settings.{Settings}
 use Rattle.rules.specs.declared.table_record.Located.TheVariants.{Block}
 use Rattle.rules.specs.declared.refusal.Refusal.{Refusal}
-use Rattle.rules.specs.declared.answer.Checked.{Checked}
 use Rattle.rules.specs.declared.answer.Extent.{Extent}
-use Rattle.rules.specs.declared.answer.Read.{Read}
-use Rattle.rules.specs.declared.answer.Written.{Written}
 
 -- ---- encoding
 
 -- A checked format, whose table 0 has its schema in n records from record `first` on; settings and slices inside document 01's bounds; a
 -- position in the output.
 pub record EncodeAsked (f : Format) (s : Settings) (first n : ℕ) (recs pay out : List ℕ) (at : ℕ) : Type 0 where
-  pub format : format_rule f ≡ Checked.Accepted
+  pub format : format_rule f ≡ Ok tt
   pub block : table_schema f 0 ≡ Block first n
   pub settings : settings_ok s ≡ true
   pub records : length recs ≤ longest_slice
@@ -42,7 +39,7 @@ pub record Encodable (sch : Schema) (lim : Limits) (v : Value) (out : List ℕ) 
 -- The answer and the output of an accepted encode: the canonical row, over what stood in the output.
 abbrev pub encoded_into : Schema → Value → List ℕ → ℕ → Encoded
 encoded_into sch v out at = record {
-  answer = Written.Row (record { table = 0; bytes = length (encoded_row sch v); records = records_of v; payload = payload_of v });
+  answer = Ok (record { table = 0; bytes = length (encoded_row sch v); records = records_of v; payload = payload_of v });
   output = over out at (encoded_row sch v);
 }
 
@@ -54,18 +51,18 @@ module _ (s : Settings) (table names : List ℕ) (first n : ℕ) (recs pay out :
         encode_ok s table names recs pay out at ≡ false →
         EncodeRefuses (record { number = 1; place = 0; carries = [] })
     by_schema : {r : Refusal} →
-        encode_ok s table names recs pay out at ≡ true → encoder_rules table names first n ≡ Checked.Refused r →
+        encode_ok s table names recs pay out at ≡ true → encoder_rules table names first n ≡ Err r →
         EncodeRefuses (said r)
     by-table :
-        encode_ok s table names recs pay out at ≡ true → encoder_rules table names first n ≡ Checked.Accepted →
+        encode_ok s table names recs pay out at ≡ true → encoder_rules table names first n ≡ Ok tt →
         ((v : Value) → TableOf v recs pay → ⊥) →
         EncodeRefuses (record { number = 18; place = 0; carries = [] })
     by_row : {v : Value} {r : Refusal} →
-        encode_ok s table names recs pay out at ≡ true → encoder_rules table names first n ≡ Checked.Accepted →
+        encode_ok s table names recs pay out at ≡ true → encoder_rules table names first n ≡ Ok tt →
         TableOf v recs pay → write_row (block table first n) (limits s) v ≡ Wrote.Refused r →
         EncodeRefuses (said r)
     by_room : {v : Value} {b : List ℕ} →
-        encode_ok s table names recs pay out at ≡ true → encoder_rules table names first n ≡ Checked.Accepted →
+        encode_ok s table names recs pay out at ≡ true → encoder_rules table names first n ≡ Ok tt →
         TableOf v recs pay → write_row (block table first n) (limits s) v ≡ Put b → room out < at + length b →
         EncodeRefuses (record { number = 21; place = at; carries = length b ∷ [] })
 
@@ -88,7 +85,7 @@ pub record HasRoom (e : Extent) (rs ps : List ℕ) : Type 0 where
 
 -- The answer and the two slices of a decode that gives back a row e: these records and this payload, from the start of each slice.
 abbrev pub decoded_as : Extent → List ℕ → List ℕ → List ℕ → List ℕ → Decoded
-decoded_as e recs pay rs ps = record { answer = Read.Row e; records = over rs 0 recs; payload = over ps 0 pay }
+decoded_as e recs pay rs ps = record { answer = Ok (Some e); records = over rs 0 recs; payload = over ps 0 pay }
 
 -- ---- written again
 

@@ -1,7 +1,9 @@
 -- 'Rows on both sides of each edge': document 01's table, and rows at the two blob limits of document 02, d. Flat bytes go in; number, place
 -- and carried values come out; an accepted row is decoded, and encoded again from what decode has left.
 -- Assumes nothing: these are definitions.
-use Rattle.std.specs.Prelude.{ℕ, List, [], ◌∷◌, ◌++◌, take, replicate}
+use Rattle.rules.specs.declared.answer.Extent.{Extent}
+use Rattle.rules.specs.declared.refusal.Refusal.{Refusal}
+use Rattle.std.specs.Prelude.{ℕ, List, [], ◌∷◌, ◌++◌, take, replicate, Result, Option, Ok, Err, Some, None}
 use Rattle.rules.specs.Bytes.{le}
 use Rattle.rules.specs.Names.{ascii}
 use Rattle.rules.specs.Block.{records}
@@ -11,8 +13,6 @@ use Rattle.rules.specs.Reading.{skip_rule, Decoded, decode_rule}
 use Rattle.rules.specs.Answers.{Said, none_said, read_said}
 use Rattle.rules.specs.Writing.{encode_from}
 use Rattle.rules.specs.declared.settings.Settings.{Settings}
-use Rattle.rules.specs.declared.answer.Read.{Read}
-use Rattle.rules.specs.declared.answer.Written.{Written}
 
 -- ---- the formats
 
@@ -76,15 +76,15 @@ pub record RowOutcome : Type 0 where
 unfoldable pub blank : ℕ → List ℕ
 blank n = replicate n 0xEE
 
-unfoldable pub encoded_again : Written → List ℕ → List ℕ
-encoded_again (Written.Row e) out = take e.bytes out
-encoded_again (Written.Refused r) out = []
+unfoldable pub encoded_again : Result Extent Refusal → List ℕ → List ℕ
+encoded_again (Ok e) out = take e.bytes out
+encoded_again (Err r) out = []
 
 -- the row, encoded from what decode has left
-unfoldable pub again : RowLine → Read → Decoded → List ℕ
-again l Read.End d = []
-again l (Read.Refused r) d = []
-again l (Read.Row e) d =
+unfoldable pub again : RowLine → Result (Option Extent) Refusal → Decoded → List ℕ
+again l (Ok None) d = []
+again l (Err r) d = []
+again l (Ok (Some e)) d =
     let n = records l.format.table in
     let x = encode_from l.format (settings l) 0 n (take (value_record_start e.records) d.records) (take e.payload d.payload) (blank 12) 0 in
     encoded_again x.answer x.output

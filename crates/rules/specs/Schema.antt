@@ -3,7 +3,7 @@
 use Rattle.std.specs.Prelude.{ℕ, zero, suc, ◌+◌, ◌≤◌, max, ◌≡◌, List, [], ◌∷◌}
 use Rattle.rules.specs.Wire.{form, maximum}
 use Rattle.rules.specs.declared.wire_type.Children.{Children}
-use Rattle.rules.specs.declared.wire_type.Children.TheVariants.{None, UpTo, Any, Unknown}
+use Rattle.rules.specs.declared.wire_type.Children.TheVariants.{Zero, UpTo, Any, Unknown}
 
 pub data Name : Type 0 where
   unnamed : Name
@@ -52,7 +52,7 @@ unfoldable mutual
 
 -- ---- the schema rules: how many children a node may have
 unfoldable pub Allows : Children → ℕ → Type 0
-Allows None n = n ≡ 0
+Allows Zero n = n ≡ 0
 Allows (UpTo most) n = n ≤ most
 Allows Any n = Unit
 Allows Unknown n = ⊥

@@ -1,6 +1,6 @@
 -- A stream that is read in windows: what is answered for a part of it, told from the stream's start.
 -- Assumes nothing: these are definitions.
-use Rattle.std.specs.Prelude.{ℕ, ◌+◌, ◌≤◌, ◌≡◌, Bool, true, List, ◌++◌, map, length, leb, eqb}
+use Rattle.std.specs.Prelude.{ℕ, ◌+◌, ◌≤◌, ◌≡◌, Bool, true, List, ◌++◌, map, length, leb, eqb, Result, Ok, Err, ⊤}
 use Rattle.rules.specs.Bytes.{longest_slice}
 use Rattle.rules.specs.Choice.{pick, ◌and◌}
 use Rattle.rules.specs.Refusals.{Setting, line_of, refusal_number}
@@ -8,8 +8,6 @@ use Rattle.rules.specs.Walk.{Answer, Got, onward}
 use Rattle.rules.specs.Format.{Format}
 use Rattle.rules.specs.Reading.{Run, byte_count, ran_of, refused_run, run_rule}
 use Rattle.rules.specs.declared.refusal.Refusal.{Refusal}
-use Rattle.rules.specs.declared.answer.Stop.{Stop}
-use Rattle.rules.specs.declared.answer.Stop.TheVariants.{End, Refused}
 use Rattle.rules.specs.declared.answer.Ran.{Ran}
 use Rattle.rules.specs.declared.answer.RowSpan.{RowSpan}
 use Rattle.rules.specs.declared.settings.Settings.{Settings}
@@ -32,17 +30,17 @@ unfoldable pub WasCut : {A : Type 0} → Answer A → Type 0
 WasCut (Got a q) = ⊥
 WasCut (Answer.Refused r) = refusal_number r ≡ 12
 
-unfoldable pub moved_stop : ℕ → Stop → Stop
-moved_stop n End = End
-moved_stop n (Refused r) = Refused (moved n r)
+unfoldable pub moved_stop : ℕ → Result ⊤ Refusal → Result ⊤ Refusal
+moved_stop n (Ok tt) = Ok tt
+moved_stop n (Err r) = Err (moved n r)
 
 abbrev pub moved_row : ℕ → RowSpan → RowSpan
 moved_row n row = record { offset = row.offset + n; size = row.size; table = row.table }
 
 -- whether bytes to come may change how a run stops: at the end, or where a row is cut (12)
-unfoldable pub goes_on : Stop → Bool
-goes_on End = true
-goes_on (Refused r) = eqb (refusal_number r) 12
+unfoldable pub goes_on : Result ⊤ Refusal → Bool
+goes_on (Ok tt) = true
+goes_on (Err r) = eqb (refusal_number r) 12
 
 -- a run, and then the run over what is left after its rows
 unfoldable pub continued : Run → Run → Run
@@ -57,5 +55,5 @@ added r rest = record { rows = r.rows + rest.rows; bytes = r.bytes + rest.bytes;
 unfoldable pub run_after : Format → Settings → ℕ → ℕ → List ℕ → Ran
 run_after f s rows bytes window =
     pick (leb rows bytes and leb (bytes + length window) longest_slice)
-    (added (record { rows = rows; bytes = bytes; stop = End }) (ran_of (run_rule f s window)))
+    (added (record { rows = rows; bytes = bytes; stop = Ok tt }) (ran_of (run_rule f s window)))
     (ran_of (refused_run Setting))

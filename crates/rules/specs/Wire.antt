@@ -1,26 +1,22 @@
 -- The twenty wire types: their codes, and how a value of each is written.
 -- Assumes nothing: these are definitions.
-use Rattle.std.specs.Prelude.{ℕ, zero, suc, ◌-◌, ◌^◌, List, [], ◌∷◌}
+use Rattle.std.specs.Prelude.{ℕ, zero, suc, ◌-◌, ◌^◌, List, [], ◌∷◌, Option, Some, None}
 use Rattle.rules.specs.declared.wire_type.WireType.{WireType}
 use Rattle.rules.specs.declared.wire_type.WireType.TheVariants.{Nothing, Boolean, Int8, Int16, Int32, Int64, Int128, Int256, Uint8, Uint16, Uint32, Uint64, Double, String32, Yson32, Variant8, Variant16, RepeatedVariant8, RepeatedVariant16, Tuple}
-use Rattle.rules.specs.declared.wire_type.Known.{Known}
-use Rattle.rules.specs.declared.wire_type.Known.TheVariants.{Wire, Unknown}
-use Rattle.rules.specs.declared.wire_type.Width.{Width}
-use Rattle.rules.specs.declared.wire_type.Width.TheVariants.{Fixed, Variable}
 use Rattle.rules.specs.declared.wire_type.Children.{Children}
-use Rattle.rules.specs.declared.wire_type.Children.TheVariants.{None, UpTo, Any}
+use Rattle.rules.specs.declared.wire_type.Children.TheVariants.{Zero, UpTo, Any}
 
 -- in the order of the wire codes, from 0 on
 unfoldable pub wire_types : List WireType
 wire_types = Nothing ∷ Boolean ∷ Int8 ∷ Int16 ∷ Int32 ∷ Int64 ∷ Int128 ∷ Int256 ∷ Uint8 ∷ Uint16 ∷ Uint32 ∷ Uint64 ∷ Double ∷ String32 ∷ Yson32 ∷ Variant8 ∷ Variant16 ∷ RepeatedVariant8 ∷ RepeatedVariant16 ∷ Tuple ∷ []
 
-unfoldable pub type_in : List WireType → ℕ → Known
-type_in [] code = Unknown
-type_in (t ∷ ts) zero = Wire t
+unfoldable pub type_in : List WireType → ℕ → Option WireType
+type_in [] code = None
+type_in (t ∷ ts) zero = Some t
 type_in (t ∷ ts) (suc code) = type_in ts code
 
 -- the wire type of a code
-unfoldable pub type_of : ℕ → Known
+unfoldable pub type_of : ℕ → Option WireType
 type_of code = type_in wire_types code
 
 -- and the code of a wire type
@@ -80,9 +76,9 @@ written RepeatedVariant8 = repeated_form 1
 written RepeatedVariant16 = repeated_form 2
 written Tuple = tuple_form
 
-unfoldable pub written_if : Known → Form
-written_if (Wire t) = written t
-written_if Unknown = unknown
+unfoldable pub written_if : Option WireType → Form
+written_if (Some t) = written t
+written_if None = unknown
 
 -- the form of a wire code
 unfoldable pub form : ℕ → Form
@@ -105,27 +101,27 @@ unfoldable pub end_tag : ℕ → ℕ
 end_tag w = 256 ^ w - 1
 
 -- how many bytes every value of a form has
-unfoldable pub fixed_form : Form → Width
-fixed_form empty = Fixed 0
-fixed_form truth = Fixed 1
-fixed_form (fixed w) = Fixed w
-fixed_form (raw w) = Fixed w
-fixed_form sized = Variable
-fixed_form (variant_form w) = Variable
-fixed_form (repeated_form w) = Variable
-fixed_form tuple_form = Variable
-fixed_form unknown = Variable
+unfoldable pub fixed_form : Form → Option ℕ
+fixed_form empty = Some 0
+fixed_form truth = Some 1
+fixed_form (fixed w) = Some w
+fixed_form (raw w) = Some w
+fixed_form sized = None
+fixed_form (variant_form w) = None
+fixed_form (repeated_form w) = None
+fixed_form tuple_form = None
+fixed_form unknown = None
 
-unfoldable pub fixed_width : WireType → Width
+unfoldable pub fixed_width : WireType → Option ℕ
 fixed_width t = fixed_form (written t)
 
 -- how many children a node may have: a tag of w bytes names 256 ^ w, and one less where one tag ends a repeated value
 unfoldable pub maximum : Form → Children
-maximum empty = None
-maximum truth = None
-maximum (fixed w) = None
-maximum (raw w) = None
-maximum sized = None
+maximum empty = Zero
+maximum truth = Zero
+maximum (fixed w) = Zero
+maximum (raw w) = Zero
+maximum sized = Zero
 maximum (variant_form w) = UpTo (256 ^ w)
 maximum (repeated_form w) = UpTo (end_tag w)
 maximum tuple_form = Any

@@ -1,6 +1,7 @@
 -- What encoding answers, and what it leaves in the output.
 -- Assumes nothing: these are definitions.
-use Rattle.std.specs.Prelude.{ℕ, ◌+◌, Bool, List, [], ◌∷◌, ◌++◌, length, ltb, leb, eqb}
+use Rattle.rules.specs.declared.answer.Extent.{Extent}
+use Rattle.std.specs.Prelude.{ℕ, ◌+◌, Bool, List, [], ◌∷◌, ◌++◌, length, ltb, leb, eqb, Result, Ok, Err}
 use Rattle.rules.specs.Choice.{pick, ◌and◌}
 use Rattle.rules.specs.Bytes.{le, over}
 use Rattle.rules.specs.Wire.{Form, empty, truth, fixed, raw, sized, variant_form, repeated_form, tuple_form, unknown, form, width_of, end_tag}
@@ -13,8 +14,6 @@ use Rattle.rules.specs.Reading.{settings_ok, limits, room, when_accepted}
 use Rattle.rules.specs.declared.settings.Settings.{Settings}
 use Rattle.rules.specs.declared.refusal.Refusal.{Refusal}
 use Rattle.rules.specs.Refusals.{Setting, BlobTooLarge, ValueDoesNotMatchSchema, TupleLength, InvalidVariantTag, BadValueTable, NoOutputRoom}
-use Rattle.rules.specs.declared.answer.Written.{Written}
-use Rattle.rules.specs.declared.answer.Written.TheVariants.{Row}
 
 -- bytes, or why not
 pub data Wrote : Type 0 where
@@ -92,17 +91,17 @@ write_row sch lim v = do
 
 -- ---- the whole call: the answer, and the output afterwards
 pub record Encoded : Type 0 where
-  pub answer : Written
+  pub answer : Result Extent Refusal
   pub output : List ℕ
 
 abbrev pub unwritten : List ℕ → Refusal → Encoded
-unwritten out r = record { answer = Written.Refused r; output = out }
+unwritten out r = record { answer = Err r; output = out }
 
 -- room in the output is tested last (21), with the row's bytes and the output position
 unfoldable pub placed : Value → List ℕ → ℕ → Wrote → Encoded
 placed v out at (Put b) =
     pick (leb (at + length b) (room out))
-    (record { answer = Row (record { table = 0; bytes = length b; records = records_of v; payload = payload_of v }); output = over out at b })
+    (record { answer = Ok (record { table = 0; bytes = length b; records = records_of v; payload = payload_of v }); output = over out at b })
     (unwritten out (NoOutputRoom (length b) at))
 placed v out at (Refused r) = unwritten out r
 

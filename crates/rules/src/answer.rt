@@ -1,13 +1,6 @@
-// What the calls answer.
+// What the calls answer, where they refuse nothing: each answers a `Result` with a `Refusal` in its other case. A check answers nothing more, a row
+// that is read is an `Extent`, or `None` at the stream's end, a row that is written an `Extent`, and a text the number of its bytes.
 use super::refusal::Refusal;
-
-// Two byte strings compared, byte by byte.
-#[derive(Clone, Copy)]
-pub enum Order {
-    Less,
-    Equal,
-    Greater,
-}
 
 // What a table schema is checked for: to stand in a format, or to encode with.
 #[derive(Clone, Copy)]
@@ -16,19 +9,11 @@ pub enum Purpose {
     Encoder,
 }
 
-// What the check of a schema or a format answers.
-#[derive(Clone, Copy)]
-pub enum Checked {
-    Accepted,
-    Refused(Refusal),
-}
-
-// What settings, slices, position and format come to, before a row is read: it may be read, the stream ends there, or why not.
+// What settings, slices, position and format come to, where they are not refused: a row may be read, or the stream ends there.
 #[derive(Clone, Copy)]
 pub enum Door {
     Open,
     End,
-    Refused(Refusal),
 }
 
 // What an accepted row takes: its table, its bytes in the stream, and the records and payload bytes of its value table.
@@ -48,39 +33,10 @@ pub struct RowSpan {
     pub table: u64,
 }
 
-// What reading at a position answers.
-#[derive(Clone, Copy)]
-pub enum Read {
-    Row(Extent),
-    End,
-    Refused(Refusal),
-}
-
-// Where a run over a whole stream stops.
-#[derive(Clone, Copy)]
-pub enum Stop {
-    End,
-    Refused(Refusal),
-}
-
-// What a run answers: the rows it accepted, their bytes, and why it stopped.
+// What a run answers: the rows it accepted, their bytes, and where it stopped: at the stream's end, or at a refusal.
 #[derive(Clone, Copy)]
 pub struct Ran {
     pub rows: u64,
     pub bytes: u64,
-    pub stop: Stop,
-}
-
-// What encoding a value table answers.
-#[derive(Clone, Copy)]
-pub enum Written {
-    Row(Extent),
-    Refused(Refusal),
-}
-
-// What writing a text answers: how many bytes it has.
-#[derive(Clone, Copy)]
-pub enum TextWritten {
-    Text(u64),
-    Refused(Refusal),
+    pub stop: Result<(), Refusal>,
 }

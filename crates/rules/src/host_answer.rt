@@ -1,6 +1,4 @@
 // What a host is told of one value record.
-use super::refusal::Refusal;
-use super::table_record::ValueRecord;
 
 // The value of one record: a case with its data. The language's doubles have one NaN and no bits of it, so that a NaN has a
 // case of its own, with its bits.
@@ -16,25 +14,4 @@ pub enum Scalar {
     Payload(u64, u64),
     // How many children.
     Children(u64),
-}
-
-// One record, looked at by itself: its fields, or why not.
-#[derive(Clone, Copy)]
-pub enum Seen {
-    Record(ValueRecord),
-    Refused(Refusal),
-}
-
-// What the value query answers.
-#[derive(Clone, Copy)]
-pub enum Queried {
-    Value(Scalar),
-    Refused(Refusal),
-}
-
-// What a getter of the row view answers.
-#[derive(Clone, Copy)]
-pub enum Viewed {
-    Number(u64),
-    Refused(Refusal),
 }

@@ -1,6 +1,6 @@
 // The records of the flat tables, and where a table's schema stands among them.
 
-// A schema record.
+// A schema record. Its code is a number and no `WireType`, since any byte may stand there: whether it is a type's is what the form is checked for.
 #[derive(Clone, Copy)]
 pub struct Node {
     pub code: u8,
@@ -31,7 +31,7 @@ pub struct Entry {
     pub count: u64,
 }
 
-// A value record: its kind; a byte that has to be 0; the tag by which the parent chose the node; the child count or the payload's length;
+// A value record, of which any byte may stand in a slice, so that the kind is a number: its kind; a byte that has to be 0; the tag by which the parent chose the node; the child count or the payload's length;
 // the payload's start or a scalar's wire bytes.
 #[derive(Clone, Copy)]
 pub struct ValueRecord {
@@ -42,7 +42,8 @@ pub struct ValueRecord {
     pub content: u64,
 }
 
-// Where a table's schema stands in the record table: first record and record count.
+// Where a table's schema stands in the record table: first record and record count. No `Result`: the two other cases are no refusals yet, a format and
+// a row each make their own of them, and every caller meets all three.
 #[derive(Clone, Copy)]
 pub enum Located {
     Block(u64, u64),

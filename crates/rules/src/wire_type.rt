@@ -25,24 +25,10 @@ pub enum WireType {
     Tuple,
 }
 
-// The wire type of a name or a code, if there is one.
-#[derive(Clone, Copy)]
-pub enum Known {
-    Wire(WireType),
-    Unknown,
-}
-
-// How many bytes each value of a wire type has, if that is fixed.
-#[derive(Clone, Copy)]
-pub enum Width {
-    Fixed(u64),
-    Variable,
-}
-
 // How many children a wire code may have.
 #[derive(Clone, Copy)]
 pub enum Children {
-    None,
+    Zero,
     UpTo(u64),
     Any,
     Unknown,

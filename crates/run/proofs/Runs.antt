@@ -1,5 +1,6 @@
 -- The run's loop: what is left, upon what was counted, comes to the whole run.
 -- Assumes nothing.
+use Rattle.std.proofs.Common.{Result, Option, Ok, Err, Some, None}
 use Prim.Native.Nat.{ℕ, suc, ◌+◌, ◌-◌, ◌≤◌, ◌<◌}
 use mathlib.Core.Path.{◌≡◌, sym, ◌∙◌}
 use mathlib.Core.List.{List}
@@ -13,9 +14,6 @@ use Rattle.rules.specs.Walk.{Limits}
 use Rattle.rules.specs.Reading.{row_at, skipped, skip_from, Run, go_on, run_from, row_count, byte_count, ran_of}
 use Rattle.rules.specs.declared.refusal.Refusal.{Refusal}
 use Rattle.rules.specs.declared.answer.Extent.{Extent}
-use Rattle.rules.specs.declared.answer.Read.{Read}
-use Rattle.rules.specs.declared.answer.Read.TheVariants.{Row, End}
-use Rattle.rules.specs.declared.answer.Stop.{Stop}
 use Rattle.rules.specs.declared.answer.Ran.{Ran}
 use Rattle.row_laws.proofs.Running.{skip_goes}
 
@@ -45,21 +43,21 @@ module _ (f : Format) (inp : List ℕ) (lim : Limits) where
 
   module _ (rows at : ℕ) (g : Going rows at) where
     -- one turn
-    turn : (read : Read) → skip_from f inp lim at ≡ read → upon rows at (go_on (run_from f inp lim (g.enough - 1)) at read) ≡ ran_of (run_from f inp lim (suc (length inp)) 0)
+    turn : (read : Result (Option Extent) Refusal) → skip_from f inp lim at ≡ read → upon rows at (go_on (run_from f inp lim (g.enough - 1)) at read) ≡ ran_of (run_from f inp lim (suc (length inp)) 0)
     unfolding run_from
     turn read e =
         let z : g.enough ≡ suc (g.enough - 1) = omega (arith, g.left) in
         rw (← e) (rw z at g.whole)
 
-    module _ (read : Read) (is : read ≡ skipped at (row_at f inp lim at)) (l : at < length inp) where
+    module _ (read : Result (Option Extent) Refusal) (is : read ≡ skipped at (row_at f inp lim at)) (l : at < length inp) where
       reads : skip_from f inp lim at ≡ read
       unfolding skip_from pick
       reads = rw (ne_eqb at (length inp) (λ z. omega arith)) (sym is)
 
-      pub row_inside : Bytes inp → (e : Extent) → read ≡ Row e → (2 ≤ e.bytes) × (at + e.bytes ≤ length inp)
+      pub row_inside : Bytes inp → (e : Extent) → read ≡ Ok (Some e) → (2 ≤ e.bytes) × (at + e.bytes ≤ length inp)
       row_inside bs e q = skip_goes f inp lim bs at e g.within (reads ∙ q)
 
-      pub going_on : Bytes inp → (e : Extent) → read ≡ Row e → Going (rows + 1) (at + e.bytes)
+      pub going_on : Bytes inp → (e : Extent) → read ≡ Ok (Some e) → Going (rows + 1) (at + e.bytes)
       unfolding upon go_on row_count byte_count
       going_on bs e q =
           let i = row_inside bs e q in
@@ -75,7 +73,7 @@ module _ (f : Format) (inp : List ℕ) (lim : Limits) where
             whole = rw (a, b) (rw q at w);
           }
 
-      pub ends_refused : (r : Refusal) → read ≡ Read.Refused r → record { rows = rows; bytes = at; stop = Stop.Refused r } ≡ ran_of (run_from f inp lim (suc (length inp)) 0)
+      pub ends_refused : (r : Refusal) → read ≡ Err r → record { rows = rows; bytes = at; stop = Err r } ≡ ran_of (run_from f inp lim (suc (length inp)) 0)
       unfolding upon go_on row_count byte_count
       ends_refused r q =
           let w = turn read reads in
@@ -83,7 +81,7 @@ module _ (f : Format) (inp : List ℕ) (lim : Limits) where
           let b : at + 0 ≡ at = omega arith in
           rw (q, a, b) at w
 
-      pub ends_end : read ≡ End → record { rows = rows; bytes = at; stop = Stop.End } ≡ ran_of (run_from f inp lim (suc (length inp)) 0)
+      pub ends_end : read ≡ Ok None → record { rows = rows; bytes = at; stop = Ok tt } ≡ ran_of (run_from f inp lim (suc (length inp)) 0)
       unfolding upon go_on row_count byte_count
       ends_end q =
           let w = turn read reads in
@@ -92,11 +90,11 @@ module _ (f : Format) (inp : List ℕ) (lim : Limits) where
           rw (q, a, b) at w
 
     -- nothing is left
-    pub ends_last : length inp ≤ at → record { rows = rows; bytes = at; stop = Stop.End } ≡ ran_of (run_from f inp lim (suc (length inp)) 0)
+    pub ends_last : length inp ≤ at → record { rows = rows; bytes = at; stop = Ok tt } ≡ ran_of (run_from f inp lim (suc (length inp)) 0)
     unfolding upon go_on row_count byte_count skip_from pick
     ends_last h =
         let e : at ≡ length inp = omega (arith, g.within) in
-        let w = turn End (rw (eq-eqb at (length inp) e)) in
+        let w = turn (Ok None) (rw (eq-eqb at (length inp) e)) in
         let a : rows + 0 ≡ rows = omega arith in
         let b : at + 0 ≡ at = omega arith in
         rw (a, b) at w

@@ -1,5 +1,7 @@
 -- What the query says has bits, and a double's number is the bits that stand in its record, a NaN's too.
 -- Assumes nothing.
+use Rattle.rules.specs.declared.refusal.Refusal.{Refusal}
+use Rattle.std.proofs.Common.{Result}
 use Prim.Native.Nat.{ℕ, suc, ◌-◌, ◌*◌, ◌^◌, ◌<◌}
 use mathlib.Core.Path.{◌≡◌, refl, sym, ◌∙◌, ap}
 use mathlib.Core.Bool.{false, not}
@@ -16,7 +18,6 @@ use Rattle.rules.specs.Choice.{pick}
 use Rattle.rules.specs.Wire.{Form, empty, truth, fixed, raw, sized, variant_form, repeated_form, tuple_form, unknown}
 use Rattle.rules.specs.Query.{signed, double_said, number_said, scalar_said, record_said, record_seen, queried_of, query_rule}
 use Rattle.rules.specs.declared.table_record.ValueRecord.{ValueRecord}
-use Rattle.rules.specs.declared.host_answer.Seen.{Seen}
 use Rattle.rules.proofs.Tests.{either}
 use Rattle.scalars.specs.Numbers.{signed_bits, one_number, scalar_numbers, HasBits, SaysBits}
 
@@ -43,7 +44,7 @@ record_has : (r : ValueRecord) → HasBits (record_said r)
 unfolding record_said HasBits
 record_has r = either HasBits _ (λ e. scalar_has _ _ _ _) (λ e. tt)
 
-unfoldable SeenBits : Seen → Type 0
+unfoldable SeenBits : Result ValueRecord Refusal → Type 0
 SeenBits s = SaysBits (queried_of s)
 
 pub query_says_bits : (table : List ℕ) (i : ℕ) → SaysBits (query_rule table i)

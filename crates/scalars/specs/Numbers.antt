@@ -1,13 +1,12 @@
 -- What the value query says, in numbers: which case it is, its number, and a payload's length.
 -- Assumes nothing: these are definitions.
-use Rattle.std.specs.Prelude.{ℕ, suc, ◌-◌, ◌^◌, ◌≡◌, false, ℤ, pos, negsuc}
+use Rattle.rules.specs.declared.refusal.Refusal.{Refusal}
+use Rattle.std.specs.Prelude.{ℕ, suc, ◌-◌, ◌^◌, ◌≡◌, false, ℤ, pos, negsuc, Result, Ok, Err}
 use Rattle.std.specs.Float.{binary64}
 use Rattle.std.specs.Float.Ieee.{is_nan, to_bits}
 use Rattle.rules.specs.Choice.{pick}
 use Rattle.rules.specs.declared.host_answer.Scalar.{Scalar}
 use Rattle.rules.specs.declared.host_answer.Scalar.TheVariants.{Nothing, Truth, Signed, Unsigned, Double, NotANumber, Payload, Children}
-use Rattle.rules.specs.declared.host_answer.Queried.{Queried}
-use Rattle.rules.specs.declared.host_answer.Queried.TheVariants as queried
 use Rattle.scalars.specs.declared.ScalarNumbers.{ScalarNumbers}
 
 -- the 64 bits of a number, in two's complement
@@ -40,6 +39,6 @@ HasBits (NotANumber bits) = Unit
 HasBits (Payload start n) = Unit
 HasBits (Children n) = Unit
 
-unfoldable pub SaysBits : Queried → Type 0
-SaysBits (queried.Value s) = HasBits s
-SaysBits (queried.Refused r) = Unit
+unfoldable pub SaysBits : Result Scalar Refusal → Type 0
+SaysBits (Ok s) = HasBits s
+SaysBits (Err r) = Unit

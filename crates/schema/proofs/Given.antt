@@ -1,5 +1,9 @@
 -- What the forms of a format give, and its parts over the slices that each looks at.
 -- Assumes nothing.
+use Rattle.rules.specs.declared.refusal.Refusal.{Refusal}
+use Rattle.std.specs.declared.cmp.Ordering.{Ordering}
+use Rattle.std.specs.Prelude.{⊤}
+use Rattle.std.proofs.Common.{Result}
 use Prim.Native.Nat.{ℕ, zero, suc, ◌+◌, ◌-◌, ◌≤◌, ◌<◌}
 use mathlib.Core.Path.{◌≡◌, refl}
 use mathlib.Core.Bool.{Bool, true}
@@ -14,8 +18,6 @@ use Rattle.rules.specs.Block.{whole_nodes}
 use Rattle.rules.specs.Format.{reference_count, whole_references, entry_count, whole_entries, block_form_ok, block_depth_ok, block_rule, entry_at, reference_at, entry_name, reference_ok, ascending, entry_ok, reference_form_ok, forms_ok, entry_depth_ok, reference_depth_ok, depths_ok, entry_rule}
 use Rattle.rules.specs.declared.table_record.Entry.{Entry}
 use Rattle.rules.specs.declared.table_record.Reference.{Reference}
-use Rattle.rules.specs.declared.answer.Order.{Order}
-use Rattle.rules.specs.declared.answer.Checked.{Checked}
 use Rattle.rules.proofs.Tests.{and_both, all_each}
 use Rattle.block_laws.proofs.Forms.{ascending_iff}
 use Rattle.block.specs.Sound.{SoundBlock}
@@ -50,7 +52,7 @@ unfolding depths_ok entry_depth_ok reference_depth_ok
 depths_any table names references registry = refl
 
 -- ---- a test of the code is the rules' test of that entry or reference
-pub ascending_suc : (names registry : List ℕ) (j : ℕ) → (j ≡ 0 → ⊥) → (last e : Entry) → last ≡ entry_at registry (j - 1) → e ≡ entry_at registry j → (o : Order) → o ≡ order (part names last.start last.len) (part names e.start e.len) → (b : Bool) → b ≡ is_less o → b ≡ ascending (slices [] names [] registry) j
+pub ascending_suc : (names registry : List ℕ) (j : ℕ) → (j ≡ 0 → ⊥) → (last e : Entry) → last ≡ entry_at registry (j - 1) → e ≡ entry_at registry j → (o : Ordering) → o ≡ order (part names last.start last.len) (part names e.start e.len) → (b : Bool) → b ≡ is_less o → b ≡ ascending (slices [] names [] registry) j
 unfolding ascending entry_name
 ascending_suc names registry zero h last e a c o p b q = absurd (h refl)
 ascending_suc names registry (suc j) h last e a c o p b q =
@@ -62,7 +64,7 @@ module _ (table registry : List ℕ) (j : ℕ) (e : Entry) (is : e ≡ entry_at 
   unfolding entry_depth_ok
   entry_shallow b h = rw (← is) h
 
-  pub entry_rule_lem : (r : Checked) → r ≡ block_rule table e.first e.count → r ≡ entry_rule (slices table [] [] registry) (0 + j)
+  pub entry_rule_lem : (r : Result ⊤ Refusal) → r ≡ block_rule table e.first e.count → r ≡ entry_rule (slices table [] [] registry) (0 + j)
   unfolding entry_rule
   entry_rule_lem r h = let z : 0 + j ≡ j = omega arith in rw (z, ← is) h
 

@@ -1,5 +1,7 @@
 -- Where a table's schema stands over a checked format, and the rules of one table.
 -- Assumes nothing.
+use Rattle.std.specs.Prelude.{⊤}
+use Rattle.std.proofs.Common.{Result, Ok, Err}
 use Prim.Native.Nat.{ℕ, ◌+◌, ◌<◌}
 use mathlib.Core.Path.{◌≡◌, refl, sym, ◌∙◌}
 use mathlib.Core.Bool.{Bool, true, false}
@@ -13,8 +15,6 @@ use Rattle.rules.specs.Bytes.{part}
 use Rattle.rules.specs.Format.{reference_count, entry_count, Format, reference_at, entry_at, lookup, resolved, forms_ok, inline_rule, root_of, reference_rule, entry_rule, rules_order}
 use Rattle.rules.specs.declared.table_record.Reference.{Reference}
 use Rattle.rules.specs.declared.refusal.Refusal.{Refusal}
-use Rattle.rules.specs.declared.answer.Checked.{Checked}
-use Rattle.rules.specs.declared.answer.Checked.TheVariants.{Accepted, Refused}
 use Rattle.rules.specs.declared.table_record.Located.{Located}
 use Rattle.rules.specs.declared.table_record.Located.TheVariants.{Block, NoTable, NoEntry}
 use Rattle.rules.proofs.Tests.{and_both}
@@ -53,19 +53,19 @@ root_any table names references registry t (Block first n) = refl
 root_any table names references registry t NoTable = refl
 root_any table names references registry t NoEntry = refl
 
-module _ (table names references registry : List ℕ) (t : ℕ) (r : Reference) (is : r ≡ reference_at references t) (a : Checked) (says : a ≡ inline_rule (slices table [] [] []) r) where
-  pub rule_inline : {x : Refusal} → a ≡ Refused x → a ≡ reference_rule (slices table names references registry) t
+module _ (table names references registry : List ℕ) (t : ℕ) (r : Reference) (is : r ≡ reference_at references t) (a : Result ⊤ Refusal) (says : a ≡ inline_rule (slices table [] [] []) r) where
+  pub rule_inline : {x : Refusal} → a ≡ Err x → a ≡ reference_rule (slices table names references registry) t
   unfolding reference_rule inline_rule ◌then◌
   rule_inline e = rw (← is, ← says, e)
 
-  pub rule_root : a ≡ Accepted → (l : Located) → l ≡ resolved names registry r → (b : Checked) → b ≡ root_of (slices table [] [] []) t l → b ≡ reference_rule (slices table names references registry) t
+  pub rule_root : a ≡ Ok tt → (l : Located) → l ≡ resolved names registry r → (b : Result ⊤ Refusal) → b ≡ root_of (slices table [] [] []) t l → b ≡ reference_rule (slices table names references registry) t
   unfolding reference_rule inline_rule ◌then◌
   rule_root e l found b q = rw (← is, ← says, e, ← found) (q ∙ sym (root_any table names references registry t l))
 
 -- tables are counted from 0
-pub table_turn : (f : Format) (t : ℕ) (r : Checked) → r ≡ reference_rule f t → r ≡ reference_rule f (0 + t)
+pub table_turn : (f : Format) (t : ℕ) (r : Result ⊤ Refusal) → r ≡ reference_rule f t → r ≡ reference_rule f (0 + t)
 table_turn f t r e = let z : 0 + t ≡ t = omega arith in rw z e
 
-pub rules_is : (table names references registry : List ℕ) → rules_order (slices table names references registry) ≡ pick (eqb (reference_count references) 0) (Refused EmptyTableSchemas) (entries_rule table registry then in_order (reference_rule (slices table names references registry)) 0 (reference_count references))
+pub rules_is : (table names references registry : List ℕ) → rules_order (slices table names references registry) ≡ pick (eqb (reference_count references) 0) (Err EmptyTableSchemas) (entries_rule table registry then in_order (reference_rule (slices table names references registry)) 0 (reference_count references))
 unfolding rules_order entry_rule
 rules_is table names references registry = refl

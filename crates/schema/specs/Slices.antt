@@ -1,13 +1,13 @@
 -- A format as the four slices that a call is given: its parts by the slices that each looks at, and what the check of the
 -- forms lets the steps after it rely on.
 -- Assumes nothing: these are definitions.
-use Rattle.std.specs.Prelude.{ℕ, ◌+◌, ◌≤◌, ◌<◌, ◌≡◌, Bool, List, [], length}
+use Rattle.rules.specs.declared.refusal.Refusal.{Refusal}
+use Rattle.std.specs.declared.cmp.Ordering.{Ordering}
+use Rattle.std.specs.Prelude.{ℕ, ◌+◌, ◌≤◌, ◌<◌, ◌≡◌, Bool, List, [], length, Result, ⊤}
 use Rattle.rules.specs.Choice.{all}
 use Rattle.rules.specs.Refusals.{in_order}
 use Rattle.rules.specs.Bytes.{order}
 use Rattle.rules.specs.Format.{reference_count, entry_count, Format, entry_at, entry_name, reference_at, entry_ok, reference_form_ok, entry_depth_ok, reference_depth_ok, entry_utf8, reference_utf8, entry_rule}
-use Rattle.rules.specs.declared.answer.Checked.{Checked}
-use Rattle.rules.specs.declared.answer.Order.TheVariants.{Less}
 use Rattle.block.specs.Sound.{SoundBlock}
 
 abbrev pub slices : List ℕ → List ℕ → List ℕ → List ℕ → Format
@@ -33,7 +33,7 @@ entries_utf8 table names registry = all (entry_utf8 (slices table names [] regis
 abbrev pub references_utf8 : List ℕ → List ℕ → List ℕ → Bool
 references_utf8 table names references = all (reference_utf8 (slices table names references [])) (reference_count references)
 
-abbrev pub entries_rule : List ℕ → List ℕ → Checked
+abbrev pub entries_rule : List ℕ → List ℕ → Result ⊤ Refusal
 entries_rule table registry = in_order (entry_rule (slices table [] [] registry)) 0 (entry_count registry)
 
 -- ---- what the forms give
@@ -48,7 +48,7 @@ InlineSound table references = (t : ℕ) → t < reference_count references → 
 -- the names of the registry lie in the store, and ascend
 pub record EntriesNamed (names registry : List ℕ) : Type 0 where
   pub inside : (j : ℕ) → j < entry_count registry → (entry_at registry j).start + (entry_at registry j).len ≤ length names
-  pub ascend : (j : ℕ) → j + 1 < entry_count registry → order (entry_name names registry j) (entry_name names registry (j + 1)) ≡ Less
+  pub ascend : (j : ℕ) → j + 1 < entry_count registry → order (entry_name names registry j) (entry_name names registry (j + 1)) ≡ Ordering.Less
 
 -- those that references give lie there too
 abbrev pub ReferencesNamed : List ℕ → List ℕ → Type 0

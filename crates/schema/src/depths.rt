@@ -3,12 +3,12 @@ ghost use Rattle.std.specs.Prelude.{◌≡◌, true, [], eqb};
 ghost use Rattle.rules.specs.Choice.{pick};
 ghost use Rattle.rules.specs.Format.{block_depth_ok, depths_ok};
 ghost use Rattle.block.specs.Sound.{SoundBlock};
-ghost use Rattle.schema.specs.Slices.{slices, entries_shallow, references_shallow, EntriesSound, InlineSound};
+ghost use Rattle.schema.specs.Slices.{entries_shallow, references_shallow, EntriesSound, InlineSound};
 
 use block::table::block_depth_ok;
 use record::entry::{ENTRY_SIZE, entry_at};
 use record::reference::{REFERENCE_SIZE, reference_at};
-use rules::Reference;
+use rules::{Format, Reference};
 
 fn entries_shallow(table: &[u8], registry: &[u8]) -> bool
     requires { EntriesSound table.now registry.now }
@@ -38,9 +38,10 @@ fn references_shallow(table: &[u8], references: &[u8]) -> bool
     (0..m).all(|t| reference_shallow(table, reference_at(references, t)))
 }
 
-pub fn depths_ok(table: &[u8], references: &[u8], registry: &[u8]) -> bool
-    requires { EntriesSound table.now registry.now × InlineSound table.now references.now }
-    ensures { result ≡ depths_ok (slices table.now [] references.now registry.now) }
+pub fn depths_ok(format: &Format) -> bool
+    requires { EntriesSound format.now.table format.now.registry × InlineSound format.now.table format.now.references }
+    ensures { result ≡ depths_ok format.now }
 {
-    entries_shallow(table, registry) && references_shallow(table, references)
+    entries_shallow(format.table, format.registry)
+        && references_shallow(format.table, format.references)
 }

@@ -2,11 +2,12 @@
 ghost use Rattle.std.specs.Prelude.{◌≡◌, [], ◌+◌, ◌≤◌, length};
 ghost use Rattle.rules.specs.Bytes.{part};
 ghost use Rattle.rules.specs.Format.{entry_count, lookup, resolved, table_schema};
-ghost use Rattle.schema.specs.Slices.{slices, EntriesNamed, ReferencesNamed};
+ghost use Rattle.schema.specs.Slices.{EntriesNamed, ReferencesNamed};
 
 use record::entry::{ENTRY_SIZE, entry_at};
 use record::reference::{REFERENCE_SIZE, reference_at};
-use rules::{Located, Order, Reference};
+use rules::{Format, Located, Reference};
+use std::cmp::Ordering;
 
 // The block of the registry's entry that has the name. The names ascend, so half of what is left is ruled out at each turn: a row of a
 // table with a name costs no walk over the registry.
@@ -29,13 +30,13 @@ pub fn lookup(names: &[u8], registry: &[u8], start: u64, len: u64) -> Located
             len as usize,
         );
         match order {
-            Order::Equal => {
+            Ordering::Equal => {
                 return Located::Block(e.first, e.count);
             }
-            Order::Less => {
+            Ordering::Less => {
                 low = middle + 1;
             }
-            Order::Greater => {
+            Ordering::Greater => {
                 high = middle;
             }
         }
@@ -58,13 +59,17 @@ pub fn resolve(names: &[u8], registry: &[u8], r: Reference) -> Located
 }
 
 // Where table t's schema stands, over a checked format. No step of it looks at the record table.
-pub fn table_schema(names: &[u8], references: &[u8], registry: &[u8], t: u64) -> Located
-    requires { EntriesNamed names.now registry.now × ReferencesNamed names.now references.now }
-    ensures { result ≡ table_schema (slices [] names.now references.now registry.now) t }
+pub fn table_schema(format: &Format, t: u64) -> Located
+    requires { EntriesNamed format.now.names format.now.registry × ReferencesNamed format.now.names format.now.references }
+    ensures { result ≡ table_schema format.now t }
 {
-    let m = (references.len() / REFERENCE_SIZE) as u64;
+    let m = (format.references.len() / REFERENCE_SIZE) as u64;
     if m <= t {
         return Located::NoTable;
     }
-    resolve(names, registry, reference_at(references, t))
+    resolve(
+        format.names,
+        format.registry,
+        reference_at(format.references, t),
+    )
 }

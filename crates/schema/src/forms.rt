@@ -10,16 +10,13 @@ use block::table::block_form_ok;
 use record::entry::{ENTRY_SIZE, entry_at};
 use record::node::NODE_SIZE;
 use record::reference::{REFERENCE_SIZE, reference_at};
-use rules::{Order, Reference};
+use rules::{Format, Reference};
+use std::cmp::Ordering;
 
-fn is_less(o: Order) -> bool
+fn is_less(o: Ordering) -> bool
     ensures { result ≡ is_less o }
 {
-    match o {
-        Order::Less => true,
-        Order::Equal => false,
-        Order::Greater => false,
-    }
+    o.is_lt()
 }
 
 // Entry j's name is greater than the one before it.
@@ -91,12 +88,12 @@ fn references_ok(table: &[u8], names: &[u8], references: &[u8]) -> bool
     (0..m).all(|t| reference_ok(table, names, reference_at(references, t)))
 }
 
-pub fn forms_ok(table: &[u8], names: &[u8], references: &[u8], registry: &[u8]) -> bool
-    ensures { result ≡ forms_ok (slices table.now names.now references.now registry.now) }
+pub fn forms_ok(format: &Format) -> bool
+    ensures { result ≡ forms_ok format.now }
 {
-    table.len() % NODE_SIZE == 0
-        && references.len() % REFERENCE_SIZE == 0
-        && registry.len() % ENTRY_SIZE == 0
-        && entries_ok(table, names, registry)
-        && references_ok(table, names, references)
+    format.table.len() % NODE_SIZE == 0
+        && format.references.len() % REFERENCE_SIZE == 0
+        && format.registry.len() % ENTRY_SIZE == 0
+        && entries_ok(format.table, format.names, format.registry)
+        && references_ok(format.table, format.names, format.references)
 }

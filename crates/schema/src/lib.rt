@@ -4,7 +4,6 @@
 
 ghost use Rattle.std.specs.Prelude.{◌≡◌};
 ghost use Rattle.rules.specs.Format.{name_answer, schema_answer, encoder_rules, encoder_rule, format_rules, format_rule};
-ghost use Rattle.schema.specs.Slices.{slices};
 
 pub mod depths;
 pub mod format;
@@ -17,57 +16,53 @@ use depths::depths_ok;
 use forms::forms_ok;
 use names::format_utf8;
 use order::rules_order;
-use rules::{Checked, LONGEST, Purpose, Refusal};
+use rules::{Format, LONGEST, Purpose, Refusal};
 
 // ---- one name
 
 // The check of a name by itself.
-pub fn check_name(name: &[u8]) -> Checked
+pub fn check_name(name: &[u8]) -> Result<(), Refusal>
     ensures { result ≡ name_answer name.now }
 {
     if LONGEST < name.len() {
-        return Checked::Refused(Refusal::SETTING);
+        return Err(Refusal::SETTING);
     }
     if utf8::is_utf8(name, 0, name.len()) {
-        return Checked::Accepted;
+        return Ok(());
     }
-    Checked::Refused(Refusal::NAME_NOT_UTF8)
+    Err(Refusal::NAME_NOT_UTF8)
 }
 
 // ---- one block, given by first record and record count
 
 // The check of a schema alone.
-pub fn check_schema(table: &[u8], names: &[u8], first: u64, count: u64) -> Checked
+pub fn check_schema(table: &[u8], names: &[u8], first: u64, count: u64) -> Result<(), Refusal>
     ensures { result ≡ schema_answer table.now names.now first count }
 {
     if LONGEST < table.len() || LONGEST < names.len() {
-        return Checked::Refused(Refusal::SETTING);
+        return Err(Refusal::SETTING);
     }
-    let stands = block_stands(table, names, first, count);
-    let Checked::Accepted = stands else {
-        return stands;
-    };
+    block_stands(table, names, first, count)?;
     block_rule(table, first, count)
 }
 
 // The check of the encoder's schema, its sizes left to a caller that has more settings to test.
-pub fn encoder_rules(table: &[u8], names: &[u8], first: u64, count: u64) -> Checked
+pub fn encoder_rules(table: &[u8], names: &[u8], first: u64, count: u64) -> Result<(), Refusal>
     ensures { result ≡ encoder_rules table.now names.now first count }
 {
-    let stands = block_stands(table, names, first, count);
-    let Checked::Accepted = stands else {
-        return stands;
-    };
-    let own = block_rule(table, first, count);
-    let Checked::Accepted = own else {
-        return own;
-    };
+    block_stands(table, names, first, count)?;
+    block_rule(table, first, count)?;
     block_root(table, first, count, Purpose::Encoder)
 }
 
 // The same answer, sooner for a block of few records that passes. It is apart from the plain one, so that `encode`, its one caller, has it
 // compiled into it.
-pub fn encoder_rules_at_once(table: &[u8], names: &[u8], first: u64, count: u64) -> Checked
+pub fn encoder_rules_at_once(
+    table: &[u8],
+    names: &[u8],
+    first: u64,
+    count: u64,
+) -> Result<(), Refusal>
     ensures { result ≡ encoder_rules table.now names.now first count }
 {
     if block_passes(table, names, first, count) && block_utf8(table, names, first, count) {
@@ -79,11 +74,16 @@ pub fn encoder_rules_at_once(table: &[u8], names: &[u8], first: u64, count: u64)
     encoder_rules(block, store, first, count)
 }
 
-pub fn check_encoder_schema(table: &[u8], names: &[u8], first: u64, count: u64) -> Checked
+pub fn check_encoder_schema(
+    table: &[u8],
+    names: &[u8],
+    first: u64,
+    count: u64,
+) -> Result<(), Refusal>
     ensures { result ≡ encoder_rule table.now names.now first count }
 {
     if LONGEST < table.len() || LONGEST < names.len() {
-        return Checked::Refused(Refusal::SETTING);
+        return Err(Refusal::SETTING);
     }
     encoder_rules(table, names, first, count)
 }
@@ -91,30 +91,30 @@ pub fn check_encoder_schema(table: &[u8], names: &[u8], first: u64, count: u64) 
 // ---- a format
 
 // All forms, all depths, all names, then the rules; its sizes left to a caller that has more settings to test.
-pub fn format_rules(table: &[u8], names: &[u8], references: &[u8], registry: &[u8]) -> Checked
-    ensures { result ≡ format_rules (slices table.now names.now references.now registry.now) }
+pub fn format_rules(format: &Format) -> Result<(), Refusal>
+    ensures { result ≡ format_rules format.now }
 {
-    if !forms_ok(table, names, references, registry) {
-        return Checked::Refused(Refusal::BAD_SCHEMA_TABLE);
+    if !forms_ok(format) {
+        return Err(Refusal::BAD_SCHEMA_TABLE);
     }
-    if !depths_ok(table, references, registry) {
-        return Checked::Refused(Refusal::TOO_DEEP);
+    if !depths_ok(format) {
+        return Err(Refusal::TOO_DEEP);
     }
-    if !format_utf8(table, names, references, registry) {
-        return Checked::Refused(Refusal::NAME_NOT_UTF8);
+    if !format_utf8(format) {
+        return Err(Refusal::NAME_NOT_UTF8);
     }
-    rules_order(table, names, references, registry)
+    rules_order(format)
 }
 
-pub fn check_format(table: &[u8], names: &[u8], references: &[u8], registry: &[u8]) -> Checked
-    ensures { result ≡ format_rule (slices table.now names.now references.now registry.now) }
+pub fn check_format(format: &Format) -> Result<(), Refusal>
+    ensures { result ≡ format_rule format.now }
 {
-    if LONGEST < table.len()
-        || LONGEST < names.len()
-        || LONGEST < references.len()
-        || LONGEST < registry.len()
+    if LONGEST < format.table.len()
+        || LONGEST < format.names.len()
+        || LONGEST < format.references.len()
+        || LONGEST < format.registry.len()
     {
-        return Checked::Refused(Refusal::SETTING);
+        return Err(Refusal::SETTING);
     }
-    format_rules(table, names, references, registry)
+    format_rules(format)
 }

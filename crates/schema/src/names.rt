@@ -9,7 +9,7 @@ ghost use Rattle.schema.specs.Slices.{slices, entries_ok, references_ok, entries
 use block::table::block_utf8;
 use record::entry::{ENTRY_SIZE, entry_at};
 use record::reference::{REFERENCE_SIZE, reference_at};
-use rules::{Entry, Reference};
+use rules::{Entry, Format, Reference};
 use utf8::{is_utf8, short_ascii};
 
 // An entry's own name, and those of its block, whether or not a table refers to it.
@@ -54,10 +54,11 @@ fn references_utf8(table: &[u8], names: &[u8], references: &[u8]) -> bool
 }
 
 // A store of no more bytes than the record table, all of them ASCII, needs no look at each name.
-pub fn format_utf8(table: &[u8], names: &[u8], references: &[u8], registry: &[u8]) -> bool
-    requires { forms_ok (slices table.now names.now references.now registry.now) ≡ true }
-    ensures { result ≡ format_utf8 (slices table.now names.now references.now registry.now) }
+pub fn format_utf8(format: &Format) -> bool
+    requires { forms_ok format.now ≡ true }
+    ensures { result ≡ format_utf8 format.now }
 {
-    short_ascii(names, table.len())
-        || (entries_utf8(table, names, registry) && references_utf8(table, names, references))
+    short_ascii(format.names, format.table.len())
+        || (entries_utf8(format.table, format.names, format.registry)
+            && references_utf8(format.table, format.names, format.references))
 }

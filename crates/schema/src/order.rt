@@ -9,25 +9,22 @@ use super::format::resolve;
 use block::table::{block_root, block_rule};
 use record::entry::{ENTRY_SIZE, entry_at};
 use record::reference::{REFERENCE_SIZE, reference_at};
-use rules::{Checked, Located, Purpose, Reference, Refusal, Why};
+use rules::{Format, Located, Purpose, Reference, Refusal, Why};
 
-fn entries_rule(table: &[u8], registry: &[u8]) -> Checked
+fn entries_rule(table: &[u8], registry: &[u8]) -> Result<(), Refusal>
     requires { EntriesSound table.now registry.now }
     ensures { result ≡ entries_rule table.now registry.now }
 {
     let m = (registry.len() / ENTRY_SIZE) as u64;
     for j in 0..m {
         let e = entry_at(registry, j);
-        let block = block_rule(table, e.first, e.count);
-        let Checked::Accepted = block else {
-            return block;
-        };
+        block_rule(table, e.first, e.count)?;
     }
-    Checked::Accepted
+    Ok(())
 }
 
 // A registry's schema was checked with the registry.
-fn inline_rule(table: &[u8], r: Reference) -> Checked
+fn inline_rule(table: &[u8], r: Reference) -> Result<(), Refusal>
     requires { r.kind ≡ 0 → SoundBlock table.now r.start r.len }
     ensures { result ≡ inline_rule (slices table.now [] [] []) r }
 {
@@ -35,21 +32,21 @@ fn inline_rule(table: &[u8], r: Reference) -> Checked
     if kind == 0 {
         return block_rule(table, r.start, r.len);
     }
-    Checked::Accepted
+    Ok(())
 }
 
 // Table t's root and names, in the block that was found for it.
-fn root_of(table: &[u8], t: u64, found: Located) -> Checked
+fn root_of(table: &[u8], t: u64, found: Located) -> Result<(), Refusal>
     requires { (first n : ℕ) → found ≡ Located.Block first n → SoundBlock table.now first n }
     ensures { result ≡ root_of (slices table.now [] [] []) t found }
 {
     match found {
         Located::Block(first, count) => block_root(table, first, count, Purpose::Format),
-        Located::NoTable => Checked::Refused(Refusal {
+        Located::NoTable => Err(Refusal {
             why: Why::UnknownRegistryReference { table: t },
             place: t,
         }),
-        Located::NoEntry => Checked::Refused(Refusal {
+        Located::NoEntry => Err(Refusal {
             why: Why::UnknownRegistryReference { table: t },
             place: t,
         }),
@@ -57,44 +54,34 @@ fn root_of(table: &[u8], t: u64, found: Located) -> Checked
 }
 
 // Table t: its reference or inline schema, its root, its names.
-fn reference_rule(table: &[u8], names: &[u8], references: &[u8], registry: &[u8], t: u64) -> Checked
-    requires { Forms (slices table.now names.now references.now registry.now) × (t < reference_count references.now) }
-    ensures { result ≡ reference_rule (slices table.now names.now references.now registry.now) t }
+fn reference_rule(format: &Format, t: u64) -> Result<(), Refusal>
+    requires { Forms format.now × (t < reference_count format.now.references) }
+    ensures { result ≡ reference_rule format.now t }
 {
-    let r = reference_at(references, t);
-    let inline = inline_rule(table, r);
-    let Checked::Accepted = inline else {
-        return inline;
-    };
-    root_of(table, t, resolve(names, registry, r))
+    let r = reference_at(format.references, t);
+    inline_rule(format.table, r)?;
+    root_of(format.table, t, resolve(format.names, format.registry, r))
 }
 
-fn references_rule(table: &[u8], names: &[u8], references: &[u8], registry: &[u8]) -> Checked
-    requires { Forms (slices table.now names.now references.now registry.now) }
-    ensures { result ≡ in_order (reference_rule (slices table.now names.now references.now
-        registry.now)) 0 (reference_count references.now) }
+fn references_rule(format: &Format) -> Result<(), Refusal>
+    requires { Forms format.now }
+    ensures { result ≡ in_order (reference_rule format.now) 0 (reference_count format.now.references) }
 {
-    let m = (references.len() / REFERENCE_SIZE) as u64;
+    let m = (format.references.len() / REFERENCE_SIZE) as u64;
     for t in 0..m {
-        let one = reference_rule(table, names, references, registry, t);
-        let Checked::Accepted = one else {
-            return one;
-        };
+        reference_rule(format, t)?;
     }
-    Checked::Accepted
+    Ok(())
 }
 
 // No tables; the registry's schemas in name order; then each table in turn.
-pub fn rules_order(table: &[u8], names: &[u8], references: &[u8], registry: &[u8]) -> Checked
-    requires { Forms (slices table.now names.now references.now registry.now) }
-    ensures { result ≡ rules_order (slices table.now names.now references.now registry.now) }
+pub fn rules_order(format: &Format) -> Result<(), Refusal>
+    requires { Forms format.now }
+    ensures { result ≡ rules_order format.now }
 {
-    if references.len() / REFERENCE_SIZE == 0 {
-        return Checked::Refused(Refusal::EMPTY_TABLE_SCHEMAS);
+    if format.references.len() / REFERENCE_SIZE == 0 {
+        return Err(Refusal::EMPTY_TABLE_SCHEMAS);
     }
-    let entries = entries_rule(table, registry);
-    let Checked::Accepted = entries else {
-        return entries;
-    };
-    references_rule(table, names, references, registry)
+    entries_rule(format.table, format.registry)?;
+    references_rule(format)
 }

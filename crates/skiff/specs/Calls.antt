@@ -1,6 +1,7 @@
 -- What the C functions take, return and leave in the slices that they are lent.
 -- Assumes nothing: these are definitions.
-use Rattle.std.specs.Prelude.{ℕ, List, length, leb}
+use Rattle.rules.specs.declared.refusal.Refusal.{Refusal}
+use Rattle.std.specs.Prelude.{ℕ, List, length, leb, Result}
 use Rattle.rules.specs.Choice.{pick}
 use Rattle.rules.specs.Bytes.{over}
 use Rattle.rules.specs.Names.{parsed}
@@ -13,7 +14,6 @@ use Rattle.rules.specs.Query.{query_rule}
 use Rattle.rules.specs.Windows.{run_after}
 use Rattle.rules.specs.Index.{build_rule, check_index_rule, extend_rule, indexed_row_rule}
 use Rattle.rules.specs.declared.settings.Settings.{Settings}
-use Rattle.rules.specs.declared.host_answer.Viewed.{Viewed}
 use Rattle.answers.specs.declared.AnswerNumbers.{AnswerNumbers}
 use Rattle.answers.specs.Answers.{answer_layout, answer_of_read, answer_of_ran, answer_of_window, answer_of_written, answer_of_text, answer_of_checked, answer_of_known, answer_of_queried, answer_of_viewed}
 
@@ -59,7 +59,7 @@ unfoldable pub value_given : List ℕ → ℕ → List ℕ → Given
 value_given rs i slice = given slice (answer_of_queried (query_rule rs i))
 
 -- what is seen from a record, by whichever rule of the row view
-unfoldable pub view_given : Viewed → List ℕ → Given
+unfoldable pub view_given : Result ℕ Refusal → List ℕ → Given
 view_given v slice = given slice (answer_of_viewed v)
 
 -- decode's two slices too

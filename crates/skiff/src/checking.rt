@@ -5,6 +5,7 @@ ghost use Rattle.skiff.specs.Calls.{check_format_given, check_encoder_schema_giv
 
 use super::ANSWER;
 use answers::{answer_of_checked, answer_of_known, give};
+use rules::Format;
 
 // Whether four slices are a format.
 pub fn skiff2_check_format(
@@ -21,7 +22,13 @@ pub fn skiff2_check_format(
     if answer.len() < ANSWER {
         return 1;
     }
-    let checked = schema::check_format(table, names, references, registry);
+    let format = Format {
+        table,
+        names,
+        references,
+        registry,
+    };
+    let checked = schema::check_format(&format);
     give(answer, answer_of_checked(checked))
 }
 

@@ -7,7 +7,7 @@ use super::ANSWER;
 use answers::{answer_of_ran, answer_of_read, give};
 use index::{build_index, check_index, extend_index};
 use indexed_row::decode_indexed;
-use rules::Settings;
+use rules::{Format, Settings};
 
 // The index of all rows.
 pub fn skiff2_build_index(
@@ -37,7 +37,13 @@ pub fn skiff2_build_index(
         max_yson32_bytes,
         max_row_bytes,
     };
-    let ran = build_index(settings, table, names, references, registry, input, index);
+    let format = Format {
+        table,
+        names,
+        references,
+        registry,
+    };
+    let ran = build_index(settings, &format, input, index);
     let stop = ran.stop;
     give(answer, answer_of_ran(ran.rows, ran.bytes, stop))
 }
@@ -70,7 +76,13 @@ pub fn skiff2_check_index(
         max_yson32_bytes,
         max_row_bytes,
     };
-    let ran = check_index(settings, table, names, references, registry, input, index);
+    let format = Format {
+        table,
+        names,
+        references,
+        registry,
+    };
+    let ran = check_index(settings, &format, input, index);
     let stop = ran.stop;
     give(answer, answer_of_ran(ran.rows, ran.bytes, stop))
 }
@@ -104,9 +116,13 @@ pub fn skiff2_extend_index(
         max_yson32_bytes,
         max_row_bytes,
     };
-    let ran = extend_index(
-        settings, table, names, references, registry, input, old, index,
-    );
+    let format = Format {
+        table,
+        names,
+        references,
+        registry,
+    };
+    let ran = extend_index(settings, &format, input, old, index);
     let stop = ran.stop;
     give(answer, answer_of_ran(ran.rows, ran.bytes, stop))
 }
@@ -142,8 +158,12 @@ pub fn skiff2_decode_indexed(
         max_yson32_bytes,
         max_row_bytes,
     };
-    let read = decode_indexed(
-        settings, table, names, references, registry, input, index, row, records, payload,
-    );
+    let format = Format {
+        table,
+        names,
+        references,
+        registry,
+    };
+    let read = decode_indexed(settings, &format, input, index, row, records, payload);
     give(answer, answer_of_read(read))
 }

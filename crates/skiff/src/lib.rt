@@ -1,4 +1,4 @@
-// The C functions. An answer goes to a slice that is kept for answers, in one layout for all of them: include/skiff.h.
+// The C functions. Each takes the numbers and slices that C can give, one by one, and answers numbers. An answer goes to a slice that is kept for answers, in one layout for all of them: include/skiff.h.
 #![tactic(auto)]
 
 pub mod checking;

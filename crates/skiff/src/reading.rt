@@ -5,7 +5,7 @@ ghost use Rattle.skiff.specs.Calls.{settings_of, skip_given, run_given, decode_g
 
 use super::ANSWER;
 use answers::{answer_of_ran, answer_of_read, give};
-use rules::Settings;
+use rules::{Format, Settings};
 
 // The row at a position.
 pub fn skiff2_skip(
@@ -34,9 +34,13 @@ pub fn skiff2_skip(
         max_yson32_bytes,
         max_row_bytes,
     };
-    let read = row::skip_row(
-        settings, table, names, references, registry, input, position,
-    );
+    let format = Format {
+        table,
+        names,
+        references,
+        registry,
+    };
+    let read = row::skip_row(settings, &format, input, position);
     give(answer, answer_of_read(read))
 }
 
@@ -66,7 +70,13 @@ pub fn skiff2_run(
         max_yson32_bytes,
         max_row_bytes,
     };
-    let ran = run::run(settings, table, names, references, registry, input);
+    let format = Format {
+        table,
+        names,
+        references,
+        registry,
+    };
+    let ran = run::run(settings, &format, input);
     let stop = ran.stop;
     give(answer, answer_of_ran(ran.rows, ran.bytes, stop))
 }
@@ -101,8 +111,12 @@ pub fn skiff2_decode(
         max_yson32_bytes,
         max_row_bytes,
     };
-    let read = decode::next_row(
-        settings, table, names, references, registry, input, position, records, payload,
-    );
+    let format = Format {
+        table,
+        names,
+        references,
+        registry,
+    };
+    let read = decode::next_row(settings, &format, input, position, records, payload);
     give(answer, answer_of_read(read))
 }

@@ -5,10 +5,10 @@ ghost use Rattle.skiff.specs.Calls.{view_given};
 
 use super::ANSWER;
 use answers::{answer_of_viewed, give};
-use rules::Viewed;
+use rules::Refusal;
 
 // Gives to the host what is seen.
-fn give_viewed(answer: &mut [u8], viewed: Viewed) -> u32
+fn give_viewed(answer: &mut [u8], viewed: Result<u64, Refusal>) -> u32
     ensures { record { number = result; answer = answer.new } ≡ view_given viewed answer.old }
 {
     if answer.len() < ANSWER {

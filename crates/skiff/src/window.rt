@@ -6,11 +6,11 @@ ghost use Rattle.skiff.specs.Calls.{settings_of, run_window_given};
 
 use super::ANSWER;
 use answers::{AnswerNumbers, answer_of_ran, give};
-use rules::{Extent, Settings, Stop};
+use rules::{Extent, Format, Refusal, Settings};
 use windows::{goes_on, run_after};
 
 // A run over a window in numbers: the run's own, and 1 in the table's place where more bytes may change it.
-fn answer_of_window(rows: u64, bytes: u64, stop: Stop) -> AnswerNumbers
+fn answer_of_window(rows: u64, bytes: u64, stop: Result<(), Refusal>) -> AnswerNumbers
     ensures { result ≡ answer_of_window (record { rows = rows; bytes = bytes; stop = stop }) }
 {
     let ran = answer_of_ran(rows, bytes, stop);
@@ -57,9 +57,13 @@ pub fn skiff2_run_window(
         max_yson32_bytes,
         max_row_bytes,
     };
-    let ran = run_after(
-        settings, rows, bytes, table, names, references, registry, window,
-    );
+    let format = Format {
+        table,
+        names,
+        references,
+        registry,
+    };
+    let ran = run_after(settings, rows, bytes, &format, window);
     let stop = ran.stop;
     give(answer, answer_of_window(ran.rows, ran.bytes, stop))
 }

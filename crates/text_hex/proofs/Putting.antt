@@ -67,12 +67,12 @@ put_one_more s₀ s at last (suc n) x d h p e =
 
 -- ---- bytes, or that there are none
 
-pub put_no_bytes : (s t store : List ℕ) (at end from count : ℕ) → count ≡ 0 → TextPut s at (ascii "-") t end → TextPut s at (hex_bytes (part store from count)) t end
-unfolding hex_bytes is_none pick part
-put_no_bytes s t store at end from zero h p = p
-put_no_bytes s t store at end from (suc n) h p = absurd (omega arith)
+pub put_no_bytes : (s t bytes : List ℕ) (at end : ℕ) → length bytes ≡ 0 → TextPut s at (ascii "-") t end → TextPut s at (hex_bytes bytes) t end
+unfolding hex_bytes is_none pick
+put_no_bytes s t [] at end h p = p
+put_no_bytes s t (x ∷ xs) at end h p = absurd (omega arith)
 
-pub put_some_bytes : (s t store : List ℕ) (at end from count : ℕ) → (count ≡ 0 → ⊥) → TextPut s at (hex (part store from count)) t end → TextPut s at (hex_bytes (part store from count)) t end
-unfolding hex_bytes is_none pick part
-put_some_bytes s t store at end from zero h p = absurd (h refl)
-put_some_bytes s t store at end from (suc n) h p = p
+pub put_some_bytes : (s t bytes : List ℕ) (at end : ℕ) → (length bytes ≡ 0 → ⊥) → TextPut s at (hex bytes) t end → TextPut s at (hex_bytes bytes) t end
+unfolding hex_bytes is_none pick
+put_some_bytes s t [] at end h p = absurd (h refl)
+put_some_bytes s t (x ∷ xs) at end h p = p

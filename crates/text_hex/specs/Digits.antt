@@ -1,7 +1,12 @@
 -- The hex digits of a number, and where they stand in its bytes.
 -- Assumes nothing: these are definitions.
-use Rattle.std.specs.Prelude.{ℕ, ◌+◌, ◌/◌, ◌%◌, ◌^◌, List, get_or, eqb}
+use Rattle.std.specs.Prelude.{ℕ, ◌+◌, ◌/◌, ◌%◌, ◌^◌, List, length, get_or, eqb}
+use Rattle.rules.specs.Bytes.{le_at}
 use Rattle.rules.specs.Choice.{pick}
+
+-- the number that bytes are, the lowest first, however many they are
+abbrev pub number_of : List ℕ → ℕ
+number_of xs = le_at xs 0 (length xs)
 
 -- digit i of a number, the lowest being digit 0
 unfoldable pub digit_of : ℕ → ℕ → ℕ

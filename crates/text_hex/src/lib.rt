@@ -2,7 +2,6 @@
 #![tactic(auto)]
 
 ghost use Rattle.std.specs.Prelude.{◌+◌, ◌*◌, ◌≤◌, ◌<◌, ◌≡◌, length};
-ghost use Rattle.rules.specs.Bytes.{part};
 ghost use Rattle.rules.specs.Numerals.{digit};
 ghost use Rattle.rules.specs.Listing.{hex, hex_number, hex_bytes};
 ghost use Rattle.lines.specs.Puts.{TextPut};
@@ -22,14 +21,14 @@ pub fn hex_digit(d: u8) -> u8
     87 + d
 }
 
-// Bytes of a store in hex, as they stand there.
-fn put_hex(buffer: &mut [u8], at: usize, store: &[u8], from: usize, count: usize) -> usize
-    requires { (at + 2 * count ≤ length buffer.old) × (from + count ≤ length store.now) }
-    ensures text_put { TextPut buffer.old at (hex (part store.now from count)) buffer.new result }
-    ensures value { result ≡ at + 2 * count }
+// Bytes in hex, as they stand there.
+fn put_hex(buffer: &mut [u8], at: usize, bytes: &[u8]) -> usize
+    requires { at + 2 * length bytes.now ≤ length buffer.old }
+    ensures text_put { TextPut buffer.old at (hex bytes.now) buffer.new result }
+    ensures value { result ≡ at + 2 * length bytes.now }
 {
     let mut next = at;
-    for byte in &store[from..from + count] {
+    for byte in bytes {
         buffer[next] = hex_digit(*byte / 16);
         buffer[next + 1] = hex_digit(*byte % 16);
         next += 2;
@@ -38,15 +37,15 @@ fn put_hex(buffer: &mut [u8], at: usize, store: &[u8], from: usize, count: usize
 }
 
 // The same, and a `-` where there are none.
-pub fn put_hex_bytes(buffer: &mut [u8], at: usize, store: &[u8], from: usize, count: usize) -> usize
-    requires { (at + 1 + 2 * count ≤ length buffer.old) × (from + count ≤ length store.now) }
-    ensures text_put { TextPut buffer.old at (hex_bytes (part store.now from count)) buffer.new result }
-    ensures upper_bound { result ≤ at + 1 + 2 * count }
+pub fn put_hex_bytes(buffer: &mut [u8], at: usize, bytes: &[u8]) -> usize
+    requires { at + 1 + 2 * length bytes.now ≤ length buffer.old }
+    ensures text_put { TextPut buffer.old at (hex_bytes bytes.now) buffer.new result }
+    ensures upper_bound { result ≤ at + 1 + 2 * length bytes.now }
 {
-    if count == 0 {
+    if bytes.is_empty() {
         return put_text(buffer, at, b"-");
     }
-    put_hex(buffer, at, store, from, count)
+    put_hex(buffer, at, bytes)
 }
 
 // A number by so many hex digits: those of a sixteenth of it, and then its last.

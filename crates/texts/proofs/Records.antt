@@ -1,17 +1,18 @@
 -- What is told of a record, by its kind.
 -- Assumes nothing.
-use Prim.Native.Nat.{ℕ, ◌≤◌, ◌<◌}
-use mathlib.Core.Path.{◌≡◌}
+use Prim.Native.Nat.{ℕ, ◌+◌, ◌≤◌, ◌<◌}
+use mathlib.Core.Path.{◌≡◌, refl}
 use mathlib.Core.Bool.{true, false}
 use mathlib.Core.List.{List, [], ◌∷◌, ◌++◌, append_assoc}
 use native.Mathlib.Omega.{arith}
 use borrow.Author.Tests.{lt-ltb, le-ltb, eq-eqb, ne_eqb}
 use lib.IntN.{ℤ}
+use lib.ListN.{length}
 use mir.Syntax.{w64}
 use mir.Val.{SFits, of_z, to_z}
 use mir.ValLaws.{to_z-of_z}
+use Rattle.std.specs.List.{between}
 use Rattle.rules.specs.Choice.{pick}
-use Rattle.rules.specs.Bytes.{le_at, part}
 use Rattle.rules.specs.Wire.{form, width_of}
 use Rattle.rules.specs.Names.{ascii}
 use Rattle.rules.specs.Refusals.{report_of}
@@ -19,12 +20,14 @@ use Rattle.rules.specs.Lines.{decimal}
 use Rattle.rules.specs.declared.refusal.Refusal.{Refusal}
 use Rattle.rules.specs.declared.refusal.Report.{Report}
 use Rattle.rules.specs.Query.{signed}
-use Rattle.rules.specs.Numerals.{integer_in}
+use Rattle.rules.specs.Numerals.{integer_in, integer_text}
 use Rattle.rules.specs.Listing.{hex_number, hex_bytes, kind_word, number_text, listing_line, refusal_line}
 use Rattle.rules.specs.declared.table_record.ValueRecord.{ValueRecord}
+use Rattle.rules.proofs.Slices.{part-between}
 use Rattle.query.proofs.Says.{signed_fits}
 use Rattle.lines.specs.Puts.{TextPut}
-use Rattle.texts.specs.Records.{is_stored, kept, IsNumber, payload_text, content_text, line_front, record_line}
+use Rattle.text_hex.proofs.Texts.{text_of_part}
+use Rattle.texts.specs.Records.{is_stored, kept, IsNumber, payload_text, bytes_text, content_text, line_front, record_line}
 
 -- ---- the bits of a number
 
@@ -45,14 +48,19 @@ module _ (s t : List ℕ) (at end kind x : ℕ) where
 
 -- ---- payload
 
-module _ (s t store : List ℕ) (at end kind from count : ℕ) where
-  pub put_integer_payload : kind < 8 → TextPut s at (integer_in 16 (signed count (le_at store from count))) t end → TextPut s at (payload_text kind store from count) t end
-  unfolding payload_text pick
+module _ (s t payload : List ℕ) (at end kind : ℕ) where
+  pub put_integer_payload : kind < 8 → TextPut s at (integer_text payload) t end → TextPut s at (bytes_text kind payload) t end
+  unfolding bytes_text pick
   put_integer_payload h p = rw (lt-ltb kind 8 h) p
 
-  pub put_blob_payload : 8 ≤ kind → TextPut s at (hex_bytes (part store from count)) t end → TextPut s at (payload_text kind store from count) t end
-  unfolding payload_text pick
+  pub put_blob_payload : 8 ≤ kind → TextPut s at (hex_bytes payload) t end → TextPut s at (bytes_text kind payload) t end
+  unfolding bytes_text pick
   put_blob_payload h p = rw (le-ltb kind 8 h) p
+
+-- the slice of a store that the payload is
+pub payload_slice : (kind : ℕ) (store : List ℕ) (from count : ℕ) → from + count ≤ length store → bytes_text kind (between from (from + count) store) ≡ payload_text kind store from count
+unfolding bytes_text payload_text
+payload_slice kind store from count h = rw (text_of_part store from count h, part-between store from (from + count) count refl h)
 
 -- ---- a record's size and content
 

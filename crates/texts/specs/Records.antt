@@ -7,7 +7,7 @@ use Rattle.rules.specs.Wire.{form, width_of}
 use Rattle.rules.specs.Names.{ascii}
 use Rattle.rules.specs.Lines.{decimal}
 use Rattle.rules.specs.Query.{signed}
-use Rattle.rules.specs.Numerals.{integer_in}
+use Rattle.rules.specs.Numerals.{integer_in, integer_text}
 use Rattle.rules.specs.Listing.{hex_bytes, number_text, listing_line}
 use Rattle.rules.specs.declared.table_record.ValueRecord.{ValueRecord}
 
@@ -38,6 +38,10 @@ pub record Told (r : ValueRecord) (store : ℕ) : Type 0 where
 -- an integer by its number, a blob by its bytes
 unfoldable pub payload_text : ℕ → List ℕ → ℕ → ℕ → List ℕ
 payload_text kind store from count = pick (ltb kind 8) (integer_in 16 (signed count (le_at store from count))) (hex_bytes (part store from count))
+
+-- the same of payload that is a slice of its own
+unfoldable pub bytes_text : ℕ → List ℕ → List ℕ
+bytes_text kind xs = pick (ltb kind 8) (integer_text xs) (hex_bytes xs)
 
 unfoldable pub content_text : ValueRecord → List ℕ → List ℕ
 content_text r store =

@@ -6,7 +6,7 @@ ghost use Rattle.std.specs.Prelude.{◌+◌, ◌*◌, ◌≤◌, ◌<◌, ◌≡
 ghost use Rattle.rules.specs.Numerals.{integer_in};
 ghost use Rattle.rules.specs.Listing.{number_text, refusal_line};
 ghost use Rattle.lines.specs.Puts.{TextPut};
-ghost use Rattle.texts.specs.Records.{is_stored, kept, IsNumber, IsPayload, Told, payload_text, content_text, line_front, record_line};
+ghost use Rattle.texts.specs.Records.{is_stored, kept, IsNumber, Told, bytes_text, content_text, line_front, record_line};
 
 use lines::{put_number, put_text, put_word};
 use query::signed;
@@ -72,22 +72,16 @@ fn put_bits(buffer: &mut [u8], at: usize, kind: u8, bits: u64) -> usize
 }
 
 // What payload says: an int128 or int256 its number, a blob its bytes.
-fn put_payload(
-    buffer: &mut [u8],
-    at: usize,
-    kind: u8,
-    store: &[u8],
-    from: usize,
-    count: usize,
-) -> usize
-    requires { (at + (1 + 2 * count) ≤ length buffer.old) × IsPayload kind from count (length store.now) }
-    ensures text_put { TextPut buffer.old at (payload_text kind store.now from count) buffer.new result }
-    ensures upper_bound { result ≤ at + (1 + 2 * count) }
+fn put_payload(buffer: &mut [u8], at: usize, kind: u8, payload: &[u8]) -> usize
+    requires { (at + (1 + 2 * length payload.now) ≤ length buffer.old)
+        × (kind < 8 → (0 < length payload.now) × (length payload.now ≤ 32)) }
+    ensures text_put { TextPut buffer.old at (bytes_text kind payload.now) buffer.new result }
+    ensures upper_bound { result ≤ at + (1 + 2 * length payload.now) }
 {
     if kind < 8 {
-        return put_signed(buffer, at, store, from, count);
+        return put_signed(buffer, at, payload);
     }
-    put_hex_bytes(buffer, at, store, from, count)
+    put_hex_bytes(buffer, at, payload)
 }
 
 // What a record's size and content say.
@@ -98,7 +92,8 @@ fn put_content(buffer: &mut [u8], at: usize, r: ValueRecord, store: &[u8]) -> us
 {
     let kind = r.kind;
     if is_stored(kind) {
-        return put_payload(buffer, at, kind, store, r.content as usize, r.size as usize);
+        let from = r.content as usize;
+        return put_payload(buffer, at, kind, &store[from..from + r.size as usize]);
     }
     if 14 < kind {
         return put_number(buffer, at, b"", r.size);

@@ -1,5 +1,6 @@
 -- The walk of the check is the rules' reading of a value table, its value forgotten.
 -- Assumes nothing.
+use Rattle.std.proofs.Common.{Option, Some, None}
 use Prim.Native.Nat.{ℕ, zero, suc, ◌+◌, ◌-◌, ◌^◌, ◌≤◌, ◌<◌}
 use mathlib.Core.Path.{◌≡◌, refl, sym, ap, ◌∙◌}
 use mathlib.Core.Bool.{Bool, true, false}
@@ -25,8 +26,6 @@ use Rattle.rules.specs.Query.{scalar_alone, parent_alone}
 use Rattle.value.specs.Records.{tag_ok, stored_ok, has_payload, scalar_ok, value_record_ok}
 use Rattle.value.specs.Walk.{◌>>=◌, past, next_record, walk_children, walk_on, walk_table}
 use Rattle.value.specs.declared.TablePos.{TablePos}
-use Rattle.value.specs.declared.Walked.{Walked}
-use Rattle.value.specs.declared.Walked.TheVariants.{At, Broken}
 use Rattle.value.proofs.Standing.{same_test, is_each, record_test}
 use Rattle.value.proofs.Walks.{walk_ends}
 use Rattle.value.proofs.Fields.{raw_width}
@@ -38,12 +37,12 @@ abbrev pub spot : rule.Spot → TablePos
 spot p = record { at = p.at; from = p.from }
 
 -- where a value ends, without the value
-unfoldable pub forgot : {A : Type 0} → Parsed A → Walked
-forgot (Whole a q) = At (spot q)
-forgot rule.Broken = Broken
+unfoldable pub forgot : {A : Type 0} → Parsed A → Option TablePos
+forgot (Whole a q) = Some (spot q)
+forgot rule.Broken = None
 
 -- a step, and what follows where it ends
-drops : {A B : Type 0} (x : Parsed A) (k : A × rule.Spot → Parsed B) (w : Walked) (g : TablePos → Walked) → forgot x ≡ w → ((a : A) (q : rule.Spot) → w ≡ At (spot q) → forgot (k (a, q)) ≡ g (spot q)) →
+drops : {A B : Type 0} (x : Parsed A) (k : A × rule.Spot → Parsed B) (w : Option TablePos) (g : TablePos → Option TablePos) → forgot x ≡ w → ((a : A) (q : rule.Spot) → w ≡ Some (spot q) → forgot (k (a, q)) ≡ g (spot q)) →
     forgot (rule.◌>>=◌ x k) ≡ w >>= g
 unfolding rule.◌>>=◌ forgot ◌>>=◌
 drops (Whole a q) k w g e f = rw (← e) (f a q (sym e))
@@ -58,19 +57,19 @@ wraps rule.Broken f = refl
 -- ---- tests
 
 -- one test more on both sides
-under : (a f g : Bool) (x y : Walked) → pick f x Broken ≡ pick g y Broken → pick (a and f) x Broken ≡ pick (a and g) y Broken
+under : (a f g : Bool) (x y : Option TablePos) → pick f x None ≡ pick g y None → pick (a and f) x None ≡ pick (a and g) y None
 unfolding pick ◌and◌
 under true f g x y e = e
 under false f g x y e = refl
 
 -- one test that both have, and what it tells
-both : (t u : Bool) (x y : Walked) → t ≡ u → (t ≡ true → x ≡ y) → pick t x Broken ≡ pick u y Broken
+both : (t u : Bool) (x y : Option TablePos) → t ≡ u → (t ≡ true → x ≡ y) → pick t x None ≡ pick u y None
 unfolding pick
 both true u x y e f = rw (← e) (f refl)
 both false u x y e f = rw (← e)
 
 -- a test after a test
-nested : {A : Type 0} (a b : Bool) (v : A) (q : rule.Spot) → pick a (forgot (pick b (Whole v q) rule.Broken)) Broken ≡ pick (a and b) (At (spot q)) Broken
+nested : {A : Type 0} (a b : Bool) (v : A) (q : rule.Spot) → pick a (forgot (pick b (Whole v q) rule.Broken)) None ≡ pick (a and b) (Some (spot q)) None
 unfolding pick ◌and◌ forgot
 nested true true v q = refl
 nested true false v q = refl
@@ -149,16 +148,16 @@ module _ (table store : List ℕ) (bs : Bytes table) (short : length store < 2 ^
     -- so it is for a node whose every value has one record
     heads : (s c : ℕ) → s < 256 ^ 4 → c < 256 ^ 8 → (x : Parsed Value) → Holds (λ v q. head_of v (tag_for b p.at) p.from ≡ value_record r.kind (tag_for b p.at) s c) x →
         forgot (if_record_is table store (tag_for b p.at) p x)
-        ≡ pick (ltb p.at (value_records_in (length table)) and ((eqb r.spare 0 and tag_ok b r.tag) and (eqb r.size s and eqb r.content c))) (forgot x) Broken
+        ≡ pick (ltb p.at (value_records_in (length table)) and ((eqb r.spare 0 and tag_ok b r.tag) and (eqb r.size s and eqb r.content c))) (forgot x) None
     unfolding if_record_is
     heads s c l m (Whole v q) (holds h) = rw (h, record_test table p.at bs (value_record r.kind (tag_for b p.at) s c) (tag_lt b p.at) l m, own_test s c) (picked _)
       where
-        picked : (t : Bool) → forgot (pick t (Whole v q) rule.Broken) ≡ pick t (forgot (Whole v q)) Broken
+        picked : (t : Bool) → forgot (pick t (Whole v q) rule.Broken) ≡ pick t (forgot (Whole v q)) None
         picked true = unfold pick forgot in refl
         picked false = unfold pick forgot in refl
     heads s c l m rule.Broken h = none _
       where
-        none : (t : Bool) → forgot {A = Value} rule.Broken ≡ pick t (forgot {A = Value} rule.Broken) Broken
+        none : (t : Bool) → forgot {A = Value} rule.Broken ≡ pick t (forgot {A = Value} rule.Broken) None
         none true = unfold pick forgot in refl
         none false = unfold pick forgot in refl
 
@@ -172,7 +171,7 @@ module _ (table store : List ℕ) (bs : Bytes table) (short : length store < 2 ^
       stored_heads make n h e = when _ (λ t. holds (e (part store p.from n) (length_part store p.from n)))
 
       -- n payload bytes are there just if they end in the store
-      stored_same : (make : List ℕ → Value) (n : ℕ) (a : Bool) → pick a (forgot (stored_at table store make n p)) Broken ≡ pick (a and leb n (length store - p.from)) (At (past n (spot p))) Broken
+      stored_same : (make : List ℕ → Value) (n : ℕ) (a : Bool) → pick a (forgot (stored_at table store make n p)) None ≡ pick (a and leb n (length store - p.from)) (Some (past n (spot p))) None
       unfolding stored_at
       stored_same make n a = rw (span_leb p.from n (length store) l) (nested a (leb n (length store - p.from)) (make (part store p.from n)) (rule.past_payload table store n p))
 
@@ -183,10 +182,10 @@ module _ (table store : List ℕ) (bs : Bytes table) (short : length store < 2 ^
         size_fits : size < 256 ^ 4
         content_fits : content < 256 ^ 8
         each : Holds (λ v q. head_of v (tag_for b p.at) p.from ≡ value_record r.kind (tag_for b p.at) size content) (scalar_at table store f r p)
-        same : pick (eqb r.size size and eqb r.content content) (forgot (scalar_at table store f r p)) Broken ≡ pick (scalar_ok f r.size r.content p.from (length store)) (At (past r.size (spot p))) Broken
+        same : pick (eqb r.size size and eqb r.content content) (forgot (scalar_at table store f r p)) None ≡ pick (scalar_ok f r.size r.content p.from (length store)) (Some (past r.size (spot p))) None
 
       -- what has no size takes no payload
-      no_size : (t : Bool) → eqb r.size 0 and t ≡ true → At (spot (rule.next table store p)) ≡ At (past r.size (spot p))
+      no_size : (t : Bool) → eqb r.size 0 and t ≡ true → ◌≡◌ {A = Option TablePos} (Some (spot (rule.next table store p))) (Some (past r.size (spot p)))
       no_size t e = let z : r.size ≡ 0 = eqb-true r.size 0 (and_both _ _ e).0 in rw (z, add-zero p.from)
 
       -- what has no value is refused in any case
@@ -194,7 +193,7 @@ module _ (table store : List ℕ) (bs : Bytes table) (short : length store < 2 ^
       unfolding forgot pick
       no_scalar f e g = record { size = 0; content = 0; size_fits = omega arith; content_fits = omega arith; each = rw e fails; same = rw (e, g) (none (eqb r.size 0 and eqb r.content 0)) }
         where
-          none : (t : Bool) → pick t Broken Broken ≡ Broken
+          none : (t : Bool) → ◌≡◌ {A = Option TablePos} (pick t None None) None
           none true = refl
           none false = refl
 
@@ -277,14 +276,14 @@ module _ (table store : List ℕ) (bs : Bytes table) (short : length store < 2 ^
       unfolding walk_children tag_for
       child_same n q m e = rw e (ok true q m ∙ only (walk_table table (length store) d true (spot q)))
         where
-          only : (w : Walked) → w ≡ w >>= (λ z. At z)
-          only (At z) = unfold ◌>>=◌ in refl
-          only Broken = unfold ◌>>=◌ in refl
+          only : (w : Option TablePos) → w ≡ w >>= (λ z. (Some z))
+          only (Some z) = unfold ◌>>=◌ in refl
+          only None = unfold ◌>>=◌ in refl
 
       -- the node, by its kind
       unfoldable Node : Type 0
       Node = forgot (if_record_is table store (tag_for b p.at) p (node_value table store (value_at table store d) (kind_of r.kind) r p))
-          ≡ pick (ltb p.at (value_records_in (length table)) and value_record_ok r b p.from (length store)) (walk_on (walk_table table (length store) d) r (spot p)) Broken
+          ≡ pick (ltb p.at (value_records_in (length table)) and value_record_ok r b p.from (length store)) (walk_on (walk_table table (length store) d) r (spot p)) None
 
       scalar_node : r.kind < 15 → Node
       unfolding Node value_record_ok walk_on node_value kind_of pick
@@ -295,7 +294,7 @@ module _ (table store : List ℕ) (bs : Bytes table) (short : length store < 2 ^
       -- one with children: size and content are tested, and its children follow
       parent_node : {A : Type 0} (s : ℕ) (x : Parsed A) (f : A → Value) → s < 256 ^ 4 → 15 ≤ r.kind → node_value table store (value_at table store d) (kind_of r.kind) r p ≡ rule.◌>>=◌ x (λ z. Whole (f z.0) z.1) →
           Holds (λ a q. head_of (f a) (tag_for b p.at) p.from ≡ value_record r.kind (tag_for b p.at) s 0) x →
-          pick (eqb r.size s and eqb r.content 0) (forgot x) Broken ≡ pick (parent_alone r.kind r.size r.content) (walk_children (walk_table table (length store) d (ltb r.kind 17)) r.size (next_record (spot p))) Broken → Node
+          pick (eqb r.size s and eqb r.content 0) (forgot x) None ≡ pick (parent_alone r.kind r.size r.content) (walk_children (walk_table table (length store) d (ltb r.kind 17)) r.size (next_record (spot p))) None → Node
       unfolding Node value_record_ok walk_on pick
       parent_node s x f l h e each same = rw (e, le-ltb r.kind 15 h)
           (heads s 0 l (omega arith) (rule.◌>>=◌ x (λ z. Whole (f z.0) z.1)) (then each (λ z g. holds {a = f z.0} g)) ∙ under _ _ _ _ _ (under _ _ _ _ _ (rw (wraps x f) same)))
@@ -341,7 +340,7 @@ module _ (table store : List ℕ) (bs : Bytes table) (short : length store < 2 ^
           fails
           (rw (lt-leb r.kind 17 h) (none (eqb r.size 0 and eqb r.content 0)))
         where
-          none : (t : Bool) → pick t Broken Broken ≡ Broken
+          none : (t : Bool) → ◌≡◌ {A = Option TablePos} (pick t None None) None
           none true = refl
           none false = refl
 

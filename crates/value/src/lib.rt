@@ -2,7 +2,7 @@
 // preorder, each looked at once; it builds nothing.
 #![tactic(auto)]
 
-ghost use Rattle.std.specs.Prelude.{◌≡◌, ◌-◌, ◌≤◌, ◌<◌};
+ghost use Rattle.std.specs.Prelude.{◌≡◌, ◌-◌, ◌≤◌, ◌<◌, Err, Some};
 ghost use Rattle.rules.specs.Wire.{form};
 ghost use Rattle.rules.specs.Refusals.{BadValueTable};
 ghost use Rattle.rules.specs.ValueCheck.{table_form, value_table_rule};
@@ -11,20 +11,13 @@ ghost use Rattle.value.specs.Records.{tag_ok, stored_ok, own_size, most_content,
 ghost use Rattle.value.specs.Walk.{walk_children, walk_table};
 
 use record::value_record::{records_in, value_record_at, whole_records};
-use rules::{Checked, LONGEST, Refusal, ValueRecord, Why};
+use rules::{LONGEST, Refusal, ValueRecord, Why};
 
 // Where the walk stands: the next record, and the next byte of the payload store.
 #[derive(Clone, Copy)]
 pub struct TablePos {
     pub at: usize,
     pub from: usize,
-}
-
-// What walking over a value answers: where its records and its payload end, or that there is no value.
-#[derive(Clone, Copy)]
-pub enum Walked {
-    At(TablePos),
-    Broken,
 }
 
 // ---- one record
@@ -170,26 +163,32 @@ pub fn record_ok(r: ValueRecord, tagged: bool, from: usize, store: usize) -> boo
 // ---- a value
 
 // A scalar's record and its payload; or Broken, which says no more than that none is found there.
-fn walk_scalar(records: &[u8], store: usize, depth: usize, tagged: bool, p: TablePos) -> Walked
+fn walk_scalar(
+    records: &[u8],
+    store: usize,
+    depth: usize,
+    tagged: bool,
+    p: TablePos,
+) -> Option<TablePos>
     requires { p.from ≤ store }
-    ensures { (q : TablePos) → result ≡ Walked.At q → result ≡ walk_table records.now store depth tagged p }
+    ensures { (q : TablePos) → result ≡ Some q → result ≡ walk_table records.now store depth tagged p }
 {
     if depth == 0 {
-        return Walked::Broken;
+        return None;
     }
     let at = p.at;
     let from = p.from;
     if records_in(records.len() as u64) <= at as u64 {
-        return Walked::Broken;
+        return None;
     }
     let r = value_record_at(records, at);
     if 14 < r.kind {
-        return Walked::Broken;
+        return None;
     }
     if !record_ok(r, tagged, from, store) {
-        return Walked::Broken;
+        return None;
     }
-    Walked::At(TablePos {
+    Some(TablePos {
         at: at + 1,
         from: from + r.size as usize,
     })
@@ -198,26 +197,32 @@ fn walk_scalar(records: &[u8], store: usize, depth: usize, tagged: bool, p: Tabl
 // The node step. What has no children has its payload's length in the field for the size, or 0. A variant with a scalar below it, as an
 // optional column is, takes no children step.
 #[cycle(walk_children_walk_value)]
-fn walk_value(records: &[u8], store: usize, depth: usize, tagged: bool, p: TablePos) -> Walked
+fn walk_value(
+    records: &[u8],
+    store: usize,
+    depth: usize,
+    tagged: bool,
+    p: TablePos,
+) -> Option<TablePos>
     requires { p.from ≤ store }
     ensures { result ≡ walk_table records.now store depth tagged p }
 {
     if depth == 0 {
-        return Walked::Broken;
+        return None;
     }
     let at = p.at;
     let from = p.from;
     if records_in(records.len() as u64) <= at as u64 {
-        return Walked::Broken;
+        return None;
     }
     let r = value_record_at(records, at);
     if !record_ok(r, tagged, from, store) {
-        return Walked::Broken;
+        return None;
     }
     let kind = r.kind;
     let size = r.size;
     if kind < 15 {
-        return Walked::At(TablePos {
+        return Some(TablePos {
             at: at + 1,
             from: from + size as usize,
         });
@@ -225,18 +230,15 @@ fn walk_value(records: &[u8], store: usize, depth: usize, tagged: bool, p: Table
     let below = TablePos { at: at + 1, from };
     if kind == 15 {
         let leaf = walk_scalar(records, store, depth - 1, true, below);
-        if let Walked::At(q) = leaf {
-            return Walked::At(q);
+        if let Some(q) = leaf {
+            return Some(q);
         }
     }
     // What a call lends has to lie in memory: copied here, so that a scalar is spared that.
     let table = records;
     // The answer is taken apart and built anew: returned as it came, it would go through memory once more.
-    let s = walk_children(table, store, depth, kind < 17, size, below);
-    let Walked::At(q) = s else {
-        return s;
-    };
-    Walked::At(q)
+    let q = walk_children(table, store, depth, kind < 17, size, below)?;
+    Some(q)
 }
 
 // The children step: so many values, one after another. A count that the records do not keep ends where they end.
@@ -248,27 +250,24 @@ fn walk_children(
     tagged: bool,
     count: u64,
     p: TablePos,
-) -> Walked
+) -> Option<TablePos>
     requires { (0 < depth) × (p.from ≤ store) }
     ensures { result ≡ walk_children (walk_table records.now store (depth - 1) tagged) count p }
 {
     let mut q = p;
     for _ in 0..count {
-        let s = walk_value(records, store, depth - 1, tagged, q);
-        let Walked::At(next) = s else {
-            return s;
-        };
+        let next = walk_value(records, store, depth - 1, tagged, q)?;
         q = next;
     }
-    Walked::At(q)
+    Some(q)
 }
 
 // ---- the table
 
-fn no_table() -> Checked
-    ensures { result ≡ Checked.Refused BadValueTable }
+fn no_table() -> Result<(), Refusal>
+    ensures { result ≡ Err BadValueTable }
 {
-    Checked::Refused(Refusal {
+    Err(Refusal {
         why: Why::BadValueTable,
         place: 0,
     })
@@ -276,7 +275,7 @@ fn no_table() -> Checked
 
 // The form alone, the sizes left to a caller that has more to test before it. The one tree is entered by the children step: so the node
 // step has one caller, is compiled into it, and a scalar costs no call.
-pub fn table_form(records: &[u8], payload: &[u8]) -> Checked
+pub fn table_form(records: &[u8], payload: &[u8]) -> Result<(), Refusal>
     ensures { result ≡ table_form records.now payload.now }
 {
     let bytes = records.len() as u64;
@@ -285,7 +284,7 @@ pub fn table_form(records: &[u8], payload: &[u8]) -> Checked
         return no_table();
     }
     let s = walk_children(records, store, 65, false, 1, TablePos { at: 0, from: 0 });
-    let Walked::At(end) = s else {
+    let Some(end) = s else {
         return no_table();
     };
     if end.at as u64 != records_in(bytes) {
@@ -294,18 +293,18 @@ pub fn table_form(records: &[u8], payload: &[u8]) -> Checked
     if end.from != store {
         return no_table();
     }
-    Checked::Accepted
+    Ok(())
 }
 
 // The check of a value table.
-pub fn check_value_table(records: &[u8], payload: &[u8]) -> Checked
+pub fn check_value_table(records: &[u8], payload: &[u8]) -> Result<(), Refusal>
     ensures { result ≡ value_table_rule records.now payload.now }
 {
     if LONGEST < records.len() {
-        return Checked::Refused(Refusal::SETTING);
+        return Err(Refusal::SETTING);
     }
     if LONGEST < payload.len() {
-        return Checked::Refused(Refusal::SETTING);
+        return Err(Refusal::SETTING);
     }
     table_form(records, payload)
 }

@@ -1,5 +1,6 @@
 -- In the table of a value the query answers what the tree says: record i is node i in preorder, and is never refused.
 -- Assumes nothing.
+use Rattle.std.proofs.Common.{Ok, Err}
 use Prim.Native.Nat.{ℕ, ◌+◌, ◌^◌, ◌≤◌, ◌<◌}
 use mathlib.Core.Path.{◌≡◌, refl, ap, ◌∙◌}
 use mathlib.Core.Bool.{Bool, true}
@@ -17,9 +18,6 @@ use Rattle.rules.specs.Refusals.{Setting}
 use Rattle.rules.specs.Query.{scalar_alone, parent_alone, record_alone, record_there, record_good, record_seen, scalar_said, record_said, queried_of, query_rule}
 use Rattle.rules.specs.View.{child_count, viewed_of, kind_rule, tag_rule, child_count_rule}
 use Rattle.rules.specs.Preorder.{ValueNode, value_preorder, NodeIs, value_said, value_children}
-use Rattle.rules.specs.declared.host_answer.Seen.TheVariants as seen
-use Rattle.rules.specs.declared.host_answer.Queried.TheVariants as queried
-use Rattle.rules.specs.declared.host_answer.Viewed.TheVariants as viewed
 use Rattle.value_laws.proofs.Records.{whole_records, RecordIs, record_in, fields_are, Shows, whole_shows}
 use Rattle.value_laws.proofs.Sizes.{length_pays, length-below_i, length-below_v, length-heads, items_within, values_within}
 use Rattle.value_laws.proofs.Codes.{fixed_code, raw_code, sized_code}
@@ -130,7 +128,7 @@ module _ (v : Value) (table store : List ℕ) (is : TableOf v table store) (shor
 
   module _ (i : ℕ) (n : ValueNode) (h : NodeIs (value_preorder v) i n) where
     -- it is seen
-    pub node_seen : record_seen table i ≡ seen.Record (head_of n.value n.tag n.before)
+    pub node_seen : record_seen table i ≡ Ok (head_of n.value n.tag n.before)
     unfolding record_there record_good record_seen pick ◌and◌
     node_seen =
         let g = node_grown i n h in
@@ -143,28 +141,28 @@ module _ (v : Value) (table store : List ℕ) (is : TableOf v table store) (shor
         )
 
     -- Record i answers what node i is.
-    pub query_says : query_rule table i ≡ queried.Value (value_said n.value n.before)
+    pub query_says : query_rule table i ≡ Ok (value_said n.value n.before)
     unfolding queried_of query_rule
     query_says = rw (node_seen, head_says n.value n.tag n.before (node_grown i n h).fits)
 
     -- So do the getters of the row view: kind, tag and child count.
-    pub kind_says : kind_rule table i ≡ viewed.Number (value_kind n.value)
+    pub kind_says : kind_rule table i ≡ Ok (value_kind n.value)
     unfolding kind_rule viewed_of head_of
     kind_says = rw node_seen
 
-    pub tag_says : tag_rule table i ≡ viewed.Number n.tag
+    pub tag_says : tag_rule table i ≡ Ok n.tag
     unfolding tag_rule viewed_of head_of
     tag_says = rw node_seen
 
-    pub children_say : child_count_rule table i ≡ viewed.Number (value_children n.value)
+    pub children_say : child_count_rule table i ≡ Ok (value_children n.value)
     unfolding child_count_rule viewed_of
     children_say = rw (node_seen, head_children n.value n.tag n.before (node_grown i n h).fits)
 
   -- There is a node for each number below the number of nodes, so that none of these is refused.
-  pub query_answers : (i : ℕ) → i < records_of v → (n : ValueNode) × (NodeIs (value_preorder v) i n × (query_rule table i ≡ queried.Value (value_said n.value n.before)))
+  pub query_answers : (i : ℕ) → i < records_of v → (n : ValueNode) × (NodeIs (value_preorder v) i n × (query_rule table i ≡ Ok (value_said n.value n.before)))
   query_answers i l = let m = some_node (value_preorder v) i (omega (arith, length-all v)) in (m.0, (m.1, query_says i m.0 m.1))
 
   -- From there on the record is not there.
-  pub query_past : (i : ℕ) → records_of v ≤ i → query_rule table i ≡ queried.Refused Setting
+  pub query_past : (i : ℕ) → records_of v ≤ i → query_rule table i ≡ Err Setting
   unfolding queried_of query_rule record_there record_seen pick ◌and◌
   query_past i l = rw (le-leb (length table) 4294967295 short, le-ltb i (value_records_in (length table)) (omega (arith, table_count)))

@@ -1,5 +1,6 @@
 -- A value record: how many bytes it has, the test for it, its fields read back, and records one after another.
 -- Assumes nothing.
+use Rattle.std.specs.declared.cmp.Ordering.{Ordering}
 use Prim.Native.Nat.{ℕ, suc, ◌+◌, ◌%◌, ◌^◌, ◌≤◌, ◌<◌}
 use mathlib.Core.Path.{◌≡◌, refl, sym, ap, ◌∙◌}
 use mathlib.Core.Bool.{Bool, true, false}
@@ -13,7 +14,6 @@ use lib.Dec.{ltb, eqb}
 use Rattle.rules.specs.Choice.{pick}
 use Rattle.rules.specs.Bytes.{le, part, Stands, order, is_equal}
 use Rattle.rules.specs.ValueRecord.{value_record_size, value_record_start, value_records_in, whole_value_records, ValueRecordIn, layout, layouts, value_record_at, is_record}
-use Rattle.rules.specs.declared.answer.Order.TheVariants.{Less, Greater}
 use Rattle.rules.specs.declared.table_record.ValueRecord.{ValueRecord}
 use Rattle.rules.proofs.Tests.{and_both, and_true}
 use Rattle.rules.proofs.Stands.{length-le, stands_in, stands_left, stands_right, stands_both, stands_part, part-stands, stands_le, stands_fits, stands_self, stands_whole}
@@ -26,11 +26,11 @@ order_same [] (y ∷ ys) e = cc
 order_same (x ∷ xs) [] e = cc
 order_same (x ∷ xs) (y ∷ ys) e = by (eqb x y) refl e (λ h. order_same xs ys h)
   where
-    differ : (b : Bool) → is_equal (pick b Less Greater) ≡ true → x ∷ xs ≡ y ∷ ys
+    differ : (b : Bool) → is_equal (pick b Ordering.Less Ordering.Greater) ≡ true → x ∷ xs ≡ y ∷ ys
     differ true h = cc
     differ false h = cc
 
-    by : (b : Bool) → eqb x y ≡ b → is_equal (pick b (order xs ys) (pick (ltb x y) Less Greater)) ≡ true → (is_equal (order xs ys) ≡ true → xs ≡ ys) → x ∷ xs ≡ y ∷ ys
+    by : (b : Bool) → eqb x y ≡ b → is_equal (pick b (order xs ys) (pick (ltb x y) Ordering.Less Ordering.Greater)) ≡ true → (is_equal (order xs ys) ≡ true → xs ≡ ys) → x ∷ xs ≡ y ∷ ys
     by true t h k = let a : x ≡ y = eqb-true x y t in let r : xs ≡ ys = k h in cc
     by false t h k = differ (ltb x y) h
 

@@ -1,5 +1,6 @@
 -- Past trees, a record at a time.
 -- Assumes nothing.
+use Rattle.std.proofs.Common.{Ok, Err}
 use Prim.Native.Nat.{ℕ, zero, suc, ◌+◌, ◌-◌, ◌≤◌, ◌<◌}
 use mathlib.Core.Path.{◌≡◌, refl}
 use mathlib.Core.Bool.{true, false}
@@ -13,11 +14,10 @@ use Rattle.rules.specs.Refusals.{BadValueTable}
 use Rattle.rules.specs.ValueRecord.{value_records_in, value_record_at}
 use Rattle.rules.specs.Query.{record_alone}
 use Rattle.rules.specs.View.{child_count, past_trees, records_from}
-use Rattle.rules.specs.declared.host_answer.Viewed.TheVariants.{Number, Refused}
 
 module _ (table : List ℕ) where
   -- no tree is passed at once
-  pub past_none : (left i : ℕ) → past_trees table left 0 i ≡ Number i
+  pub past_none : (left i : ℕ) → past_trees table left 0 i ≡ Ok i
   unfolding past_trees pick
   past_none zero i = refl
   past_none (suc left) i = refl
@@ -37,7 +37,7 @@ module _ (table : List ℕ) where
     some = ne_eqb trees 0 (λ q. omega (arith, q))
 
     -- trees that go on behind the last record
-    pub past_out : value_records_in (length table) ≤ i → Refused BadValueTable ≡ past_trees table (records_from table i) trees i
+    pub past_out : value_records_in (length table) ≤ i → Err BadValueTable ≡ past_trees table (records_from table i) trees i
     unfolding past_trees pick
     past_out l = let z : records_from table i ≡ 0 = omega arith in rw (z, some)
 
@@ -46,7 +46,7 @@ module _ (table : List ℕ) where
       one_less = omega arith
 
       -- a record that is bad by itself
-      pub past_bad : record_alone (value_record_at table i) ≡ false → Refused BadValueTable ≡ past_trees table (records_from table i) trees i
+      pub past_bad : record_alone (value_record_at table i) ≡ false → Err BadValueTable ≡ past_trees table (records_from table i) trees i
       unfolding past_trees pick
       past_bad e = rw (one_less, some, e)
 

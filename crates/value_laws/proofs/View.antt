@@ -1,5 +1,7 @@
 -- In the table of a value the steps of the row view answer what the tree says.
 -- Assumes nothing.
+use Rattle.rules.specs.declared.refusal.Refusal.{Refusal}
+use Rattle.std.proofs.Common.{Result, Ok, Err}
 use Prim.Native.Nat.{ℕ, zero, suc, ◌+◌, ◌-◌, ◌≤◌, ◌<◌}
 use mathlib.Core.Path.{◌≡◌, refl, sym, ap, ◌∙◌}
 use mathlib.Core.List.{List, ◌++◌}
@@ -14,8 +16,6 @@ use Rattle.rules.specs.ValueTable.{value_kind, size_of, head_of, below, below_i,
 use Rattle.rules.specs.Query.{record_there, record_good}
 use Rattle.rules.specs.View.{past_trees, records_from, after_seen, after_rule, if_there, has_field, field_rule}
 use Rattle.rules.specs.Preorder.{ValueNode, value_node, value_preorder, NodeIs, FieldIs, nodes_before, value_children}
-use Rattle.rules.specs.declared.host_answer.Viewed.{Viewed}
-use Rattle.rules.specs.declared.host_answer.Viewed.TheVariants.{Number, Refused}
 use Rattle.value_laws.proofs.Records.{Shows, shows_left, shows_right, shows_end}
 use Rattle.value_laws.proofs.Sizes.{length-heads, one_record}
 use Rattle.value_laws.proofs.Nodes.{Grown}
@@ -105,7 +105,7 @@ module _ (table : List ℕ) (most : ℕ) (short : length table ≤ 4294967295) (
 
   -- past the first k fields
   pub past_fields : (vs : Values) (k p i : ℕ) → Shows table i (below_v vs p) → FitsV vs → p + tally_v vs 0 1 1 ≤ most → k ≤ values vs → (left : ℕ) →
-      past_trees table (left + nodes_before vs k) k i ≡ Number (i + nodes_before vs k)
+      past_trees table (left + nodes_before vs k) k i ≡ Ok (i + nodes_before vs k)
   unfolding below_v FitsV tally_v payload_of values nodes_before heads
   past_fields none zero p i s f l m left = rw (add-zero i) (past_none table (left + 0) i)
   past_fields none (suc k) p i s f l m left = absurd (omega arith)
@@ -138,12 +138,12 @@ some_field (more v vs) zero l = (v, refl)
 some_field (more v vs) (suc k) l = some_field vs k (omega arith)
 
 -- the number that a getter answers is one
-same_number : (a b : ℕ) → Number a ≡ Number b → a ≡ b
+same_number : (a b : ℕ) → ◌≡◌ {A = Result ℕ Refusal} (Ok a) (Ok b) → a ≡ b
 same_number a b e = ap told e
   where
-    told : Viewed → ℕ
-    told (Number n) = n
-    told (Refused r) = 0
+    told : Result ℕ Refusal → ℕ
+    told (Ok n) = n
+    told (Err r) = 0
 
 -- ---- the table of a value
 
@@ -158,7 +158,7 @@ module _ (v : Value) (table store : List ℕ) (is : TableOf v table store) (shor
     tree_in = omega (arith, shows_end table i _ _ grown.rows, length-heads n.value n.tag n.before)
 
     -- The record behind node i's tree is that many nodes on.
-    pub after_says : after_rule table i ≡ Number (i + records_of n.value)
+    pub after_says : after_rule table i ≡ Ok (i + records_of n.value)
     unfolding after_rule after_seen
     after_says =
         let e : records_from table i ≡ (value_records_in (length table) - (i + records_of n.value)) + records_of n.value = omega (arith, tree_in) in
@@ -167,7 +167,7 @@ module _ (v : Value) (table store : List ℕ) (is : TableOf v table store) (shor
 
     module _ (vs : Values) (t : n.value ≡ tuple vs) (k : ℕ) where
       -- Field k of node i, a tuple, is past node i and the nodes of the fields before it.
-      pub field_says : k < values vs → field_rule table i k ≡ Number ((i + 1) + nodes_before vs k)
+      pub field_says : k < values vs → field_rule table i k ≡ Ok ((i + 1) + nodes_before vs k)
       unfolding field_rule record_there record_good has_field if_there head_of value_kind size_of Shows heads below Fits payload_of tally records_of pick ◌and◌
       field_says l =
           let g : Grown table (length store) i n = grown in
@@ -192,11 +192,11 @@ module _ (v : Value) (table store : List ℕ) (is : TableOf v table store) (shor
           )
 
       -- There stands node k of the tuple,
-      pub field_is : (u : Value) → FieldIs vs k u → (m : ℕ) × ((c : ValueNode) × ((field_rule table i k ≡ Number m) × (NodeIs (value_preorder v) m c × (c.value ≡ u))))
+      pub field_is : (u : Value) → FieldIs vs k u → (m : ℕ) × ((c : ValueNode) × ((field_rule table i k ≡ Ok m) × (NodeIs (value_preorder v) m c × (c.value ≡ u))))
       field_is u f = let c = field_node v i n vs k u h t f in ((i + 1) + nodes_before vs k, (c.0, (field_says (field_counts vs k u f), c.1)))
 
   -- and the next field is behind it.
-  pub next_field : (i : ℕ) (n : ValueNode) (h : NodeIs (value_preorder v) i n) (vs : Values) → n.value ≡ tuple vs → (k m : ℕ) → suc k < values vs → field_rule table i k ≡ Number m → field_rule table i (suc k) ≡ after_rule table m
+  pub next_field : (i : ℕ) (n : ValueNode) (h : NodeIs (value_preorder v) i n) (vs : Values) → n.value ≡ tuple vs → (k m : ℕ) → suc k < values vs → field_rule table i k ≡ Ok m → field_rule table i (suc k) ≡ after_rule table m
   next_field i n h vs t k m l e =
       let q = some_field vs k (omega arith) in
       let c = field_node v i n vs k q.0 h t q.1 in

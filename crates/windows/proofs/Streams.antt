@@ -1,5 +1,8 @@
 -- The reading of a stream: where it begins, what a read and a step over the window make of it, and where it ends.
 -- Assumes nothing.
+use Rattle.rules.specs.declared.refusal.Refusal.{Refusal}
+use Rattle.std.specs.Prelude.{⊤}
+use Rattle.std.proofs.Common.{Result, Ok, Err}
 use Prim.Native.Nat.{ℕ, zero, suc, ◌+◌, ◌-◌, ◌≤◌, ◌<◌}
 use mathlib.Core.Path.{◌≡◌, refl, sym, ◌∙◌}
 use mathlib.Core.Bool.{false}
@@ -15,7 +18,6 @@ use Rattle.rules.specs.Format.{Format, sizes_ok}
 use Rattle.rules.specs.Reading.{settings_ok, door, through, refused_run, run_rule, row_count, byte_count, ran_of}
 use Rattle.rules.specs.Windows.{moved_stop, added}
 use Rattle.rules.specs.Refusals.{Setting}
-use Rattle.rules.specs.declared.answer.Stop.{Stop}
 use Rattle.rules.specs.declared.answer.Ran.{Ran}
 use Rattle.rules.specs.declared.settings.Settings.{Settings}
 use Rattle.rules.proofs.Tests.{and_false}
@@ -87,9 +89,9 @@ added_none none ran a b =
     let d : none.bytes + ran.bytes ≡ ran.bytes = omega arith in
     rw (c, d, b, unmoved ran.stop)
   where
-    unmoved : (stop : Stop) → moved_stop 0 stop ≡ stop
-    unmoved Stop.End = unfold moved_stop in refl
-    unmoved (Stop.Refused r) = unfold moved_stop in rw (moved_none r)
+    unmoved : (stop : Result ⊤ Refusal) → moved_stop 0 stop ≡ stop
+    unmoved (Ok tt) = unfold moved_stop in refl
+    unmoved (Err r) = unfold moved_stop in rw (moved_none r)
 
 -- before the first read
 pub stream_first : (set : Settings) (s : List ℕ) (ends : Ends) (none ran : Ran) → none.rows ≡ 0 → none.bytes ≡ 0 → ran ≡ added none (ran_of (run_rule (format_in s ends) set (cut s ends.registry ends.registry))) → Stream (format_in s ends) set ends s ends.registry ran 0
@@ -153,7 +155,7 @@ module _ (f : Format) (set : Settings) {ends : Ends} {end n : ℕ} (s ys : List 
   }
 
   -- or they are too many
-  pub stream_long : 4294967295 < n + got → ran_of (run_rule f set (t.read ++ more)) ≡ record { rows = 0; bytes = 0; stop = Stop.Refused Setting }
+  pub stream_long : 4294967295 < n + got → ran_of (run_rule f set (t.read ++ more)) ≡ record { rows = 0; bytes = 0; stop = Err Setting }
   unfolding ran_of run_rule door through refused_run row_count byte_count pick
   stream_long h =
       let none : (false and leb 0 (length (t.read ++ more))) ≡ false = unfold ◌and◌ in refl in

@@ -5,21 +5,20 @@ ghost use Rattle.std.specs.Prelude.{◌≤◌, ◌≡◌, length};
 ghost use Rattle.rules.specs.Bytes.{longest_slice};
 ghost use Rattle.rules.specs.Reading.{run_rule, ran_of};
 ghost use Rattle.rules.specs.Windows.{moved, PlaceInside, goes_on, added, run_after};
-ghost use Rattle.schema.specs.Slices.{slices};
 ghost use Rattle.windows.specs.Bounds.{Counted, Further};
 
 pub mod space;
 
-use rules::{LONGEST, Ran, Refusal, Settings, Stop};
+use rules::{Format, LONGEST, Ran, Refusal, Settings};
 use run::run;
 
 // Whether bytes to come may change how a run stops: at the end, or where a row is cut (12).
-pub fn goes_on(stop: Stop) -> bool
+pub fn goes_on(stop: Result<(), Refusal>) -> bool
     ensures { result ≡ goes_on stop }
 {
     match stop {
-        Stop::End => true,
-        Stop::Refused(why) => {
+        Ok(()) => true,
+        Err(why) => {
             let report = why.in_numbers();
             report.number == 12
         }
@@ -43,40 +42,31 @@ fn moved(refusal: Refusal, by: u64) -> Refusal
 }
 
 // The run over the stream so far, and then on over the next window, which starts where the rows so far end.
-pub fn run_on(
-    settings: Settings,
-    before: Ran,
-    table: &[u8],
-    names: &[u8],
-    references: &[u8],
-    registry: &[u8],
-    window: &[u8],
-) -> Ran
+pub fn run_on(settings: Settings, before: Ran, format: &Format, window: &[u8]) -> Ran
     requires { Counted before (length window.now) }
-    ensures value { result ≡ added before (ran_of (run_rule (slices table.now names.now references.now
-        registry.now) settings window.now)) }
+    ensures value { result ≡ added before (ran_of (run_rule format.now settings window.now)) }
     ensures further { Further before result (length window.now) }
 {
-    let ran = run(settings, table, names, references, registry, window);
+    let ran = run(settings, format, window);
     let rows = before.rows + ran.rows;
     let bytes = before.bytes + ran.bytes;
     let stop = ran.stop;
     match stop {
-        Stop::End => Ran {
+        Ok(()) => Ran {
             rows,
             bytes,
-            stop: Stop::End,
+            stop: Ok(()),
         },
-        Stop::Refused(why) => Ran {
+        Err(why) => Ran {
             rows,
             bytes,
-            stop: Stop::Refused(moved(why, before.bytes)),
+            stop: Err(moved(why, before.bytes)),
         },
     }
 }
 
 // A run that has accepted no row.
-pub fn no_rows(stop: Stop) -> Ran
+pub fn no_rows(stop: Result<(), Refusal>) -> Ran
     ensures value { result ≡ record { rows = 0; bytes = 0; stop = stop } }
     ensures rows_value { (result.rows ≡ 0) × (result.bytes ≡ 0) }
 {
@@ -88,33 +78,23 @@ pub fn no_rows(stop: Stop) -> Ran
 }
 
 // The run over a stream of which so many rows and bytes were accepted, and whose bytes after them are the window.
-pub fn run_after(
-    settings: Settings,
-    rows: u64,
-    bytes: u64,
-    table: &[u8],
-    names: &[u8],
-    references: &[u8],
-    registry: &[u8],
-    window: &[u8],
-) -> Ran
-    ensures { result ≡ run_after (slices table.now names.now references.now
-        registry.now) settings rows bytes window.now }
+pub fn run_after(settings: Settings, rows: u64, bytes: u64, format: &Format, window: &[u8]) -> Ran
+    ensures { result ≡ run_after format.now settings rows bytes window.now }
 {
     if bytes < rows {
-        return no_rows(Stop::Refused(Refusal::SETTING));
+        return no_rows(Err(Refusal::SETTING));
     }
     let longest = LONGEST as u64;
     if longest < bytes {
-        return no_rows(Stop::Refused(Refusal::SETTING));
+        return no_rows(Err(Refusal::SETTING));
     }
     if longest - bytes < window.len() as u64 {
-        return no_rows(Stop::Refused(Refusal::SETTING));
+        return no_rows(Err(Refusal::SETTING));
     }
     let before = Ran {
         rows,
         bytes,
-        stop: Stop::End,
+        stop: Ok(()),
     };
-    run_on(settings, before, table, names, references, registry, window)
+    run_on(settings, before, format, window)
 }

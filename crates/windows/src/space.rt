@@ -8,7 +8,7 @@ ghost use Rattle.windows.specs.Bounds.{Laid, Counted, Further};
 ghost use Rattle.windows.specs.Steps.{cut, format_in, GoesOver};
 
 use crate::{goes_on, run_on};
-use rules::{Ran, Settings, Stop};
+use rules::{Format, Ran, Refusal, Settings};
 
 // Where each table ends in the space.
 #[derive(Clone, Copy)]
@@ -41,16 +41,18 @@ pub fn run_window(settings: Settings, before: Ran, space: &[u8], ends: Ends, end
     run_on(
         settings,
         before,
-        &space[0..x],
-        &space[x..y],
-        &space[y..z],
-        &space[z..w],
+        &Format {
+            table: &space[0..x],
+            names: &space[x..y],
+            references: &space[y..z],
+            registry: &space[z..w],
+        },
         &space[w..end],
     )
 }
 
 // How many bytes of a window, from a position on, may still become rows.
-fn bytes_to_keep(stop: Stop, from: usize, end: usize) -> usize
+fn bytes_to_keep(stop: Result<(), Refusal>, from: usize, end: usize) -> usize
     requires { from ≤ end }
     ensures { (result ≡ pick (goes_on stop) (end - from) 0) × (from + result ≤ end) }
 {

@@ -1,5 +1,6 @@
 -- Wire types and their codes name each other.
 -- Assumes nothing.
+use Rattle.std.proofs.Common.{Option, Some, None}
 use Prim.Native.Nat.{ℕ, zero, suc, ◌+◌, ◌-◌, ◌%◌, ◌≤◌, ◌<◌}
 use mathlib.Core.Path.{◌≡◌, refl, sym, ap, ◌∙◌}
 use mathlib.Core.List.{List, [], ◌∷◌, map}
@@ -16,25 +17,22 @@ use Rattle.rules.specs.Choice.{◌and◌}
 use Rattle.rules.specs.Wire.{wire_types, type_in, type_of, code_of, written, written_if, form, width_of, end_tag, fixed_form, fixed_width, maximum}
 use Rattle.rules.specs.declared.wire_type.WireType.{WireType}
 use Rattle.rules.specs.declared.wire_type.WireType.TheVariants.{Nothing, Boolean, Int8, Int16, Int32, Int64, Int128, Int256, Uint8, Uint16, Uint32, Uint64, Double, String32, Yson32, Variant8, Variant16, RepeatedVariant8, RepeatedVariant16, Tuple}
-use Rattle.rules.specs.declared.wire_type.Known.{Known}
-use Rattle.rules.specs.declared.wire_type.Width.TheVariants.{Fixed, Variable}
 use Rattle.rules.specs.declared.wire_type.Children.{Children}
-use Rattle.rules.specs.declared.wire_type.Children.TheVariants.{None, UpTo, Any}
+use Rattle.rules.specs.declared.wire_type.Children.TheVariants.{Zero, UpTo, Any}
 use Rattle.rules.proofs.Tests.{and_both}
 use Rattle.rules.proofs.Codes.{no_type}
-use Rattle.rules.specs.declared.wire_type.Known.TheVariants.{Wire, Unknown}
 
-pub type_in_lem : (ts : List WireType) (d : WireType) (code : ℕ) → code < length ts → Wire (get_or ts code d) ≡ type_in ts code
+pub type_in_lem : (ts : List WireType) (d : WireType) (code : ℕ) → code < length ts → Some (get_or ts code d) ≡ type_in ts code
 unfolding type_in
 type_in_lem [] d code h = absurd (omega arith)
 type_in_lem (t ∷ ts) d zero h = refl
 type_in_lem (t ∷ ts) d (suc code) h = type_in_lem ts d code (omega arith)
 
-pub type_out : (ts : List WireType) (code : ℕ) → length ts ≤ code → Unknown ≡ type_in ts code
+pub type_out : (ts : List WireType) (code : ℕ) → length ts ≤ code → None ≡ type_in ts code
 type_out ts code h = sym (no_type ts code h)
 
 -- a wire type's code names it
-pub type_of_code : (t : WireType) → type_of (code_of t) ≡ Wire t
+pub type_of_code : (t : WireType) → type_of (code_of t) ≡ Some t
 unfolding type_of type_in wire_types code_of
 type_of_code Nothing = refl
 type_of_code Boolean = refl
@@ -62,7 +60,7 @@ unfoldable counts_from : ℕ → List WireType → Bool
 counts_from i [] = true
 counts_from i (t ∷ ts) = eqb (code_of t) i and counts_from (i + 1) ts
 
-counted : (ts : List WireType) (i k : ℕ) (t : WireType) → counts_from i ts ≡ true → type_in ts k ≡ Wire t → code_of t ≡ i + k
+counted : (ts : List WireType) (i k : ℕ) (t : WireType) → counts_from i ts ≡ true → type_in ts k ≡ Some t → code_of t ≡ i + k
 unfolding counts_from type_in
 counted [] i k t c e = cc
 counted (u ∷ ts) i zero t c e =
@@ -71,7 +69,7 @@ counted (u ∷ ts) i zero t c e =
 counted (u ∷ ts) i (suc k) t c e = omega (arith, counted ts (i + 1) k t (and_both _ _ c).1 e)
 
 -- and a code that has a type is that type's code
-pub code_of_type : (code : ℕ) (t : WireType) → type_of code ≡ Wire t → code_of t ≡ code
+pub code_of_type : (code : ℕ) (t : WireType) → type_of code ≡ Some t → code_of t ≡ code
 unfolding type_of wire_types counts_from code_of ◌and◌
 code_of_type code t e = omega (arith, counted wire_types 0 code t refl e)
 
@@ -100,21 +98,21 @@ row_at f t code e = rw e (ap f (sym (type_at t Nothing)) ∙ sym (get_or-map f w
 abbrev widths : List ℕ
 widths = 0 ∷ 1 ∷ 1 ∷ 2 ∷ 4 ∷ 8 ∷ 16 ∷ 32 ∷ 1 ∷ 2 ∷ 4 ∷ 8 ∷ 8 ∷ []
 
-pub fixed_in : (t : WireType) (code : ℕ) → code ≡ code_of t → code < 13 → Fixed (width_of (form code)) ≡ fixed_width t
+pub fixed_in : (t : WireType) (code : ℕ) → code ≡ code_of t → code < 13 → Some (width_of (form code)) ≡ fixed_width t
 unfolding wire_types fixed_width fixed_form written width_of form written_if
 fixed_in t code e h =
-    ap (λ (k : Known). Fixed (width_of (written_if k))) (ap type_of e ∙ type_of_code t)
-    ∙ row_at (λ (u : WireType). Fixed (width_of (written u))) t code e
-    ∙ get_or-append (map Fixed widths) (map Fixed (4 ∷ 4 ∷ 1 ∷ 2 ∷ 1 ∷ 2 ∷ 0 ∷ [])) (Fixed 0) code h
-    ∙ sym (row_at fixed_width t code e ∙ get_or-append (map Fixed widths) (replicate 7 Variable) (Fixed 0) code h)
+    ap (λ (k : Option WireType). (Some (width_of (written_if k)))) (ap type_of e ∙ type_of_code t)
+    ∙ row_at (λ (u : WireType). (Some (width_of (written u)))) t code e
+    ∙ get_or-append (map Some widths) (map Some (4 ∷ 4 ∷ 1 ∷ 2 ∷ 1 ∷ 2 ∷ 0 ∷ [])) (Some 0) code h
+    ∙ sym (row_at fixed_width t code e ∙ get_or-append (map Some widths) (replicate 7 None) (Some 0) code h)
 
-pub fixed_out : (t : WireType) (code : ℕ) → code ≡ code_of t → 13 ≤ code → Variable ≡ fixed_width t
+pub fixed_out : (t : WireType) (code : ℕ) → code ≡ code_of t → 13 ≤ code → None ≡ fixed_width t
 unfolding wire_types fixed_width fixed_form written
 fixed_out t code e h =
     let past : code ≡ 13 + (code - 13) = omega arith in
     let row = rw past at (row_at fixed_width t code e) in
-    sym (row ∙ get_or-append-add (map Fixed widths) (replicate 7 Variable) (code - 13) (Fixed 0)
-    ∙ get_or-replicate 7 (code - 13) Variable (Fixed 0) (omega (arith, code_below t)))
+    sym (row ∙ get_or-append-add (map Some widths) (replicate 7 None) (code - 13) (Some 0)
+    ∙ get_or-replicate 7 (code - 13) None (Some 0) (omega (arith, code_below t)))
 
 -- ---- tags
 
@@ -141,17 +139,17 @@ module _ (code : ℕ) (h : 14 < code) (l : code < 19) where
 
 -- ---- the most children: none below code 15, and no such thing from 20 on
 
-pub leaf_maximum : (code : ℕ) → code < 15 → None ≡ maximum (form code)
+pub leaf_maximum : (code : ℕ) → code < 15 → Zero ≡ maximum (form code)
 unfolding wire_types type_of form written written_if maximum end_tag
 leaf_maximum code h =
-    sym (ap (λ (k : Known). maximum (written_if k)) (sym (type_in_lem wire_types Nothing code (omega arith)))
+    sym (ap (λ (k : Option WireType). maximum (written_if k)) (sym (type_in_lem wire_types Nothing code (omega arith)))
     ∙ sym (get_or-map (λ (t : WireType). maximum (written t)) wire_types code Nothing)
-    ∙ get_or-append (replicate 15 None) (UpTo 256 ∷ UpTo 65536 ∷ UpTo 255 ∷ UpTo 65535 ∷ Any ∷ []) None code h
-    ∙ get_or-replicate 15 code None None h)
+    ∙ get_or-append (replicate 15 Zero) (UpTo 256 ∷ UpTo 65536 ∷ UpTo 255 ∷ UpTo 65535 ∷ Any ∷ []) Zero code h
+    ∙ get_or-replicate 15 code Zero Zero h)
 
 pub unknown_maximum : (code : ℕ) → 20 ≤ code → Children.Unknown ≡ maximum (form code)
 unfolding wire_types type_of form written_if maximum
-unknown_maximum code h = ap (λ (k : Known). maximum (written_if k)) (type_out wire_types code h)
+unknown_maximum code h = ap (λ (k : Option WireType). maximum (written_if k)) (type_out wire_types code h)
 
 -- the last arm of a match: none of the n numbers from a on
 abbrev pub Past : ℕ → ℕ → ℕ → Type 0

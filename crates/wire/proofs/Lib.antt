@@ -3,3 +3,4 @@ pub mod Fields
 pub mod CodeTable
 pub mod NameTable
 pub mod Theorems
+mod Compared

@@ -41,7 +41,7 @@ pub fn maximum_of(code: u8) -> Children
     ensures { result ≡ maximum (form code) }
 {
     match code {
-        0..=14 => Children::None,
+        0..=14 => Children::Zero,
         15 => Children::UpTo(256),
         16 => Children::UpTo(65536),
         17 => Children::UpTo(255),

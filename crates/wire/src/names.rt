@@ -4,7 +4,7 @@ ghost use Rattle.rules.specs.Bytes.{order, is_equal};
 ghost use Rattle.rules.specs.Names.{name_of, parsed};
 
 use super::types::TYPES;
-use rules::{Known, WireType};
+use rules::WireType;
 
 // The one table for both directions.
 fn name_of(t: WireType) -> &'static [u8]
@@ -42,13 +42,13 @@ pub fn is_name(name: &[u8], t: WireType) -> bool
 }
 
 // The wire type of a name: any bytes, and nothing trimmed.
-pub fn parse(name: &[u8]) -> Known
+pub fn parse(name: &[u8]) -> Option<WireType>
     ensures { result ≡ parsed name.now }
 {
     for t in TYPES {
         if is_name(name, t) {
-            return Known::Wire(t);
+            return Some(t);
         }
     }
-    Known::Unknown
+    None
 }

@@ -8,7 +8,7 @@ pub fn wide(x: u8) -> u64
     x as u64
 }
 
-// Byte by byte in Horner's form, of which a compiler makes one load. (Of four bytes in two halves it did not everywhere.)
+// A function for each width, since a const argument can't be computed. Byte by byte in Horner's form, of which a compiler makes one load. (Of four bytes in two halves it did not everywhere.)
 pub fn u16_at(s: &[u8], at: usize) -> u64
     requires { at + 2 ≤ length s.now }
     ensures { result ≡ le_at s.now at 2 }

@@ -3,7 +3,7 @@ ghost use Rattle.std.specs.Prelude.{◌≡◌};
 ghost use Rattle.rules.specs.Wire.{type_of, code_of, fixed_width};
 
 use super::codes;
-use rules::{Known, Width, WireType};
+use rules::WireType;
 
 // In the order of the wire codes.
 pub(super) const TYPES: [WireType; 20] = [
@@ -29,13 +29,14 @@ pub(super) const TYPES: [WireType; 20] = [
     WireType::Tuple,
 ];
 
-pub fn from_code(code: u8) -> Known
+// (By names of their own and not by `TryFrom` and `From`: theorems name them.)
+pub fn from_code(code: u8) -> Option<WireType>
     ensures { result ≡ type_of code }
 {
     if code < 20 {
-        Known::Wire(TYPES[code as usize])
+        Some(TYPES[code as usize])
     } else {
-        Known::Unknown
+        None
     }
 }
 
@@ -66,13 +67,13 @@ pub fn code_of(t: WireType) -> u8
     }
 }
 
-pub fn fixed_width(t: WireType) -> Width
+pub fn fixed_width(t: WireType) -> Option<u64>
     ensures { result ≡ fixed_width t }
 {
     let code = code_of(t);
     if code < 13 {
-        Width::Fixed(codes::code_width(code) as u64)
+        Some(codes::code_width(code) as u64)
     } else {
-        Width::Variable
+        None
     }
 }

@@ -1,5 +1,6 @@
 -- What a node that is to be put comes to at once: itself, where it is a leaf, or the leaf below it, where it is a variant that has one.
 -- Assumes nothing.
+use Rattle.std.proofs.Common.{Option, Some, None}
 use Prim.Native.Nat.{ℕ, ◌+◌, ◌-◌, ◌^◌, ◌≤◌, ◌<◌}
 use mathlib.Core.Path.{◌≡◌, refl, sym, ap, subst, ◌∙◌}
 use mathlib.Core.List.{List}
@@ -20,8 +21,6 @@ use Rattle.judge.specs.Tags.{tag_bytes}
 use Rattle.write.specs.Putting.{child_node, leaf_kept, leaf_size, leaf_bytes, put_of, written_at, Writable, Parted, Placed}
 use Rattle.write.specs.Leads.{Left, LeadsToPut}
 use Rattle.write.specs.declared.put.WritePos.{WritePos}
-use Rattle.write.specs.declared.put.ToPut.{ToPut}
-use Rattle.write.specs.declared.put.ToPut.TheVariants.{Leaf, Children}
 use Rattle.write.proofs.Codes.{no_end}
 use Rattle.judge.proofs.Kids.{one_child}
 use Rattle.judge.proofs.Going.{variant_kind}
@@ -29,7 +28,7 @@ use Rattle.write.proofs.Putting.{Filling, reads_whole, right_kind, is_size, fill
 use Rattle.write.proofs.Stored.{parted_node, leaf_room, leaf_placed}
 
 module _ (sch : List ℕ) (i depth : ℕ) (table store : List ℕ) (p : WritePos) (out : List ℕ) (k : Writable sch i depth table store p (length out)) (own : ValueRecord) (m : own ≡ value_record_at table p.at) (code : ℕ) (is : code ≡ (node_at sch i).code) where
-  pub leads_self : code < 15 → LeadsToPut sch i depth table store p out out (Leaf code own.size own.content p)
+  pub leads_self : code < 15 → LeadsToPut sch i depth table store p out out (Some (code, own.size, own.content, p))
   unfolding LeadsToPut
   leads_self l = record {
     node = i;
@@ -42,7 +41,7 @@ module _ (sch : List ℕ) (i depth : ℕ) (table store : List ℕ) (p : WritePos
     places = λ r o x. x;
   }
 
-  pub leads_on : 15 ≤ code → LeadsToPut sch i depth table store p out out Children
+  pub leads_on : 15 ≤ code → LeadsToPut sch i depth table store p out out None
   unfolding LeadsToPut
   leads_on l = (omega (arith, is), refl)
 
@@ -75,7 +74,7 @@ module _ (sch : List ℕ) (i depth : ℕ) (table store : List ℕ) (p : WritePos
         child_in = (may_write sch i depth table store p (length out) k code own.size parts first f refl first_turn some v n c _ x refl (length out) refl).inside
 
         pub leads_child : (leaf : ℕ) → leaf ≡ (node_at sch c).code → leaf < 15 → (to : ℕ) (out' : List ℕ) → to ≡ p.to + length (tag_bytes (shape_of code) v.tag) → out' ≡ over out p.to (tag_bytes (shape_of code) v.tag) →
-            LeadsToPut sch i depth table store p out out' (Leaf leaf v.size v.content (record { at = p.at + 1; from = p.from; to = to }))
+            LeadsToPut sch i depth table store p out out' (Some (leaf, v.size, v.content, (record { at = p.at + 1; from = p.from; to = to })))
         unfolding LeadsToPut
         leads_child leaf e b to out' y a = record {
           node = c;
@@ -90,12 +89,12 @@ module _ (sch : List ℕ) (i depth : ℕ) (table store : List ℕ) (p : WritePos
 
 -- ---- what the caller learns
 
-module _ (sch : List ℕ) (i depth : ℕ) (table store : List ℕ) (p : WritePos) (out out' : List ℕ) (a : ToPut) (l : LeadsToPut sch i depth table store p out out' a) where
+module _ (sch : List ℕ) (i depth : ℕ) (table store : List ℕ) (p : WritePos) (out out' : List ℕ) (a : Option (ℕ × ℕ × ℕ × WritePos)) (l : LeadsToPut sch i depth table store p out out' a) where
   -- a leaf has room, and where it is put all is
-  module _ (code size content : ℕ) (q : WritePos) (e : a ≡ Leaf code size content q) where
+  module _ (code size content : ℕ) (q : WritePos) (e : a ≡ Some (code, size, content, q)) where
     left : Left sch i depth table store p out out' code size content q
     unfolding LeadsToPut
-    left = subst (λ (y : ToPut). LeadsToPut sch i depth table store p out out' y) e l
+    left = subst (λ (y : Option (ℕ × ℕ × ℕ × WritePos)). LeadsToPut sch i depth table store p out out' y) e l
 
     pub reached_room : (code < 15) × (q.at + 1 < 2 ^ 64) × (q.from + leaf_kept code size ≤ length store) × (q.to + leaf_size code size ≤ length out')
     reached_room = rw left.has_size (leaf_room sch left.node left.level table store q (length out') left.may (value_record_at table q.at) refl code left.is left.leaf)
@@ -106,6 +105,6 @@ module _ (sch : List ℕ) (i depth : ℕ) (table store : List ℕ) (p : WritePos
         left.places r out''
         (leaf_placed sch left.node left.level table store q (length out') left.may (value_record_at table q.at) refl code left.is left.leaf r out' out'' (rw (← left.has_size) f) (rw (← left.has_size, ← left.has_content) g))
 
-  pub reached_children : a ≡ Children → (14 < (node_at sch i).code) × (out' ≡ out)
+  pub reached_children : a ≡ None → (14 < (node_at sch i).code) × (out' ≡ out)
   unfolding LeadsToPut
-  reached_children e = subst (λ (y : ToPut). LeadsToPut sch i depth table store p out out' y) e l
+  reached_children e = subst (λ (y : Option (ℕ × ℕ × ℕ × WritePos)). LeadsToPut sch i depth table store p out out' y) e l

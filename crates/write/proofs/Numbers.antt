@@ -68,6 +68,20 @@ module _ (store : List ℕ) (code size content from : ℕ) where
   unfolding leaf_kept leaf_size leaf_bytes payload_of_fixed pick
   narrow_is w h e l = let a = lt-ltb code 13 (omega arith) in let b = le-leb w 8 l in record { kept = rw (a, ← e, b); long = rw (a, ← e); bytes_are = rw (a, ← e, b) }
 
+-- what it takes, of the payload and of the output
+module _ (code size : ℕ) where
+  abbrev Takes : ℕ → ℕ → Type 0
+  Takes k n = (leaf_kept code size ≡ k) × (leaf_size code size ≡ n)
+
+  pub blob_takes : 12 < code → Takes size (4 + size)
+  blob_takes h = let l = blob_is [] code size 0 0 h in (l.kept, l.long)
+
+  pub wide_takes : (w : ℕ) → code ≤ 12 → w ≡ width_of (form code) → 8 < w → Takes w w
+  wide_takes w h e g = let l = wide_is [] code size 0 0 w h e g in (l.kept, l.long)
+
+  pub narrow_takes : (w : ℕ) → code ≤ 12 → w ≡ width_of (form code) → w ≤ 8 → Takes 0 w
+  narrow_takes w h e g = let l = narrow_is [] code size 0 0 w h e g in (l.kept, l.long)
+
 -- what was put is the leaf's
 pub leaf_put : (store : List ℕ) (code size content from k n : ℕ) (bytes : List ℕ) → LeafIs store code size content from k n bytes → (at to : ℕ) (q : WritePos) (s s' : List ℕ) →
     q ≡ record { at = at + 1; from = from + k; to = to + n } → s' ≡ over s to bytes →

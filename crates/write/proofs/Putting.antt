@@ -1,5 +1,6 @@
 -- The loop of the walk that writes: what is left to write, over what is written_at, is the whole.
 -- Assumes nothing.
+use Rattle.std.proofs.Common.{Result, Ok, Err}
 use Prim.Native.Nat.{ℕ, ◌+◌, ◌-◌, ◌^◌, ◌≤◌, ◌<◌}
 use mathlib.Core.Path.{◌≡◌, refl, sym, ap, ◌∙◌}
 use mathlib.Core.Bool.{Bool, true, false}
@@ -32,8 +33,6 @@ use Rattle.judge.specs.Judging.{tagged_of, chosen_of, count_ok}
 use Rattle.judge.specs.Tags.{tag_bytes, closing}
 use Rattle.write.specs.Putting.{child_node, IsPut, put_of, unlimited, written_at, Writable, Parted, Placed}
 use Rattle.write.specs.declared.put.WritePos.{WritePos}
-use Rattle.judge.specs.declared.walk.Chosen.{Chosen}
-use Rattle.judge.specs.declared.walk.Chosen.TheVariants as chosen_is
 use Rattle.judge.proofs.Kids.{choosing, chosen_for, kids, unfit, opens}
 use Rattle.judge.proofs.Standing.{spot, stands, inside, size_small, tag_small, deep, parent, below_reads, count_told, Turn, turn, turn_stands}
 use Rattle.judge.proofs.Going.{compound_kind, choice, counted_tuple}
@@ -55,43 +54,47 @@ passed_test true w r b e = (refl, e)
 passed_test false w r b e = refused_not r b e
 
 -- a child and those after it
-pub record Part (pk : Chosen) (x : ℕ → Wrote) (y : Wrote) (tag b : List ℕ) : Type 0 where
+pub record Part (pk : Result (ℕ × ℕ) Refusal) (x : ℕ → Wrote) (y : Wrote) (tag b : List ℕ) : Type 0 where
   pub node : ℕ
   pub width : ℕ
   pub child : List ℕ
   pub rest : List ℕ
-  pub picks : pk ≡ chosen_is.Child node width
+  pub picks : pk ≡ Ok (node, width)
   pub puts : x node ≡ Put child
   pub follows : y ≡ Put rest
   pub whole : b ≡ tag ++ (child ++ rest)
 
-parted : (pk : Chosen) (x : ℕ → Wrote) (y : Wrote) (tag b : List ℕ) → choosing pk (λ c. x c >>= (λ u. y >>= (λ d. Put (tag ++ (u ++ d))))) ≡ Put b → Part pk x y tag b
+parted : (pk : Result (ℕ × ℕ) Refusal) (x : ℕ → Wrote) (y : Wrote) (tag b : List ℕ) → choosing pk (λ c. x c >>= (λ u. y >>= (λ d. Put (tag ++ (u ++ d))))) ≡ Put b → Part pk x y tag b
 unfolding choosing
-parted (chosen_is.Refused r) x y tag b e = refused_not r b e
-parted (chosen_is.Child c w) x y tag b e = first (x c) refl y refl e
+parted (Err r) x y tag b e = refused_not r b e
+parted (Ok (c, w)) x y tag b e = first (x c) refl y refl e
   where
-    second : (u : List ℕ) → x c ≡ Put u → (g : Wrote) → y ≡ g → (g >>= (λ d. Put (tag ++ (u ++ d)))) ≡ Put b → Part (chosen_is.Child c w) x y tag b
+    second : (u : List ℕ) → x c ≡ Put u → (g : Wrote) → y ≡ g → (g >>= (λ d. Put (tag ++ (u ++ d)))) ≡ Put b → Part (Ok (c, w)) x y tag b
     second u m (Put d) n f = record { node = c; width = w; child = u; rest = d; picks = refl; puts = m; follows = n; whole = let k : Put (tag ++ (u ++ d)) ≡ Put b = unfold ◌>>=◌ in f in cc }
     second u m (Refused r) n f = refused_not r b (unfold ◌>>=◌ in f)
 
-    first : (f : Wrote) → x c ≡ f → (g : Wrote) → y ≡ g → (f >>= (λ u. g >>= (λ d. Put (tag ++ (u ++ d))))) ≡ Put b → Part (chosen_is.Child c w) x y tag b
+    first : (f : Wrote) → x c ≡ f → (g : Wrote) → y ≡ g → (f >>= (λ u. g >>= (λ d. Put (tag ++ (u ++ d))))) ≡ Put b → Part (Ok (c, w)) x y tag b
     first (Put u) m g n h = second u m g n (unfold ◌>>=◌ in h)
     first (Refused r) m g n h = refused_not r b (unfold ◌>>=◌ in h)
 
 -- the child that is picked is the one that the walk goes to
-tagged_node : (code first count w t r c u : ℕ) → tagged_of code first count w t r ≡ chosen_is.Child c u → c ≡ first + t
+tagged_node : (code first count w t r c u : ℕ) → tagged_of code first count w t r ≡ Ok (c, u) → c ≡ first + t
 unfolding tagged_of
 tagged_node code first count w t r c u e = by (ltb t count) e
   where
-    by : (b : Bool) → pick b (chosen_is.Child (first + t) w) (chosen_is.Refused (InvalidVariantTag code t count r)) ≡ chosen_is.Child c u → c ≡ first + t
-    by true f = unfold pick in cc
+    by : (b : Bool) → pick {A = Result (ℕ × ℕ) Refusal} b (Ok ((first + t), w)) (Err (InvalidVariantTag code t count r)) ≡ Ok (c, u) → c ≡ first + t
+    by true f =
+        let g : ◌≡◌ {A = ℕ × ℕ} (c, u) (first + t, w) = unfold pick in cc in
+        ap (λ (x : ℕ × ℕ). x.0) g
     by false f = absurd (let z : ◌≡◌ {A = ℕ} 0 1 = unfold pick in cc in omega arith)
 
-picked_node : (code first count : ℕ) (s : Shape) (j t r c w : ℕ) → chosen_of code first count s j t r ≡ chosen_is.Child c w → c ≡ child_node s first j t
+picked_node : (code first count : ℕ) (s : Shape) (j t r c w : ℕ) → chosen_of code first count s j t r ≡ Ok (c, w) → c ≡ child_node s first j t
 unfolding chosen_of child_node
 picked_node code first count (as_variant u) j t r c w e = tagged_node code first count u t r c w e
 picked_node code first count (as_repeated u) j t r c w e = tagged_node code first count u t r c w e
-picked_node code first count as_tuple j t r c w e = (cc)
+picked_node code first count as_tuple j t r c w e =
+    let g : ◌≡◌ {A = ℕ × ℕ} (c, w) (first + j, 0) = cc in
+    ap (λ (x : ℕ × ℕ). x.0) g
 
 -- a value that was written_at is of the right kind
 pub fitted : (sch : List ℕ) (lim : Limits) (v : Value) (i r : ℕ) (b : List ℕ) → write sch lim v i r ≡ Put b → value_kind v ≡ kind_for (node_at sch i).code (form (node_at sch i).code)

@@ -1,5 +1,8 @@
 -- A row: judged, given room, written, is what the rule of writing answers and leaves.
 -- Assumes nothing.
+use Rattle.std.specs.Prelude.{⊤}
+use Rattle.std.proofs.Common.{Result, Ok, Err}
+use Rattle.rules.proofs.Checks.{refused_not}
 use Prim.Native.Nat.{ℕ, ◌+◌, ◌-◌, ◌≤◌, ◌<◌, min}
 use mathlib.Core.Path.{◌≡◌, refl, sym, ap, ◌∙◌}
 use mathlib.Core.Bool.{Bool, true, false}
@@ -19,16 +22,12 @@ use Rattle.rules.specs.Writing.{Put, write_row, Encoded, unwritten, placed}
 use Rattle.rules.specs.declared.refusal.Refusal.{Refusal}
 use Rattle.rules.specs.declared.settings.Settings.{Settings}
 use Rattle.rules.specs.declared.answer.Extent.{Extent}
-use Rattle.rules.specs.declared.answer.Written.{Written}
-use Rattle.rules.specs.declared.answer.Written.TheVariants.{Row, Refused}
 use Rattle.value_laws.proofs.Parse.{Reads}
 use Rattle.judge.specs.Table.{whole_value, whole_end, value_standing_at}
 use Rattle.judge.specs.Judging.{RowJudgeable, judged_row}
 use Rattle.write.specs.Putting.{IsPut, put_of, unlimited, RowWritable, row_bytes}
 use Rattle.write.specs.Row.{output_room_for, placed_row}
 use Rattle.judge.specs.declared.walk.JudgePos.{JudgePos}
-use Rattle.judge.specs.declared.walk.Judged.{Judged}
-use Rattle.judge.specs.declared.walk.Judged.TheVariants as judged-is
 use Rattle.judge.proofs.Standing.{spot, stands, at_end, from_end}
 use Rattle.judge.proofs.Going.{Putting, judged_fits, judged_refused}
 use Rattle.judge.proofs.Root.{table_stands}
@@ -36,30 +35,25 @@ use Rattle.write.proofs.Unlimited.{row_free}
 
 -- ---- the test of the room
 
-module _ (at room r : ℕ) (e : Extent) (is : r ≡ room) (in_room : at ≤ room) where
-  pub no_room : r - at < e.bytes → Refused (NoOutputRoom e.bytes at) ≡ output_room_for at room e
+module _ (at room r bytes : ℕ) (is : r ≡ room) (in_room : at ≤ room) where
+  pub no_room : r - at < bytes → Err (NoOutputRoom bytes at) ≡ output_room_for at room bytes
   unfolding output_room_for pick
-  no_room h = rw (lt-leb (at + e.bytes) room (omega (arith, is, in_room, h)))
+  no_room h = rw (lt-leb (at + bytes) room (omega (arith, is, in_room, h)))
 
-  pub has_room : e.bytes ≤ r - at → Row e ≡ output_room_for at room e
+  pub has_room : bytes ≤ r - at → Ok tt ≡ output_room_for at room bytes
   unfolding output_room_for pick
-  has_room h = rw (le-leb (at + e.bytes) room (omega (arith, is, in_room, h)))
+  has_room h = rw (le-leb (at + bytes) room (omega (arith, is, in_room, h)))
 
 module _ (e : Extent) (o out : List ℕ) (r : Refusal) where
-  same_answer : (t : Bool) → (pick t (record { answer = Row e; output = o }) (unwritten out r)).answer ≡ pick t (Row e) (Refused r)
-  unfolding pick
-  same_answer true = refl
-  same_answer false = refl
-
-  none_put : (t : Bool) (x : Refusal) → pick t (Row e) (Refused r) ≡ Refused x → (pick t (record { answer = Row e; output = o }) (unwritten out r)).output ≡ out
+  none_put : (t : Bool) (x : Refusal) → pick {A = Result ⊤ Refusal} t (Ok tt) (Err r) ≡ Err x → pick t (record { answer = Ok e; output = o }) (unwritten out r) ≡ unwritten out x
   unfolding pick
   none_put true x h = absurd (let z : ◌≡◌ {A = ℕ} 0 1 = cc in omega arith)
-  none_put false x h = refl
+  none_put false x h = let q : r ≡ x = cc in ap (unwritten out) q
 
-  some_put : (t : Bool) (y : Extent) → pick t (Row e) (Refused r) ≡ Row y → (t ≡ true) × ((pick t (record { answer = Row e; output = o }) (unwritten out r)).output ≡ o)
+  some_put : (t : Bool) → pick {A = Result ⊤ Refusal} t (Ok tt) (Err r) ≡ Ok tt → (t ≡ true) × (pick t (record { answer = Ok e; output = o }) (unwritten out r) ≡ record { answer = Ok e; output = o })
   unfolding pick
-  some_put true y h = (refl, refl)
-  some_put false y h = absurd (let z : ◌≡◌ {A = ℕ} 0 1 = cc in omega arith)
+  some_put true h = (refl, refl)
+  some_put false h = absurd (refused_not r h)
 
 module _ (sch table store : List ℕ) (s : Settings) (k : RowJudgeable sch table store) where
   whole_stands : value_standing_at table store 64 0 0 ≡ table_value table store
@@ -68,13 +62,13 @@ module _ (sch table store : List ℕ) (s : Settings) (k : RowJudgeable sch table
   whole_reads : Reads table store 64 (tag_at table store 0) (spot 0 0) (whole_value (table_value table store)) (whole_end (table_value table store))
   whole_reads = rw whole_stands at (stands table store (omega (arith, k.short)) 64 0 0 (omega arith) (rw whole_stands k.whole))
 
-  module _ (a : Judged) (e : a ≡ judged_row sch (limits s) table store) (out : List ℕ) (at : ℕ) where
+  module _ (a : Result JudgePos Refusal) (e : a ≡ judged_row sch (limits s) table store) (out : List ℕ) (at : ℕ) where
     -- a refused row
-    pub row_refused : (x : Refusal) → a ≡ judged-is.Refused x → (Refused x ≡ (placed_row sch (limits s) table store out at).answer) × (out ≡ (placed_row sch (limits s) table store out at).output)
+    pub row_refused : (x : Refusal) → a ≡ Err x → (Err x ≡ (placed_row sch (limits s) table store out at).answer) × (out ≡ (placed_row sch (limits s) table store out at).output)
     unfolding placed_row placed judged_row
     row_refused x f = let w = judged_refused _ _ _ x (sym e ∙ f) in rw w (refl, refl)
 
-    module _ (p : JudgePos) (f : a ≡ judged-is.Fits p) where
+    module _ (p : JudgePos) (f : a ≡ Ok p) where
       put : Putting 0 (whole_end (table_value table store)) (write_row sch (limits s) (whole_value (table_value table store))) p
       unfolding judged_row
       put = judged_fits _ _ _ p (sym e ∙ f)
@@ -89,23 +83,24 @@ module _ (sch table store : List ℕ) (s : Settings) (k : RowJudgeable sch table
           let l : p.from ≡ payload_of (whole_value (table_value table store)) = omega (arith, ap (λ (u : JudgePos). u.from) put.ends, from_end table store (omega (arith, k.short)) whole_reads) in
           λ j. record { table = 0; bytes = n j; records = i j; payload = l j }
 
-      written_row : placed_row sch (limits s) table store out at ≡ pick (leb (at + p.bytes) (min (length out) 4294967295)) (record { answer = Row extent; output = over out at put.bytes }) (unwritten out (NoOutputRoom p.bytes at))
+      written_row : placed_row sch (limits s) table store out at ≡ pick (leb (at + p.bytes) (min (length out) 4294967295)) (record { answer = Ok extent; output = over out at put.bytes }) (unwritten out (NoOutputRoom p.bytes at))
       unfolding placed_row placed reading.room
-      written_row = rw put.is (sym (ap (λ (u : Extent). pick (leb (at + u.bytes) (min (length out) 4294967295)) (record { answer = Row u; output = over out at put.bytes }) (unwritten out (NoOutputRoom u.bytes at))) is_extent))
+      written_row = rw put.is (sym (ap (λ (u : Extent). pick (leb (at + u.bytes) (min (length out) 4294967295)) (record { answer = Ok u; output = over out at put.bytes }) (unwritten out (NoOutputRoom u.bytes at))) is_extent))
 
-      module _ (w : Written) (g : w ≡ output_room_for at (min (length out) 4294967295) extent) where
-        pub row_answer : w ≡ (placed_row sch (limits s) table store out at).answer
+      module _ (w : Result ⊤ Refusal) (g : w ≡ output_room_for at (min (length out) 4294967295) p.bytes) where
+        pub row_unplaced : (x : Refusal) → w ≡ Err x → (Err x ≡ (placed_row sch (limits s) table store out at).answer) × (out ≡ (placed_row sch (limits s) table store out at).output)
         unfolding output_room_for
-        row_answer = g ∙ sym (ap (λ (u : Encoded). u.answer) written_row ∙ same_answer extent _ out _ (leb (at + p.bytes) (min (length out) 4294967295)))
+        row_unplaced x h =
+            let n = sym (written_row ∙ none_put extent (over out at put.bytes) out _ _ x (sym g ∙ h)) in
+            (ap (λ (u : Encoded). u.answer) n, ap (λ (u : Encoded). u.output) n)
 
-        pub row_unplaced : (x : Refusal) → w ≡ Refused x → out ≡ (placed_row sch (limits s) table store out at).output
-        unfolding output_room_for
-        row_unplaced x h = sym (ap (λ (u : Encoded). u.output) written_row ∙ none_put extent _ out _ _ x (sym g ∙ h))
-
-        module _ (y : Extent) (h : w ≡ Row y) where
-          there : (leb (at + p.bytes) (min (length out) 4294967295) ≡ true) × ((placed_row sch (limits s) table store out at).output ≡ over out at put.bytes)
+        module _ (h : w ≡ Ok tt) where
+          there : (leb (at + p.bytes) (min (length out) 4294967295) ≡ true) × (placed_row sch (limits s) table store out at ≡ record { answer = Ok extent; output = over out at put.bytes })
           unfolding output_room_for
-          there = let t = some_put extent (over out at put.bytes) out _ _ y (sym g ∙ h) in (t.0, ap (λ (u : Encoded). u.output) written_row ∙ t.1)
+          there = let t = some_put extent (over out at put.bytes) out _ _ (sym g ∙ h) in (t.0, written_row ∙ t.1)
+
+          pub row_answer : Ok extent ≡ (placed_row sch (limits s) table store out at).answer
+          row_answer = sym (ap (λ (u : Encoded). u.answer) there.1)
 
           free : write_row sch unlimited (whole_value (table_value table store)) ≡ Put put.bytes
           free = row_free sch (limits s) _ _ whole_reads.fits put.is
@@ -119,4 +114,4 @@ module _ (sch table store : List ℕ) (s : Settings) (k : RowJudgeable sch table
           row_writable = record { sound = k.sound; root = k.root; tuple = k.tuple; whole = k.whole; short = k.short; accepted = rw free tt; fits = omega (arith, ap length bytes_are, leb-true (at + p.bytes) (min (length out) 4294967295) there.0, ap (λ (u : JudgePos). u.bytes) put.ends) }
 
           pub row_left : (out' : List ℕ) → out' ≡ over out at (row_bytes sch table store) → out' ≡ (placed_row sch (limits s) table store out at).output
-          row_left out' q = q ∙ ap (over out at) bytes_are ∙ sym there.1
+          row_left out' q = q ∙ ap (over out at) bytes_are ∙ sym (ap (λ (u : Encoded). u.output) there.1)

@@ -150,13 +150,6 @@ fn put_end(code: u8, out: &mut [u8], to: usize) -> usize
     to + 2
 }
 
-// What a node comes to at once: a leaf of this code, whose record has this size and content, from this position on; or children.
-#[derive(Clone, Copy)]
-pub enum ToPut {
-    Leaf(u8, u64, u64, WritePos),
-    Children,
-}
-
 // A node is a leaf itself, or a variant with a leaf below it, whose tag is put here: so an optional column takes no children step, as in
 // the walks that read.
 fn leaf_at(
@@ -169,17 +162,17 @@ fn leaf_at(
     own: ValueRecord,
     p: WritePos,
     out: &mut [u8],
-) -> ToPut
+) -> Option<(u8, u64, u64, WritePos)>
     requires { Writable block.now node depth records.now payload.now p (length out.old)
         × (own ≡ value_record_at records.now p.at) × (code ≡ (node_at block.now node).code) }
     ensures { LeadsToPut block.now node depth records.now payload.now p out.old
         out.new result }
 {
     if code < 15 {
-        return ToPut::Leaf(code, own.size, own.content, p);
+        return Some((code, own.size, own.content, p));
     }
     if 16 < code {
-        return ToPut::Children;
+        return None;
     }
     let at = p.at + 1;
     let below = value_record_at(records, at);
@@ -187,10 +180,10 @@ fn leaf_at(
     let child = child_of(code, node_first(block, node), 0, tag);
     let leaf = node_code(block, child);
     if 14 < leaf {
-        return ToPut::Children;
+        return None;
     }
     let to = put_tag(code, tag, out, p.to);
-    ToPut::Leaf(
+    Some((
         leaf,
         below.size,
         below.content,
@@ -199,7 +192,7 @@ fn leaf_at(
             from: p.from,
             to,
         },
-    )
+    ))
 }
 
 // A value and all below it, at a node of its kind.
@@ -221,10 +214,8 @@ fn put_value(
     let code = node_code(block, node);
     let reached = leaf_at(block, node, code, depth, records, payload, own, p, out);
     match reached {
-        ToPut::Leaf(below, size, content, from) => {
-            put_leaf(below, size, content, payload, from, out)
-        }
-        ToPut::Children => {
+        Some((below, size, content, from)) => { put_leaf(below, size, content, payload, from, out) }
+        None => {
             // What a call lends has to lie in memory: copied here, so that a leaf is spared that.
             let nodes = block;
             let table = records;

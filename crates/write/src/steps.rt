@@ -1,37 +1,27 @@
 // A row of a checked block and a checked value table: judged, given room, written. Each step has a contract of its own, so that a
 // caller may put a test between them.
-ghost use Rattle.std.specs.Prelude.{◌≡◌, ◌≤◌, ◌<◌, min, length};
+ghost use Rattle.std.specs.Prelude.{◌≡◌, ◌≤◌, ◌<◌, min, length, Ok, Err};
 ghost use Rattle.rules.specs.Bytes.{longest_slice};
 ghost use Rattle.rules.specs.Reading.{limits};
 ghost use Rattle.judge.specs.Judging.{RowJudgeable, judged_row};
 ghost use Rattle.write.specs.Row.{output_room_for, placed_row};
 
 use super::put::{put_flat_row, put_row};
-use judge::walk::{JudgePos, Judged, judge_row};
-use rules::{Extent, Refusal, Settings, Why, Written, room_in};
+use judge::walk::{JudgePos, judge_row};
+use rules::{Extent, Refusal, Settings, Why, room_in};
 
-// Room for a judged row's bytes from position `at` on, in an output of this length.
-pub fn room_for(row: Extent, at: usize, len: usize) -> Written
+// Room for so many bytes of a judged row from position `at` on, in an output of this length.
+pub fn room_for(bytes: u64, at: usize, len: usize) -> Result<(), Refusal>
     requires { at ≤ min len longest_slice }
-    ensures { result ≡ output_room_for at (min len longest_slice) row }
+    ensures { result ≡ output_room_for at (min len longest_slice) bytes }
 {
-    if room_in(len) - (at as u64) < row.bytes {
-        return Written::Refused(Refusal {
-            why: Why::NoOutputRoom { needed: row.bytes },
+    if room_in(len) - (at as u64) < bytes {
+        return Err(Refusal {
+            why: Why::NoOutputRoom { needed: bytes },
             place: at as u64,
         });
     }
-    Written::Row(row)
-}
-
-// A refusal, taken out of the answer of the walk that judges; its other arm is never met.
-fn not_written(value: Judged) -> Written
-    ensures { (why : Refusal) → value ≡ Judged.Refused why → result ≡ Written.Refused why }
-{
-    match value {
-        Judged::Refused(why) => Written::Refused(why),
-        Judged::Fits(_) => Written::Refused(Refusal::SETTING),
-    }
+    Ok(())
 }
 
 // A judged row from position `at` of the output on; or 21, and then the output is as it was.
@@ -43,27 +33,23 @@ pub fn place_row(
     payload: &[u8],
     out: &mut [u8],
     at: usize,
-) -> Written
+) -> Result<Extent, Refusal>
     requires { RowJudgeable block.now records.now payload.now
-        × (Judged.Fits p ≡ judged_row block.now (limits settings) records.now payload.now)
+        × (Ok p ≡ judged_row block.now (limits settings) records.now payload.now)
         × (at ≤ min (length out.old) longest_slice) }
     ensures answer { result ≡ (placed_row block.now (limits settings) records.now payload.now
         out.old at).answer }
     ensures out { out.new ≡ (placed_row block.now (limits settings) records.now
         payload.now out.old at).output }
 {
-    let row = Extent {
+    room_for(p.bytes, at, out.len())?;
+    put_row(block, records, payload, out, at);
+    Ok(Extent {
         table: 0,
         bytes: p.bytes,
         records: p.at as u64,
         payload: p.from as u64,
-    };
-    let placed = room_for(row, at, out.len());
-    let Written::Row(own) = placed else {
-        return placed;
-    };
-    put_row(block, records, payload, out, at);
-    Written::Row(own)
+    })
 }
 
 // The same of a row whose columns are mostly leaves. It is apart from the other, so that each has one caller and is compiled into it: one for
@@ -76,27 +62,23 @@ pub fn place_flat_row(
     payload: &[u8],
     out: &mut [u8],
     at: usize,
-) -> Written
+) -> Result<Extent, Refusal>
     requires { RowJudgeable block.now records.now payload.now
-        × (Judged.Fits p ≡ judged_row block.now (limits settings) records.now payload.now)
+        × (Ok p ≡ judged_row block.now (limits settings) records.now payload.now)
         × (at ≤ min (length out.old) longest_slice) }
     ensures answer { result ≡ (placed_row block.now (limits settings) records.now payload.now
         out.old at).answer }
     ensures out { out.new ≡ (placed_row block.now (limits settings) records.now
         payload.now out.old at).output }
 {
-    let row = Extent {
+    room_for(p.bytes, at, out.len())?;
+    put_flat_row(block, records, payload, out, at);
+    Ok(Extent {
         table: 0,
         bytes: p.bytes,
         records: p.at as u64,
         payload: p.from as u64,
-    };
-    let placed = room_for(row, at, out.len());
-    let Written::Row(own) = placed else {
-        return placed;
-    };
-    put_flat_row(block, records, payload, out, at);
-    Written::Row(own)
+    })
 }
 
 // The row of the table's value from position `at` of the output on; or why it is refused, and then the output is as it was.
@@ -107,16 +89,13 @@ pub fn write_row(
     payload: &[u8],
     out: &mut [u8],
     at: usize,
-) -> Written
+) -> Result<Extent, Refusal>
     requires { RowJudgeable block.now records.now payload.now × (at ≤ min (length out.old) longest_slice) }
     ensures answer { result ≡ (placed_row block.now (limits settings) records.now payload.now
         out.old at).answer }
     ensures out { out.new ≡ (placed_row block.now (limits settings) records.now
         payload.now out.old at).output }
 {
-    let judged = judge_row(block, settings, records, payload);
-    let Judged::Fits(p) = judged else {
-        return not_written(judged);
-    };
+    let p = judge_row(block, settings, records, payload)?;
     place_row(block, settings, p, records, payload, out, at)
 }

@@ -1,8 +1,8 @@
 use Rattle.answers.proofs.Told.{written_row, written_refused}
 use Rattle.answers.proofs.answer_of_written.Goals as goal
 
-pub returns-in-Row : goal.returns-in-Row
-returns-in-Row c = written_row _ _ _ c.in-Row.is c.answer_of_read.ensures
+pub returns-in-Ok : goal.returns-in-Ok
+returns-in-Ok c = written_row _ _ _ c.in-Ok.is c.answer_of_read.ensures
 
-pub returns-in-Refused : goal.returns-in-Refused
-returns-in-Refused c = written_refused _ _ _ c.in-Refused.is c.answer_of_read-in-Refused.ensures
+pub returns-in-Err : goal.returns-in-Err
+returns-in-Err c = written_refused _ _ _ c.in-Err.is c.answer_of_read-in-Err.ensures

@@ -1,10 +1,10 @@
 use Rattle.charge.specs.Lowering.{lowered_by, lowering}
 use Rattle.charge.proofs.lower.Goals as goal
 
-pub returns-in-Left : goal.returns-in-Left
+pub returns-in-Ok : goal.returns-in-Ok
 unfolding lowering lowered_by
-returns-in-Left c = rw (← c.charge.ensures, c.in-Left.is)
+returns-in-Ok c = rw (← c.charge.ensures, c.in-Ok.is)
 
-pub returns-in-Refused : goal.returns-in-Refused
+pub returns-in-Err : goal.returns-in-Err
 unfolding lowering lowered_by
-returns-in-Refused c = rw (← c.charge.ensures, c.in-Refused.is)
+returns-in-Err c = rw (← c.charge.ensures, c.in-Err.is)

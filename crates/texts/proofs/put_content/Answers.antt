@@ -1,16 +1,27 @@
 -- By the kind, in the order of the tests.
 -- Assumes nothing.
+use Prim.Native.Nat.{◌+◌}
 use mathlib.Core.Path.{sym, ◌∙◌}
 use native.Mathlib.Omega.{arith}
+use Rattle.std.proofs.lemmas.List.Edits.{length-between}
 use Rattle.rules.specs.Names.{ascii}
-use Rattle.texts.proofs.Records.{kept_is, put_stored, put_count, put_nothing, put_truth, put_the_number}
+use Rattle.texts.proofs.Records.{kept_is, payload_slice, put_stored, put_count, put_nothing, put_truth, put_the_number}
 use Rattle.texts.proofs.put_content.Goals as goal
 
 pub put_payload-requires : goal.put_payload-requires
-put_payload-requires c = let h = sym c.is_stored.ensures ∙ c.if-is_stored.true in (omega (arith, kept_is c.args.r h, c.requires.0), c.requires.1.stored h)
+put_payload-requires c =
+    let h = sym c.is_stored.ensures ∙ c.if-is_stored.true in
+    let w = c.requires.1.stored h in
+    let n = length-between c.args.store.now c.args.r.content (c.args.r.content + c.args.r.size) w.within in
+    (omega (arith, n, kept_is c.args.r h, c.requires.0), λ k. let f = w.integer k in (omega (arith, n, f.0), omega (arith, n, f.1)))
 
 pub returns-then-is_stored : goal.returns-then-is_stored
-returns-then-is_stored c = let h = sym c.is_stored.ensures ∙ c.if-is_stored.true in record { text_put = put_stored _ _ _ _ _ _ h c.put_payload.ensures.text_put; upper_bound = omega (arith, kept_is c.args.r h, c.put_payload.ensures.upper_bound) }
+returns-then-is_stored c =
+    let h = sym c.is_stored.ensures ∙ c.if-is_stored.true in
+    let w = c.requires.1.stored h in
+    let n = length-between c.args.store.now c.args.r.content (c.args.r.content + c.args.r.size) w.within in
+    let e = payload_slice c.args.r.kind c.args.store.now c.args.r.content c.args.r.size w.within in
+    record { text_put = put_stored _ _ _ _ _ _ h (rw e at c.put_payload.ensures.text_put); upper_bound = omega (arith, n, kept_is c.args.r h, c.put_payload.ensures.upper_bound) }
 
 pub returns-then-kind-gt14 : goal.returns-then-kind-gt14
 returns-then-kind-gt14 c = record { text_put = put_count _ _ _ _ _ _ (sym c.is_stored.ensures ∙ c.if-is_stored.false) c.if-kind-gt14.true c.put_number.ensures.text_put; upper_bound = omega (arith, c.put_number.ensures.upper_bound) }

@@ -4,10 +4,10 @@ use Rattle.rules.specs.Refusals.{report_of}
 use Rattle.rules.specs.Windows.{goes_on}
 use Rattle.windows.proofs.goes_on.Goals as goal
 
-pub returns-in-End : goal.returns-in-End
+pub returns-in-Ok : goal.returns-in-Ok
 unfolding goes_on
-returns-in-End c = rw c.in-End.is
+returns-in-Ok c = rw c.in-Ok.is
 
-pub returns-in-Refused : goal.returns-in-Refused
+pub returns-in-Err : goal.returns-in-Err
 unfolding goes_on report_of
-returns-in-Refused c = rw (c.in-Refused.is, c.in_numbers-report.ensures)
+returns-in-Err c = rw (c.in-Err.is, c.in_numbers-report.ensures)

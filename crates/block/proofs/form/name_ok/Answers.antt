@@ -1,20 +1,20 @@
-use native.Mathlib.Omega.{arith}
+use borrow.Author.Tests.{eq-eqb, ne_eqb}
 use Rattle.rules.specs.Choice.{pick, ◌and◌}
 use Rattle.rules.specs.Block.{name_ok}
 use Rattle.block.proofs.form.name_ok.Goals as goal
 
 pub returns-then-len-eq0 : goal.returns-then-len-eq0
 unfolding name_ok pick ◌and◌
-returns-then-len-eq0 c = grind arith
+returns-then-len-eq0 c = rw (eq-eqb _ _ c.if-named-eq0.true, eq-eqb _ _ c.if-len-eq0.true)
 
-pub returns-else-len-eq0 : goal.returns-else-len-eq0
+pub returns-then-named-eq0 : goal.returns-then-named-eq0
 unfolding name_ok pick ◌and◌
-returns-else-len-eq0 c = grind arith
+returns-then-named-eq0 c = rw (eq-eqb _ _ c.if-named-eq0.true, ne_eqb _ _ c.if-len-eq0.false)
 
-pub returns-in-1 : goal.returns-in-1
+pub returns-then-named-eq1 : goal.returns-then-named-eq1
 unfolding name_ok pick ◌and◌
-returns-in-1 c = grind arith
+returns-then-named-eq1 c = rw (ne_eqb _ _ c.if-named-eq0.false, eq-eqb _ _ c.if-named-eq1.true) c.span_ok.ensures
 
-pub returns-in_default : goal.returns-in_default
+pub returns : goal.returns
 unfolding name_ok pick ◌and◌
-returns-in_default c = grind arith
+returns c = rw (ne_eqb _ _ c.if-named-eq0.false, ne_eqb _ _ c.if-named-eq1.false)

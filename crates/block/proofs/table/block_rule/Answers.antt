@@ -22,4 +22,4 @@ unfolding block_rule
 returns-in_default c = rw (← c.block_of-s.ensures) c.validate-in_default.ensures
 
 pub returns : goal.returns
-returns c = level_passes _ _ _ c.requires c.if-count-gt64.false _ c.block_of-s.ensures _ c.level_rule-level.ensures c.in-Accepted.is
+returns c = level_passes _ _ _ c.requires c.if-count-gt64.false _ c.block_of-s.ensures _ c.level_rule-level.ensures c.in-Ok.is

@@ -5,7 +5,7 @@ use Rattle.block.proofs.validation.node_rule.Goals as goal
 
 pub returns-then-children-eq0 : goal.returns-then-children-eq0
 unfolding node_rule pick
-returns-then-children-eq0 c = rw (← c.maximum_of-most.ensures, c.in-None.is, eq-eqb _ _ c.if-children-eq0.true)
+returns-then-children-eq0 c = rw (← c.maximum_of-most.ensures, c.in-Zero.is, eq-eqb _ _ c.if-children-eq0.true)
 
 pub returns-then-children-maximum : goal.returns-then-children-maximum
 unfolding node_rule pick
@@ -13,7 +13,7 @@ returns-then-children-maximum c = rw (← c.maximum_of-most.ensures, c.in-UpTo.i
 
 pub returns-else-children-eq0 : goal.returns-else-children-eq0
 unfolding node_rule pick
-returns-else-children-eq0 c = rw (← c.maximum_of-most.ensures, c.in-None.is, ne_eqb _ _ c.if-children-eq0.false)
+returns-else-children-eq0 c = rw (← c.maximum_of-most.ensures, c.in-Zero.is, ne_eqb _ _ c.if-children-eq0.false)
 
 pub returns-else-children-maximum : goal.returns-else-children-maximum
 unfolding node_rule pick

@@ -43,7 +43,7 @@ loop-i-preserved c = let told_here : record_at c.args.s.now c.args.store c.loop-
   next_suc _ _ _ _ c.node_at-node.ensures c.loop-i.invariant.0,
   (
     all_more _ _ c.loop-i.invariant.1.0 (told_here ∙ c.if-not-node_ok.false),
-    turn_on _ 0 _ _ c.loop-i-test.true _ (rule_at_lem _ _ _ _ _ c.node_at-node.ensures c.node_rule-own.ensures) c.in-Accepted.is ∙ c.loop-i.invariant.1.1,
+    turn_on _ 0 _ _ c.loop-i-test.true _ (rule_at_lem _ _ _ _ _ c.node_at-node.ensures c.node_rule-own.ensures) c.in-Ok.is ∙ c.loop-i.invariant.1.1,
   ),
 )
 

@@ -1,11 +1,9 @@
 use Rattle.rules.specs.Reading.{limits}
 use native.Mathlib.Omega.{arith}
-use mathlib.Core.Path.{◌∙◌}
-use Rattle.judge.proofs.Once.{later_not, fits_on, below_there, below_asks, below_in, few_bytes_on, below_bounds, judged_once}
+use mathlib.Core.Path.{sym, ◌∙◌}
+use Rattle.rules.proofs.Checks.{value_in}
+use Rattle.judge.proofs.Once.{below_there, below_asks, below_in, few_bytes_on, below_bounds, judged_once}
 use Rattle.judge.proofs.walk.judge_at_once.Goals as goal
-
-pub returns-then-code-gt16 : goal.returns-then-code-gt16
-returns-then-code-gt16 c = λ q e. later_not q e
 
 pub overflow_add-at : goal.overflow_add-at
 overflow_add-at c = omega (arith, below_there _ (limits c.args.settings) _ _ _ _ _ c.requires.0 _ _ c.requires.1 c.if-code-gt16.false _ _ c.node_first-first.ensures c.node_children-count.ensures, c.well_formed)
@@ -13,24 +11,18 @@ overflow_add-at c = omega (arith, below_there _ (limits c.args.settings) _ _ _ _
 pub value_record_at-below-requires : goal.value_record_at-below-requires
 value_record_at-below-requires c = below_there _ (limits c.args.settings) _ _ _ _ _ c.requires.0 _ _ c.requires.1 c.if-code-gt16.false _ _ c.node_first-first.ensures c.node_children-count.ensures
 
-pub next_child-pick-requires : goal.next_child-pick-requires
-next_child-pick-requires c = below_asks _ (limits c.args.settings) _ _ _ _ _ c.requires.0 _ _ c.requires.1 c.if-code-gt16.false _ _ c.node_first-first.ensures c.node_children-count.ensures (omega (arith, c.well_formed))
-
-pub returns-in_default : goal.returns-in_default
-returns-in_default c = λ q e. later_not q e
+pub next_child-requires : goal.next_child-requires
+next_child-requires c = below_asks _ (limits c.args.settings) _ _ _ _ _ c.requires.0 _ _ c.requires.1 c.if-code-gt16.false _ _ c.node_first-first.ensures c.node_children-count.ensures (omega (arith, c.well_formed))
 
 pub node_code-leaf-requires : goal.node_code-leaf-requires
-node_code-leaf-requires c = below_in _ (limits c.args.settings) _ _ _ _ _ c.requires.0 _ _ c.requires.1 c.if-code-gt16.false _ _ c.node_first-first.ensures c.node_children-count.ensures _ c.value_record_at-below.ensures _ c.next_child-pick.ensures _ _ c.in-Child.is
-
-pub returns-then-leaf-gt14 : goal.returns-then-leaf-gt14
-returns-then-leaf-gt14 c = λ q e. later_not q e
+node_code-leaf-requires c = below_in _ (limits c.args.settings) _ _ _ _ _ c.requires.0 _ _ c.requires.1 c.if-code-gt16.false _ _ c.node_first-first.ensures c.node_children-count.ensures _ c.value_record_at-below.ensures _ c.next_child.ensures _ c.ok.ensures.value _ _ c.in_ok-child.was
 
 pub overflow_add-start : goal.overflow_add-start
-overflow_add-start c = omega (arith, few_bytes_on _ (limits c.args.settings) _ _ _ _ _ c.requires.0 _ _ c.requires.1 c.if-code-gt16.false _ _ c.node_first-first.ensures c.node_children-count.ensures _ c.value_record_at-below.ensures _ c.next_child-pick.ensures _ _ c.in-Child.is)
+overflow_add-start c = omega (arith, few_bytes_on _ (limits c.args.settings) _ _ _ _ _ c.requires.0 _ _ c.requires.1 c.if-code-gt16.false _ _ c.node_first-first.ensures c.node_children-count.ensures _ c.value_record_at-below.ensures _ c.next_child.ensures _ c.ok.ensures.value _ _ c.in_ok-child.was)
 
-pub judge_leaf-j-requires : goal.judge_leaf-j-requires
-judge_leaf-j-requires c = let k = below_bounds _ (limits c.args.settings) _ _ _ _ _ c.requires.0 _ _ c.requires.1 c.if-code-gt16.false _ _ c.node_first-first.ensures c.node_children-count.ensures _ c.value_record_at-below.ensures _ c.next_child-pick.ensures _ _ c.in-Child.is in
+pub judge_leaf-requires : goal.judge_leaf-requires
+judge_leaf-requires c = let k = below_bounds _ (limits c.args.settings) _ _ _ _ _ c.requires.0 _ _ c.requires.1 c.if-code-gt16.false _ _ c.node_first-first.ensures c.node_children-count.ensures _ c.value_record_at-below.ensures _ c.next_child.ensures _ c.ok.ensures.value _ _ c.in_ok-child.was in
     (omega (arith, c.if-leaf-gt14.false), k.0, k.1.0, k.1.1.0, k.1.1.1)
 
 pub returns : goal.returns
-returns c = λ q e. judged_once _ _ _ _ _ _ _ c.requires.0 _ _ c.requires.1 c.if-code-gt16.false _ _ c.node_first-first.ensures c.node_children-count.ensures _ c.value_record_at-below.ensures _ c.next_child-pick.ensures _ _ c.in-Child.is _ c.node_code-leaf.ensures (omega (arith, c.if-leaf-gt14.false)) c.if-below-leaf.false _ c.judge_leaf-j.ensures q (c.in-Fits.is ∙ fits_on _ _ e)
+returns c = λ q e. judged_once _ _ _ _ _ _ _ c.requires.0 _ _ c.requires.1 c.if-code-gt16.false _ _ c.node_first-first.ensures c.node_children-count.ensures _ c.value_record_at-below.ensures _ c.next_child.ensures _ c.ok.ensures.value _ _ c.in_ok-child.was _ c.node_code-leaf.ensures (omega (arith, c.if-leaf-gt14.false)) c.if-below-leaf.false _ c.judge_leaf.ensures q (value_in _ _ (sym c.ok-2.ensures.value ∙ e))

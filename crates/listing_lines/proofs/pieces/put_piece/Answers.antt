@@ -15,8 +15,5 @@ pub returns-then-not-files_ok : goal.returns-then-not-files_ok
 unfolding shown_length
 returns-then-not-files_ok c = record { text_after = too_long _ _ _ _ _ _ c.if-text-lt-TEXT_ROOM.false (sym c.files_ok.ensures ∙ c.if-not-files_ok.true) _ _ c.put_refusal_line.ensures.text_put; result_bound = omega (arith, c.put_refusal_line.ensures.upper_bound) }
 
-pub put_read-requires : goal.put_read-requires
-put_read-requires c = (sym c.row_room-records.ensures, sym c.row_room-payload.ensures, c.if-text-lt-TEXT_ROOM.false)
-
 pub returns : goal.returns
 returns c = record { text_after = in_room _ _ _ _ _ _ c.if-text-lt-TEXT_ROOM.false (sym c.files_ok.ensures ∙ c.if-not-files_ok.false) _ c.put_read.ensures.text_after; result_bound = c.put_read.ensures.result_bound }

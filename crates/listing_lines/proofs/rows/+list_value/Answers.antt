@@ -1,6 +1,6 @@
 use Rattle.listing_lines.proofs.Walks.{none_left, record_in, has_depth, line_asked, count_low, from_low, going_first, listed, child_listable, going_next}
 use native.Mathlib.Omega.{arith}
-use mathlib.Core.Path.{◌≡◌, refl, ◌∙◌}
+use mathlib.Core.Path.{◌≡◌, refl}
 use Prim.Native.Nat.{ℕ, ◌+◌, ◌-◌, ◌≤◌, ◌<◌}
 use Rattle.listing_lines.proofs.rows.+list_value.Goals as goal
 
@@ -22,9 +22,6 @@ overflow_sub-q t c = count_low _ _ _ _ _ _ _ c.requires _ c.value_record_at-own.
 pub overflow_add-q-2 : goal.overflow_add-q-2
 overflow_add-q-2 t c = omega (arith, from_low _ _ _ _ _ _ _ c.requires _ c.value_record_at-own.ensures _ c.children_of-count.ensures, c.requires.small)
 
-pub overflow_sub-depth : goal.overflow_sub-depth
-overflow_sub-depth t c = omega (arith, c.requires.shallow)
-
 pub put_line-requires : goal.put_line-requires
 put_line-requires t c = line_asked _ _ _ _ _ _ _ c.requires _ c.value_record_at-own.ensures
 
@@ -43,9 +40,6 @@ pub loop-done-preserved : goal.loop-done-preserved
 loop-done-preserved t c =
     let less : c.children_of-count.result - (c.loop-done._done + 1) ≡ c.children_of-count.result - c.loop-done._done - 1 = omega arith in
     rw less (going_next _ _ _ _ _ _ _ c.requires _ _ _ _ _ _ _ c.loop-done.invariant (left_here c.loop-done-test.true) _ _ c.list_value-q.ensures)
-
-pub shape_of-text : goal.shape_of-text
-shape_of-text t c = c.loop-done.invariant.same ∙ c.put_line.auto.buffer
 
 pub returns : goal.returns
 returns t c = listed _ _ _ _ _ _ _ c.requires _ c.value_record_at-own.ensures _ c.children_of-count.ensures _ _ _ refl _ c.put_line.ensures.text_put c.put_line.ensures.upper_bound _ refl _ _ (none_left _ _ (none_here c.loop-done-test.false) c.loop-done.invariant)

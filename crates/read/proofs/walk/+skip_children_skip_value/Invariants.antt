@@ -1,25 +1,16 @@
 use lib.ListN.{length}
-use Rattle.leaves.specs.Shapes.{shape_of}
-use Rattle.read.specs.Skim.{skim_node, skim}
-use Rattle.read.specs.Ready.{Ready}
-use Rattle.read.proofs.Turn.{steps, Fuelled}
-use Prim.Native.Nat.{ℕ, ◌+◌, ◌-◌, ◌≤◌}
-use mathlib.Core.Path.{◌≡◌}
-use Prim.Native.Nat.{ℕ, ◌+◌, ◌-◌}
-use Prim.Native.Nat.{◌*◌}
+use Prim.Native.Nat.{◌+◌, ◌-◌, ◌*◌}
+use Rattle.read.proofs.Loop.{Going}
 use Rattle.read.proofs.walk.+skip_children_skip_value.Given as goal
 
 abbrev pub decreases-skip_children : goal.decreases-skip_children
 decreases-skip_children l = 2 * l.depth
 
--- what is left of the children, from here, comes to the whole
-abbrev pub invariant-skip_children-loop-child : goal.invariant-skip_children-loop-child
-invariant-skip_children-loop-child l = (l.i ≤ l.count + l.q.at) × (Ready l.input l.charge l.q
-    × ((enough : ℕ) × (Fuelled (shape_of l.code) (length l.input - l.q.at) enough
-    × (steps l.input (skim l.block l.input l.charge (l.depth - 1)) l.code l.first l.count (shape_of l.code) l.i enough l.q ≡ skim_node l.block l.input (skim l.block l.input l.charge (l.depth - 1)) l.node l.initial.q))))
+abbrev pub invariant-skip_children-loop-next : goal.invariant-skip_children-loop-next
+invariant-skip_children-loop-next l = Going l.block l.input l.charge l.depth l.node l.code l.first l.count l.initial.q l.i l.q
 
-abbrev pub decreases-skip_children-loop-child : goal.decreases-skip_children-loop-child
-decreases-skip_children-loop-child l = l.count - l.i + (length l.input - l.q.at)
+abbrev pub decreases-skip_children-loop-next : goal.decreases-skip_children-loop-next
+decreases-skip_children-loop-next l = l.count - l.i + (length l.input - l.q.at)
 
 abbrev pub decreases-skip_value : goal.decreases-skip_value
 decreases-skip_value l = 2 * l.depth + 1

@@ -15,16 +15,16 @@ returns-then-code-gt18 c = rw (shape_tuple _ c.if-code-gt18.true, lt-ltb _ _ c.i
 
 pub returns-in_default : goal.returns-in_default
 unfolding by_tag
-returns-in_default c = rw (c.pick_refused_by_tag.ensures _ c.in_default.is, picked_tag _ _ _ _ _ _ c.if-code-gt18.false, ← c.read_tag-t.ensures, c.in_default.is)
+returns-in_default c = rw (picked_tag _ _ _ _ _ _ c.if-code-gt18.false, ← c.read_tag-t.ensures, c.unwrap_err.ensures)
 
 pub returns-then-ends : goal.returns-then-ends
 unfolding by_tag pick
-returns-then-ends c = rw (picked_tag _ _ _ _ _ _ c.if-code-gt18.false, ← c.read_tag-t.ensures, c.in-Is.is, ← c.ends.ensures, c.if-ends.true)
+returns-then-ends c = rw (picked_tag _ _ _ _ _ _ c.if-code-gt18.false, ← c.read_tag-t.ensures, c.in-Ok.is, ← c.ends.ensures, c.if-ends.true)
 
 pub returns-then-count-tag : goal.returns-then-count-tag
 unfolding by_tag pick
-returns-then-count-tag c = rw (picked_tag _ _ _ _ _ _ c.if-code-gt18.false, ← c.read_tag-t.ensures, c.in-Is.is, ← c.ends.ensures, c.if-ends.false, le-ltb _ _ c.if-count-tag.true)
+returns-then-count-tag c = rw (picked_tag _ _ _ _ _ _ c.if-code-gt18.false, ← c.read_tag-t.ensures, c.in-Ok.is, ← c.ends.ensures, c.if-ends.false, le-ltb _ _ c.if-count-tag.true)
 
 pub returns : goal.returns
 unfolding by_tag pick
-returns c = rw (picked_tag _ _ _ _ _ _ c.if-code-gt18.false, ← c.read_tag-t.ensures, c.in-Is.is, ← c.ends.ensures, c.if-ends.false, lt-ltb _ _ c.if-count-tag.false)
+returns c = rw (picked_tag _ _ _ _ _ _ c.if-code-gt18.false, ← c.read_tag-t.ensures, c.in-Ok.is, ← c.ends.ensures, c.if-ends.false, lt-ltb _ _ c.if-count-tag.false)

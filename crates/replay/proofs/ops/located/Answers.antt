@@ -6,5 +6,5 @@ use Rattle.replay.proofs.ops.located.Goals as goal
 
 pub table_schema-at-requires : goal.table_schema-at-requires
 table_schema-at-requires c = let a = c.args in
-    let f = accepted_forms a.records.now a.names.now a.references.now a.registry.now (accepted_rules a.records.now a.names.now a.references.now a.registry.now (sym c.check_format-format.ensures ∙ c.in-Accepted.is)) in
+    let f = accepted_forms a.format.now.table a.format.now.names a.format.now.references a.format.now.registry (accepted_rules a.format.now.table a.format.now.names a.format.now.references a.format.now.registry (sym c.check_format-judged.ensures ∙ c.in-Ok.is)) in
     (f.entry_names, f.reference_names)

@@ -10,22 +10,22 @@ pub returns-then-not-within_bounds : goal.returns-then-not-within_bounds
 unfolding ◌and◌
 returns-then-not-within_bounds c = rw (← c.within_bounds.ensures, c.if-not-within_bounds.true)
 
-pub returns-then-table-gt-LONGEST : goal.returns-then-table-gt-LONGEST
+pub returns-then-format-gt-LONGEST : goal.returns-then-format-gt-LONGEST
 unfolding sizes_ok ◌and◌
-returns-then-table-gt-LONGEST c = rw (← c.within_bounds.ensures, c.if-not-within_bounds.false, lt-leb _ _ c.if-table-gt-LONGEST.true)
+returns-then-format-gt-LONGEST c = rw (← c.format.view_is, ← c.within_bounds.ensures, c.if-not-within_bounds.false, lt-leb _ _ c.if-format-gt-LONGEST.true)
 
-pub returns-then-names-gt-LONGEST : goal.returns-then-names-gt-LONGEST
+pub returns-then-format-gt-LONGEST-2 : goal.returns-then-format-gt-LONGEST-2
 unfolding sizes_ok ◌and◌
-returns-then-names-gt-LONGEST c = rw (← c.within_bounds.ensures, c.if-not-within_bounds.false, le-leb _ _ c.if-table-gt-LONGEST.false, lt-leb _ _ c.if-names-gt-LONGEST.true)
+returns-then-format-gt-LONGEST-2 c = rw (← c.format.view_is, ← c.within_bounds.ensures, c.if-not-within_bounds.false, le-leb _ _ c.if-format-gt-LONGEST.false, lt-leb _ _ c.if-format-gt-LONGEST-2.true)
 
-pub returns-then-references-gt-LONGEST : goal.returns-then-references-gt-LONGEST
+pub returns-then-format-gt-LONGEST-3 : goal.returns-then-format-gt-LONGEST-3
 unfolding sizes_ok ◌and◌
-returns-then-references-gt-LONGEST c = rw (← c.within_bounds.ensures, c.if-not-within_bounds.false, le-leb _ _ c.if-table-gt-LONGEST.false, le-leb _ _ c.if-names-gt-LONGEST.false, lt-leb _ _ c.if-references-gt-LONGEST.true)
+returns-then-format-gt-LONGEST-3 c = rw (← c.format.view_is, ← c.within_bounds.ensures, c.if-not-within_bounds.false, le-leb _ _ c.if-format-gt-LONGEST.false, le-leb _ _ c.if-format-gt-LONGEST-2.false, lt-leb _ _ c.if-format-gt-LONGEST-3.true)
 
-pub returns-then-registry-gt-LONGEST : goal.returns-then-registry-gt-LONGEST
+pub returns-then-format-gt-LONGEST-4 : goal.returns-then-format-gt-LONGEST-4
 unfolding sizes_ok ◌and◌
-returns-then-registry-gt-LONGEST c = rw (← c.within_bounds.ensures, c.if-not-within_bounds.false, le-leb _ _ c.if-table-gt-LONGEST.false, le-leb _ _ c.if-names-gt-LONGEST.false, le-leb _ _ c.if-references-gt-LONGEST.false, lt-leb _ _ c.if-registry-gt-LONGEST.true)
+returns-then-format-gt-LONGEST-4 c = rw (← c.format.view_is, ← c.within_bounds.ensures, c.if-not-within_bounds.false, le-leb _ _ c.if-format-gt-LONGEST.false, le-leb _ _ c.if-format-gt-LONGEST-2.false, le-leb _ _ c.if-format-gt-LONGEST-3.false, lt-leb _ _ c.if-format-gt-LONGEST-4.true)
 
 pub returns : goal.returns
 unfolding sizes_ok ◌and◌
-returns c = rw (← c.within_bounds.ensures, c.if-not-within_bounds.false, le-leb _ _ c.if-table-gt-LONGEST.false, le-leb _ _ c.if-names-gt-LONGEST.false, le-leb _ _ c.if-references-gt-LONGEST.false, le-leb _ _ c.if-registry-gt-LONGEST.false)
+returns c = rw (← c.format.view_is, ← c.within_bounds.ensures, c.if-not-within_bounds.false, le-leb _ _ c.if-format-gt-LONGEST.false, le-leb _ _ c.if-format-gt-LONGEST-2.false, le-leb _ _ c.if-format-gt-LONGEST-3.false, le-leb _ _ c.if-format-gt-LONGEST-4.false)

@@ -7,9 +7,6 @@ pub returns-then-kind-eq0 : goal.returns-then-kind-eq0
 unfolding resolved pick
 returns-then-kind-eq0 c = rw (eq-eqb _ _ c.if-kind-eq0.true)
 
-pub lookup-requires : goal.lookup-requires
-lookup-requires c = (c.requires.0, c.requires.1 c.if-kind-eq0.false)
-
 pub returns : goal.returns
 unfolding resolved pick
 returns c = rw (ne_eqb _ _ c.if-kind-eq0.false) c.lookup.ensures

@@ -5,8 +5,8 @@ use Rattle.schema.proofs.forms.forms_ok.Goals as goal
 
 pub returns-then-entries_ok : goal.returns-then-entries_ok
 unfolding ◌and◌
-returns-then-entries_ok c = rw forms_is (grind arith)
+returns-then-entries_ok c = rw (← c.format.view_is, forms_is) (grind arith)
 
 pub returns-else-entries_ok : goal.returns-else-entries_ok
 unfolding ◌and◌
-returns-else-entries_ok c = rw forms_is (grind arith)
+returns-else-entries_ok c = rw (← c.format.view_is, forms_is) (grind arith)

@@ -1,14 +1,14 @@
+use Rattle.std.proofs.Common.{Ordering, Less, Equal, Greater}
+use Rattle.std.specs.Ordering.{is_lt}
+use mathlib.Core.Path.{◌≡◌, refl, ◌∙◌}
 use Rattle.rules.specs.Bytes.{is_less}
 use Rattle.schema.proofs.forms.is_less.Goals as goal
 
-pub returns-in-Less : goal.returns-in-Less
+same : (o : Ordering) → is_lt o ≡ is_less o
 unfolding is_less
-returns-in-Less c = rw c.in-Less.is
+same Less = refl
+same Equal = refl
+same Greater = refl
 
-pub returns-in-Equal : goal.returns-in-Equal
-unfolding is_less
-returns-in-Equal c = rw c.in-Equal.is
-
-pub returns-in-Greater : goal.returns-in-Greater
-unfolding is_less
-returns-in-Greater c = rw c.in-Greater.is
+pub returns : goal.returns
+returns c = c.is_lt.ensures ∙ same _

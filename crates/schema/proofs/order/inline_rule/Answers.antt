@@ -3,9 +3,6 @@ use Rattle.rules.specs.Choice.{pick}
 use Rattle.rules.specs.Format.{inline_rule}
 use Rattle.schema.proofs.order.inline_rule.Goals as goal
 
-pub block_rule-requires : goal.block_rule-requires
-block_rule-requires c = c.requires c.if-kind-eq0.true
-
 pub returns-then-kind-eq0 : goal.returns-then-kind-eq0
 unfolding inline_rule pick
 returns-then-kind-eq0 c = rw (eq-eqb _ _ c.if-kind-eq0.true) c.block_rule.ensures

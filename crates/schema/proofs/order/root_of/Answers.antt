@@ -1,9 +1,6 @@
 use Rattle.rules.specs.Format.{root_of}
 use Rattle.schema.proofs.order.root_of.Goals as goal
 
-pub block_root-requires : goal.block_root-requires
-block_root-requires c = c.requires _ _ c.in-Block.is
-
 pub returns-in-Block : goal.returns-in-Block
 unfolding root_of
 returns-in-Block c = rw c.in-Block.is c.block_root.ensures

@@ -1,14 +1,10 @@
 use Rattle.write.proofs.Putting.{record_in, has_depth, code_in, fill_first, last_room, placed, record_there_lem, sums, tag_room, may_write, fill_next}
 use native.Mathlib.Omega.{arith}
-use mathlib.Core.Path.{refl, ◌∙◌}
+use mathlib.Core.Path.{refl}
 use Rattle.write.proofs.Putting.{record_in}
 use Rattle.write.proofs.Stored.{parted_node}
 use Rattle.write.proofs.Leads.{reached_room, reached_places, reached_children}
-use mathlib.Core.Path.{◌∙◌}
 use Rattle.write.proofs.put.+put_children_put_value.Goals as goal
-
-pub put_children-node_first-first-requires : goal.put_children-node_first-first-requires
-put_children-node_first-first-requires t c = c.requires.0.inside
 
 pub put_children-overflow_add-q : goal.put_children-overflow_add-q
 put_children-overflow_add-q t c = omega (arith, record_in _ _ _ _ _ _ _ c.requires.0, c.well_formed)
@@ -37,37 +33,22 @@ put_children-loop-i-preserved t c = fill_next _ _ _ _ _ _ _ c.requires.0 _ _ c.r
 pub put_children-put_end-requires : goal.put_children-put_end-requires
 put_children-put_end-requires t c = (c.requires.1.compound, code_in _ _ _ _ _ _ _ c.requires.0 _ _ c.requires.1, last_room _ _ _ _ _ _ _ c.requires.0 _ _ c.requires.1 _ c.node_first-first.ensures refl c.loop-i.invariant c.loop-i-test.false)
 
-pub put_children-shape_of-out : goal.put_children-shape_of-out
-put_children-shape_of-out t c = c.put_end.auto.out ∙ c.loop-i.invariant.same
-
 pub put_children-returns : goal.put_children-returns
 put_children-returns t c = placed _ _ _ _ _ _ _ c.requires.0 _ _ c.requires.1 _ c.node_first-first.ensures refl c.loop-i.invariant c.loop-i-test.false _ _ c.put_end.ensures.next c.put_end.ensures.out
 
 pub put_value-value_record_at-own-requires : goal.put_value-value_record_at-own-requires
 put_value-value_record_at-own-requires t c = record_in _ _ _ _ _ _ _ c.requires
 
-pub put_value-node_code-code-requires : goal.put_value-node_code-code-requires
-put_value-node_code-code-requires t c = c.requires.inside
-
-pub put_value-leaf_at-reached-requires : goal.put_value-leaf_at-reached-requires
-put_value-leaf_at-reached-requires t c = (c.requires, c.value_record_at-own.ensures, c.node_code-code.ensures)
-
 pub put_value-put_leaf-requires : goal.put_value-put_leaf-requires
-put_value-put_leaf-requires t c = reached_room _ _ _ _ _ _ _ _ _ c.leaf_at-reached.ensures _ _ _ _ c.in-Leaf.is
+put_value-put_leaf-requires t c = reached_room _ _ _ _ _ _ _ _ _ c.leaf_at-reached.ensures _ _ _ _ c.in-Some.is
 
 pub put_value-put_children-requires : goal.put_value-put_children-requires
 put_value-put_children-requires t c = let s = c in
-    let l = reached_children _ _ _ _ _ _ _ _ _ c.leaf_at-reached.ensures c.in-Children.is in
+    let l = reached_children _ _ _ _ _ _ _ _ _ c.leaf_at-reached.ensures c.in-None.is in
     (omega (arith, s.decreases), (rw l.1 s.requires, parted_node _ _ _ _ _ _ _ s.requires _ c.value_record_at-own.ensures _ c.node_code-code.ensures (omega (arith, l.0, c.node_code-code.ensures))))
 
-pub put_value-shape_of-out-in-Leaf : goal.put_value-shape_of-out-in-Leaf
-put_value-shape_of-out-in-Leaf t c = c.put_leaf.auto.out ∙ c.leaf_at-reached.auto.out
+pub put_value-returns-in-Some : goal.put_value-returns-in-Some
+put_value-returns-in-Some t c = reached_places _ _ _ _ _ _ _ _ _ c.leaf_at-reached.ensures _ _ _ _ c.in-Some.is _ _ c.put_leaf.ensures.spot c.put_leaf.ensures.out
 
-pub put_value-returns-in-Leaf : goal.put_value-returns-in-Leaf
-put_value-returns-in-Leaf t c = reached_places _ _ _ _ _ _ _ _ _ c.leaf_at-reached.ensures _ _ _ _ c.in-Leaf.is _ _ c.put_leaf.ensures.spot c.put_leaf.ensures.out
-
-pub put_value-shape_of-out-in-Children : goal.put_value-shape_of-out-in-Children
-put_value-shape_of-out-in-Children t c = c.put_children.auto.out ∙ c.leaf_at-reached.auto.out
-
-pub put_value-returns-in-Children : goal.put_value-returns-in-Children
-put_value-returns-in-Children t c = rw (reached_children _ _ _ _ _ _ _ _ _ c.leaf_at-reached.ensures c.in-Children.is).1 at c.put_children.ensures
+pub put_value-returns-in-None : goal.put_value-returns-in-None
+put_value-returns-in-None t c = rw (reached_children _ _ _ _ _ _ _ _ _ c.leaf_at-reached.ensures c.in-None.is).1 at c.put_children.ensures

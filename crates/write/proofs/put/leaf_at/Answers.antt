@@ -14,9 +14,6 @@ overflow_add-at c = omega (arith, below_in _ _ _ _ _ _ c.args.out.now c.requires
 pub value_record_at-below-requires : goal.value_record_at-below-requires
 value_record_at-below-requires c = below_in _ _ _ _ _ _ c.args.out.now c.requires.0 _ c.requires.1 _ c.requires.2 c.if-code-lt15.false c.if-code-gt16.false
 
-pub node_first-requires : goal.node_first-requires
-node_first-requires c = c.requires.0.inside
-
 pub child_of-child-requires : goal.child_of-child-requires
 child_of-child-requires c = child_sums _ _ _ _ _ _ c.args.out.now c.requires.0 _ c.requires.1 _ c.requires.2 c.if-code-lt15.false c.if-code-gt16.false _ c.value_record_at-below.ensures _ c.node_first.ensures (omega (arith, c.well_formed))
 

@@ -1,12 +1,8 @@
-use mathlib.Core.Path.{sym, ◌∙◌}
+use Rattle.std.proofs.lemmas.Result.{err_from_is_err_and}
 use Rattle.write.proofs.Rows.{row_refused}
 use Rattle.write.proofs.steps.write_row.Goals as goal
 
-pub returns-in_default : goal.returns-in_default
-returns-in_default c = let k = row_refused _ _ _ _ c.requires.0 _ c.judge_row-judged.ensures _ _ _ c.in_default.is in record { answer = c.not_written.ensures _ c.in_default.is ∙ k.0; out = k.1 }
-
-pub place_row-requires : goal.place_row-requires
-place_row-requires c = (c.requires.0, sym c.in-Fits.is ∙ c.judge_row-judged.ensures, c.requires.1)
-
-pub returns : goal.returns
-returns c = record { answer = c.place_row.ensures.answer; out = c.place_row.ensures.out }
+pub returns-in_err-p : goal.returns-in_err-p
+returns-in_err-p c =
+    let p = err_from_is_err_and c.from_residual.result c.from_residual.ensures.1 in
+    rw (p.1, p.2) (let k = row_refused _ _ _ _ c.requires.0 _ c.judge_row.ensures _ _ _ c.in_err-p.was in record { answer = k.0; out = k.1 })

@@ -1,7 +1,0 @@
-use Rattle.read.proofs.walk.skipped_refused_by_child.Goals as goal
-
-pub returns-in-Refused : goal.returns-in-Refused
-returns-in-Refused c = λ why is. cc
-
-pub returns-in-At : goal.returns-in-At
-returns-in-At c = λ why is. cc
