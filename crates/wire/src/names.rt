@@ -6,6 +6,13 @@ ghost use Rattle.rules.specs.Names.{name_of, parsed};
 use super::types::TYPES;
 use rules::WireType;
 
+// Where some bytes of a slice begin, and how many they are.
+#[derive(Clone, Copy)]
+pub struct Span {
+    pub start: usize,
+    pub len: usize,
+}
+
 // The one table for both directions.
 fn name_of(t: WireType) -> &'static [u8]
     ensures { result.now ≡ name_of t }

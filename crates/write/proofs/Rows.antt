@@ -1,8 +1,6 @@
 -- A row: judged, given room, written, is what the rule of writing answers and leaves.
 -- Assumes nothing.
-use Rattle.std.specs.Prelude.{⊤}
 use Rattle.std.proofs.Common.{Result, Ok, Err}
-use Rattle.rules.proofs.Checks.{refused_not}
 use Prim.Native.Nat.{ℕ, ◌+◌, ◌-◌, ◌≤◌, ◌<◌, min}
 use mathlib.Core.Path.{◌≡◌, refl, sym, ap, ◌∙◌}
 use mathlib.Core.Bool.{Bool, true, false}
@@ -35,25 +33,25 @@ use Rattle.write.proofs.Unlimited.{row_free}
 
 -- ---- the test of the room
 
-module _ (at room r bytes : ℕ) (is : r ≡ room) (in_room : at ≤ room) where
-  pub no_room : r - at < bytes → Err (NoOutputRoom bytes at) ≡ output_room_for at room bytes
+module _ (at room r : ℕ) (e : Extent) (is : r ≡ room) (in_room : at ≤ room) where
+  pub no_room : r - at < e.bytes → Err (NoOutputRoom e.bytes at) ≡ output_room_for at room e
   unfolding output_room_for pick
-  no_room h = rw (lt-leb (at + bytes) room (omega (arith, is, in_room, h)))
+  no_room h = rw (lt-leb (at + e.bytes) room (omega (arith, is, in_room, h)))
 
-  pub has_room : bytes ≤ r - at → Ok tt ≡ output_room_for at room bytes
+  pub has_room : e.bytes ≤ r - at → Ok e ≡ output_room_for at room e
   unfolding output_room_for pick
-  has_room h = rw (le-leb (at + bytes) room (omega (arith, is, in_room, h)))
+  has_room h = rw (le-leb (at + e.bytes) room (omega (arith, is, in_room, h)))
 
 module _ (e : Extent) (o out : List ℕ) (r : Refusal) where
-  none_put : (t : Bool) (x : Refusal) → pick {A = Result ⊤ Refusal} t (Ok tt) (Err r) ≡ Err x → pick t (record { answer = Ok e; output = o }) (unwritten out r) ≡ unwritten out x
+  none_put : (t : Bool) (x : Refusal) → pick {A = Result Extent Refusal} t (Ok e) (Err r) ≡ Err x → pick t (record { answer = Ok e; output = o }) (unwritten out r) ≡ unwritten out x
   unfolding pick
   none_put true x h = absurd (let z : ◌≡◌ {A = ℕ} 0 1 = cc in omega arith)
   none_put false x h = let q : r ≡ x = cc in ap (unwritten out) q
 
-  some_put : (t : Bool) → pick {A = Result ⊤ Refusal} t (Ok tt) (Err r) ≡ Ok tt → (t ≡ true) × (pick t (record { answer = Ok e; output = o }) (unwritten out r) ≡ record { answer = Ok e; output = o })
+  some_put : (t : Bool) (y : Extent) → pick {A = Result Extent Refusal} t (Ok e) (Err r) ≡ Ok y → (t ≡ true) × (pick t (record { answer = Ok e; output = o }) (unwritten out r) ≡ record { answer = Ok y; output = o })
   unfolding pick
-  some_put true h = (refl, refl)
-  some_put false h = absurd (refused_not r h)
+  some_put true y h = (refl, ap (λ (a : Result Extent Refusal). record { answer = a; output = o }) h)
+  some_put false y h = absurd (let z : ◌≡◌ {A = ℕ} 0 1 = cc in omega arith)
 
 module _ (sch table store : List ℕ) (s : Settings) (k : RowJudgeable sch table store) where
   whole_stands : value_standing_at table store 64 0 0 ≡ table_value table store
@@ -87,19 +85,19 @@ module _ (sch table store : List ℕ) (s : Settings) (k : RowJudgeable sch table
       unfolding placed_row placed reading.room
       written_row = rw put.is (sym (ap (λ (u : Extent). pick (leb (at + u.bytes) (min (length out) 4294967295)) (record { answer = Ok u; output = over out at put.bytes }) (unwritten out (NoOutputRoom u.bytes at))) is_extent))
 
-      module _ (w : Result ⊤ Refusal) (g : w ≡ output_room_for at (min (length out) 4294967295) p.bytes) where
+      module _ (w : Result Extent Refusal) (g : w ≡ output_room_for at (min (length out) 4294967295) extent) where
         pub row_unplaced : (x : Refusal) → w ≡ Err x → (Err x ≡ (placed_row sch (limits s) table store out at).answer) × (out ≡ (placed_row sch (limits s) table store out at).output)
         unfolding output_room_for
         row_unplaced x h =
             let n = sym (written_row ∙ none_put extent (over out at put.bytes) out _ _ x (sym g ∙ h)) in
             (ap (λ (u : Encoded). u.answer) n, ap (λ (u : Encoded). u.output) n)
 
-        module _ (h : w ≡ Ok tt) where
-          there : (leb (at + p.bytes) (min (length out) 4294967295) ≡ true) × (placed_row sch (limits s) table store out at ≡ record { answer = Ok extent; output = over out at put.bytes })
+        module _ (y : Extent) (h : w ≡ Ok y) where
+          there : (leb (at + p.bytes) (min (length out) 4294967295) ≡ true) × (placed_row sch (limits s) table store out at ≡ record { answer = Ok y; output = over out at put.bytes })
           unfolding output_room_for
-          there = let t = some_put extent (over out at put.bytes) out _ _ (sym g ∙ h) in (t.0, written_row ∙ t.1)
+          there = let t = some_put extent (over out at put.bytes) out _ _ y (sym g ∙ h) in (t.0, written_row ∙ t.1)
 
-          pub row_answer : Ok extent ≡ (placed_row sch (limits s) table store out at).answer
+          pub row_answer : Ok y ≡ (placed_row sch (limits s) table store out at).answer
           row_answer = sym (ap (λ (u : Encoded). u.answer) there.1)
 
           free : write_row sch unlimited (whole_value (table_value table store)) ≡ Put put.bytes

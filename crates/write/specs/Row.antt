@@ -1,7 +1,8 @@
 -- A row of a checked block and a checked value table: what the step answers, and what it leaves in the output.
 -- Assumes nothing: these are definitions.
+use Rattle.rules.specs.declared.answer.Extent.{Extent}
 use Rattle.rules.specs.declared.refusal.Refusal.{Refusal}
-use Rattle.std.specs.Prelude.{⊤, ℕ, ◌+◌, List, leb, Result, Ok, Err}
+use Rattle.std.specs.Prelude.{ℕ, ◌+◌, List, leb, Result, Ok, Err}
 use Rattle.rules.specs.Choice.{pick}
 use Rattle.rules.specs.Walk.{Limits}
 use Rattle.rules.specs.ValueTable.{table_value}
@@ -9,9 +10,9 @@ use Rattle.rules.specs.Writing.{write_row, Encoded, placed}
 use Rattle.rules.specs.Refusals.{NoOutputRoom}
 use Rattle.judge.specs.Table.{whole_value}
 
--- so many bytes, where so much room holds them from an output position on; or 21 with both
-unfoldable pub output_room_for : ℕ → ℕ → ℕ → Result ⊤ Refusal
-output_room_for at room bytes = pick (leb (at + bytes) room) (Ok tt) (Err (NoOutputRoom bytes at))
+-- the row, where so much room holds it, or 21 with its bytes and the output position
+unfoldable pub output_room_for : ℕ → ℕ → Extent → Result Extent Refusal
+output_room_for at room row = pick (leb (at + row.bytes) room) (Ok row) (Err (NoOutputRoom row.bytes at))
 
 -- the table's value, written as a row from a position of the output on
 unfoldable pub placed_row : List ℕ → Limits → List ℕ → List ℕ → List ℕ → ℕ → Encoded

@@ -10,18 +10,18 @@ use super::put::{put_flat_row, put_row};
 use judge::walk::{JudgePos, judge_row};
 use rules::{Extent, Refusal, Settings, Why, room_in};
 
-// Room for so many bytes of a judged row from position `at` on, in an output of this length.
-pub fn room_for(bytes: u64, at: usize, len: usize) -> Result<(), Refusal>
+// Room for a judged row's bytes from position `at` on, in an output of this length.
+pub fn room_for(row: Extent, at: usize, len: usize) -> Result<Extent, Refusal>
     requires { at ≤ min len longest_slice }
-    ensures { result ≡ output_room_for at (min len longest_slice) bytes }
+    ensures { result ≡ output_room_for at (min len longest_slice) row }
 {
-    if room_in(len) - (at as u64) < bytes {
+    if room_in(len) - (at as u64) < row.bytes {
         return Err(Refusal {
-            why: Why::NoOutputRoom { needed: bytes },
+            why: Why::NoOutputRoom { needed: row.bytes },
             place: at as u64,
         });
     }
-    Ok(())
+    Ok(row)
 }
 
 // A judged row from position `at` of the output on; or 21, and then the output is as it was.
@@ -42,14 +42,15 @@ pub fn place_row(
     ensures out { out.new ≡ (placed_row block.now (limits settings) records.now
         payload.now out.old at).output }
 {
-    room_for(p.bytes, at, out.len())?;
-    put_row(block, records, payload, out, at);
-    Ok(Extent {
+    let row = Extent {
         table: 0,
         bytes: p.bytes,
         records: p.at as u64,
         payload: p.from as u64,
-    })
+    };
+    let own = room_for(row, at, out.len())?;
+    put_row(block, records, payload, out, at);
+    Ok(own)
 }
 
 // The same of a row whose columns are mostly leaves. It is apart from the other, so that each has one caller and is compiled into it: one for
@@ -71,14 +72,15 @@ pub fn place_flat_row(
     ensures out { out.new ≡ (placed_row block.now (limits settings) records.now
         payload.now out.old at).output }
 {
-    room_for(p.bytes, at, out.len())?;
-    put_flat_row(block, records, payload, out, at);
-    Ok(Extent {
+    let row = Extent {
         table: 0,
         bytes: p.bytes,
         records: p.at as u64,
         payload: p.from as u64,
-    })
+    };
+    let own = room_for(row, at, out.len())?;
+    put_flat_row(block, records, payload, out, at);
+    Ok(own)
 }
 
 // The row of the table's value from position `at` of the output on; or why it is refused, and then the output is as it was.
