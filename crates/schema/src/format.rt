@@ -10,7 +10,9 @@ use rules::{Format, Located, Reference};
 use std::cmp::Ordering;
 
 // The block of the registry's entry that has the name. The names ascend, so half of what is left is ruled out at each turn: a row of a
-// table with a name costs no walk over the registry.
+// table with a name costs no walk over the registry. Apart from `resolve`, so that this stays small enough to be compiled into what reads a row: a row of
+// an inline table is to cost nothing for it.
+#[inline(never)]
 pub fn lookup(names: &[u8], registry: &[u8], start: u64, len: u64) -> Located
     requires { EntriesNamed names.now registry.now × (start + len ≤ length names.now) }
     ensures { result ≡ lookup names.now registry.now (part names.now start len) 0

@@ -63,30 +63,3 @@ module _ (s t : List ℕ) (a la b lb : ℕ) where
         by Less l = rw (part_end s (a + k) la k (omega (arith, h)), part_step t b lb k (omega (arith, h)))
         by Equal e = rw (part_end s (a + k) la k (omega (arith, h)), part_end t (b + k) lb k (omega (arith, h)))
         by Greater g = rw (part_step s a la k (omega (arith, h)), part_end t (b + k) lb k (omega (arith, h)))
-
-  -- the first two bytes, of two spans of eight or more
-  module _ (h : (8 ≤ la) × (8 ≤ lb)) where
-    first_there : (0 < la) × (0 < lb)
-    first_there = (omega (arith, h), omega (arith, h))
-
-    second_there : (1 < la) × (1 < lb)
-    second_there = (omega (arith, h), omega (arith, h))
-
-    first_at : (n : ℕ) → n + 0 ≡ n
-    first_at n = omega arith
-
-    pub first_less : get_or s a 0 < get_or t b 0 → Less ≡ order (part s a la) (part t b lb)
-    first_less l = rest_less 0 rest_first first_there (rw (first_at a, first_at b) l)
-
-    pub first_greater : get_or t b 0 < get_or s a 0 → Greater ≡ order (part s a la) (part t b lb)
-    first_greater g = rest_greater 0 rest_first first_there (rw (first_at a, first_at b) g)
-
-    module _ (e : get_or s a 0 ≡ get_or t b 0) where
-      rest_second : Rest 1
-      rest_second = rest_next 0 rest_first first_there (rw (first_at a, first_at b) e)
-
-      pub second_less : get_or s (a + 1) 0 < get_or t (b + 1) 0 → Less ≡ order (part s a la) (part t b lb)
-      second_less = rest_less 1 rest_second second_there
-
-      pub second_greater : get_or t (b + 1) 0 < get_or s (a + 1) 0 → Greater ≡ order (part s a la) (part t b lb)
-      second_greater = rest_greater 1 rest_second second_there

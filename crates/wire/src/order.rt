@@ -4,41 +4,15 @@ ghost use Rattle.rules.specs.Bytes.{part, order, is_equal};
 
 use std::cmp::Ordering;
 
-// Two spans of eight bytes or more. Most names differ in one of their first two bytes, and then a call of the library's order, which goes
-// many bytes at a time, is spared.
-#[inline(always)]
-fn long_order(s: &[u8], a: usize, la: usize, t: &[u8], b: usize, lb: usize) -> Ordering
-    requires { (a + la ≤ length s.now) × (b + lb ≤ length t.now) × (8 ≤ la) × (8 ≤ lb) }
-    ensures { result ≡ order (part s.now a la) (part t.now b lb) }
-{
-    let x = s[a];
-    let y = t[b];
-    if x < y {
-        return Ordering::Less;
-    }
-    if y < x {
-        return Ordering::Greater;
-    }
-    let z = s[a + 1];
-    let w = t[b + 1];
-    if z < w {
-        return Ordering::Less;
-    }
-    if w < z {
-        return Ordering::Greater;
-    }
-    s[a..a + la].cmp(&t[b..b + lb])
-}
-
-// A span of one slice and a span of another: bytes as unsigned numbers, a proper prefix first. A short one is done byte by byte before a call
-// of the library's order would be, and a registry may have thousands of those.
+// A span of one slice and a span of another: bytes as unsigned numbers, a proper prefix first. The library's order goes many bytes at a time;
+// a short name, of which a registry may have thousands, is done byte by byte before a call of it would be.
 #[inline(always)]
 pub fn order_of(s: &[u8], a: usize, la: usize, t: &[u8], b: usize, lb: usize) -> Ordering
     requires { (a + la ≤ length s.now) × (b + lb ≤ length t.now) }
     ensures { result ≡ order (part s.now a la) (part t.now b lb) }
 {
     if 8 <= la && 8 <= lb {
-        return long_order(s, a, la, t, b, lb);
+        return s[a..a + la].cmp(&t[b..b + lb]);
     }
     for k in 0..la {
         if lb <= k {

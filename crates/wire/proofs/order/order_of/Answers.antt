@@ -1,8 +1,17 @@
 use borrow.Author.Rules.{rules}
 use native.Mathlib.Omega.{arith}
-use mathlib.Core.Path.{◌∙◌}
-use Rattle.wire.proofs.Compared.{rest_first, rest_second_ended, rest_less, rest_greater, rest_next, rest_ended}
+use Prim.Native.Nat.{◌+◌}
+use mathlib.Core.Path.{refl, ◌∙◌}
+use Rattle.std.specs.Ordering.{nat_cmp}
+use Rattle.std.specs.Cmp.Lexicographic.{slice_cmp}
+use Rattle.rules.proofs.Slices.{part-between}
+use Rattle.wire.proofs.Compared.{cmp_is_order, rest_first, rest_second_ended, rest_less, rest_greater, rest_next, rest_ended}
 use Rattle.wire.proofs.order.order_of.Goals as goal
+
+pub returns-then-lb-ge8 : goal.returns-then-lb-ge8
+returns-then-lb-ge8 c =
+    let a = c.args in
+    c.cmp.ensures ∙ (λ i. slice_cmp nat_cmp (part-between a.s.now a.a (a.a + a.la) a.la refl c.requires.0 i) (part-between a.t.now a.b (a.b + a.lb) a.lb refl c.requires.1 i)) ∙ cmp_is_order _ _
 
 pub loop-k-init : goal.loop-k-init
 loop-k-init c = (search rules, rest_first _ _ _ _ _ _)
@@ -20,4 +29,4 @@ pub loop-k-preserved : goal.loop-k-preserved
 loop-k-preserved c = (search rules, rest_next _ _ _ _ _ _ _ c.loop-k.invariant.1 (search rules) (omega (arith, c.if-x-y.false, c.if-y-x.false)))
 
 pub returns : goal.returns
-returns c = c.cmp.ensures ∙ rest_ended _ _ _ _ _ _ _ c.loop-k.invariant.1 (search rules)
+returns c = c.cmp-2.ensures ∙ rest_ended _ _ _ _ _ _ _ c.loop-k.invariant.1 (search rules)
