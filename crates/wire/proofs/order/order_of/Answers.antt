@@ -1,32 +1,22 @@
-use borrow.Author.Rules.{rules}
 use native.Mathlib.Omega.{arith}
 use Prim.Native.Nat.{◌+◌}
 use mathlib.Core.Path.{refl, ◌∙◌}
 use Rattle.std.specs.Ordering.{nat_cmp}
 use Rattle.std.specs.Cmp.Lexicographic.{slice_cmp}
 use Rattle.rules.proofs.Slices.{part-between}
-use Rattle.wire.proofs.Compared.{cmp_is_order, rest_first, rest_second_ended, rest_less, rest_greater, rest_next, rest_ended}
+use Rattle.wire.proofs.Compared.{cmp_is_order, heads_equal, heads_less, heads_greater}
 use Rattle.wire.proofs.order.order_of.Goals as goal
 
-pub returns-then-lb-ge8 : goal.returns-then-lb-ge8
-returns-then-lb-ge8 c =
-    let a = c.args in
-    c.cmp.ensures ∙ (λ i. slice_cmp nat_cmp (part-between a.s.now a.a (a.a + a.la) a.la refl c.requires.0 i) (part-between a.t.now a.b (a.b + a.lb) a.lb refl c.requires.1 i)) ∙ cmp_is_order _ _
+pub returns-then-head_s-head_t : goal.returns-then-head_s-head_t
+returns-then-head_s-head_t c = heads_less _ _ _ _ _ _ (λ i. (c.type_inv.s i).fits) (λ i. (c.type_inv.t i).fits) 4 (omega arith) (omega arith) (omega arith)
 
-pub loop-k-init : goal.loop-k-init
-loop-k-init c = (search rules, rest_first _ _ _ _ _ _)
+pub returns-then-head_t-head_s : goal.returns-then-head_t-head_s
+returns-then-head_t-head_s c = heads_greater _ _ _ _ _ _ (λ i. (c.type_inv.s i).fits) (λ i. (c.type_inv.t i).fits) 4 (omega arith) (omega arith) (omega arith)
 
-pub returns-then-lb-k : goal.returns-then-lb-k
-returns-then-lb-k c = rest_second_ended _ _ _ _ _ _ _ c.loop-k.invariant.1 (search rules) c.if-lb-k.true
-
-pub returns-then-x-y : goal.returns-then-x-y
-returns-then-x-y c = rest_less _ _ _ _ _ _ _ c.loop-k.invariant.1 (search rules) c.if-x-y.true
-
-pub returns-then-y-x : goal.returns-then-y-x
-returns-then-y-x c = rest_greater _ _ _ _ _ _ _ c.loop-k.invariant.1 (search rules) c.if-y-x.true
-
-pub loop-k-preserved : goal.loop-k-preserved
-loop-k-preserved c = (search rules, rest_next _ _ _ _ _ _ _ c.loop-k.invariant.1 (search rules) (omega (arith, c.if-x-y.false, c.if-y-x.false)))
+pub returns-then-la-lt8 : goal.returns-then-la-lt8
+returns-then-la-lt8 c = c.by_bytes-then-la-lt8.ensures ∙ heads_equal _ _ _ _ _ _ (λ i. (c.type_inv.s i).fits) (λ i. (c.type_inv.t i).fits) 4 (omega arith) (omega arith) (omega arith)
 
 pub returns : goal.returns
-returns c = c.cmp-2.ensures ∙ rest_ended _ _ _ _ _ _ _ c.loop-k.invariant.1 (search rules)
+returns c =
+    let a = c.args in
+    c.cmp.ensures ∙ (λ i. slice_cmp nat_cmp (part-between a.s.now a.a (a.a + a.la) a.la refl c.requires.0 i) (part-between a.t.now a.b (a.b + a.lb) a.lb refl c.requires.1 i)) ∙ cmp_is_order _ _

@@ -1,6 +1,6 @@
 use Prim.Native.Nat.{◌≤◌}
 use Rattle.wire.proofs.Compared.{Rest}
-use Rattle.wire.proofs.order.order_of.Given as goal
+use Rattle.wire.proofs.order.by_bytes.Given as goal
 
 -- the rest decides as the whole does
 abbrev pub invariant-loop-k : goal.invariant-loop-k
